@@ -20,7 +20,7 @@ use Rattle.pm_machine.proofs.UntilLaws.{runs_end_so}
 use Rattle.pm_debug.specs.declared.breaks.Breakpoint.{Breakpoint}
 use Rattle.pm_debug.specs.declared.reason.BreakReason.TheVariants as reasons
 use Rattle.pm_debug.specs.declared.watches.WatchedWord.{WatchedWord}
-use Rattle.pm_debug.specs.Breaks.{breakpoint, is_at_break, stands_at, stops_here, word_is}
+use Rattle.pm_debug.specs.Breaks.{breakpoint, is_at_break, is_met, stops_here, word_is}
 use Rattle.pm_debug.specs.RunLaws.{FalseConditionsStopNothing, TrueConditionsAreNone, among}
 use Rattle.pm_debug.specs.Runs.{Gone, gone_by, gone_to, has_ended, later, reason_of, stops_at}
 use Rattle.pm_debug.specs.Watches.{has_changed, watched_words}
@@ -178,15 +178,15 @@ module _ (p : Breakpoint → Bool) (front back : List Breakpoint) (b : Breakpoin
       list_any-append p front (b ∷ back) ∙ ap (λ here. list_any p front || (here || list_any p back)) h ∙ sym (list_any-append p front (c ∷ back))
 
 pub false_conditions_stop_nothing : FalseConditionsStopNothing
-false_conditions_stop_nothing front back place a w watches test limit s other =
-    gone_alike (front ++ back) (among front (breakpoint place (Some (word_is a w))) back) watches test limit s (λ k some within.
+false_conditions_stop_nothing front back spot a w watches test limit s other =
+    gone_alike (front ++ back) (among front (breakpoint spot (Some (word_is a w))) back) watches test limit s (λ k some within.
     let t = after_steps k s in
-    without_one (stops_here t) front back (breakpoint place (Some (word_is a w)))
-    (ap (λ held. stands_at place t && held) (not_equal (word_at t.memory a) w (other k some within)) ∙ and_false (stands_at place t)))
+    without_one (stops_here t) front back (breakpoint spot (Some (word_is a w)))
+    (ap (λ held. is_met spot t && held) (not_equal (word_at t.memory a) w (other k some within)) ∙ and_false (is_met spot t)))
 
 pub true_conditions_are_none : TrueConditionsAreNone
-true_conditions_are_none front back place a w watches test limit s same =
-    gone_alike (among front (breakpoint place None) back) (among front (breakpoint place (Some (word_is a w))) back) watches test limit s (λ k some within.
+true_conditions_are_none front back spot a w watches test limit s same =
+    gone_alike (among front (breakpoint spot None) back) (among front (breakpoint spot (Some (word_is a w))) back) watches test limit s (λ k some within.
     let t = after_steps k s in
-    with_another (stops_here t) front back (breakpoint place (Some (word_is a w))) (breakpoint place None)
-    (ap (λ held. stands_at place t && held) (equal (word_at t.memory a) w (same k some within))))
+    with_another (stops_here t) front back (breakpoint spot (Some (word_is a w))) (breakpoint spot None)
+    (ap (λ held. is_met spot t && held) (equal (word_at t.memory a) w (same k some within))))

@@ -5,8 +5,8 @@ use Rattle.pm_machine.specs.declared.state.RunEnd.{RunEnd}
 use Rattle.pm_machine.specs.declared.state.RunEnd.TheVariants as ends
 use Rattle.pm_machine.specs.State.{State}
 use Rattle.pm_machine.specs.Runs.{AllWent, RunOutcome, after_steps, run_until}
-use Rattle.pm_machine.specs.declared.code_place.CodePlace.{CodePlace}
 use Rattle.pm_debug.specs.declared.breaks.Breakpoint.{Breakpoint}
+use Rattle.pm_debug.specs.declared.breaks.Spot.{Spot}
 use Rattle.pm_debug.specs.declared.reason.BreakReason.{BreakReason}
 use Rattle.pm_debug.specs.declared.reason.BreakReason.TheVariants as reasons
 use Rattle.pm_debug.specs.Breaks.{breakpoint, is_at_break, word_is}
@@ -77,20 +77,20 @@ among front b back = front ++ b ∷ back
 -- stop, stops nothing: with it the run is the same.
 abbrev pub FalseConditionsStopNothing : Type 0
 FalseConditionsStopNothing =
-    (front back : List Breakpoint) (place : CodePlace) (a w : ℕ) (watches : List ℕ) (test : State → Bool)
+    (front back : List Breakpoint) (spot : Spot) (a w : ℕ) (watches : List ℕ) (test : State → Bool)
     (limit : ℕ) (s : State) →
     ((k : ℕ) → 1 ≤ k → k ≤ (gone_to (front ++ back) watches test limit s).steps
     → word_at (after_steps k s).memory a ≢ w) →
-    gone_to (among front (breakpoint place (Some (word_is a w))) back) watches test limit s
+    gone_to (among front (breakpoint spot (Some (word_is a w))) back) watches test limit s
     ≡ gone_to (front ++ back) watches test limit s
 
 -- Where that word is w after each step of the run that the same breakpoint without a condition may stop, the run is
 -- this one.
 abbrev pub TrueConditionsAreNone : Type 0
 TrueConditionsAreNone =
-    (front back : List Breakpoint) (place : CodePlace) (a w : ℕ) (watches : List ℕ) (test : State → Bool)
+    (front back : List Breakpoint) (spot : Spot) (a w : ℕ) (watches : List ℕ) (test : State → Bool)
     (limit : ℕ) (s : State) →
-    ((k : ℕ) → 1 ≤ k → k ≤ (gone_to (among front (breakpoint place None) back) watches test limit s).steps
+    ((k : ℕ) → 1 ≤ k → k ≤ (gone_to (among front (breakpoint spot None) back) watches test limit s).steps
     → word_at (after_steps k s).memory a ≡ w) →
-    gone_to (among front (breakpoint place (Some (word_is a w))) back) watches test limit s
-    ≡ gone_to (among front (breakpoint place None) back) watches test limit s
+    gone_to (among front (breakpoint spot (Some (word_is a w))) back) watches test limit s
+    ≡ gone_to (among front (breakpoint spot None) back) watches test limit s

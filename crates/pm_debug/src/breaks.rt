@@ -1,12 +1,13 @@
-//! Breakpoints: places in the code before which a run stops, of which some have a condition.
+//! Breakpoints: a run stops before a step at a place in the code, or before one that writes or reads certain words.
+//! Some have a condition.
 
 ghost use Rattle.std.specs.Prelude.{◌≡◌, ◌&&◌, Ok, IfErr, OnOk, OnErr, Err, map};
-ghost use Rattle.pm_debug.specs.Breaks.{can_be_asked, holds, instead, is_at_break, is_same, is_set, is_that, stands_at};
-ghost use Rattle.pm_debug.specs.Breaks.{with_break, without_break};
+ghost use Rattle.pm_debug.specs.Breaks.{can_be_asked, can_stand, holds, instead, is_at_break, is_met_from, is_same};
+ghost use Rattle.pm_debug.specs.Breaks.{is_same_place, is_set, is_that, stands_at, with_break, without_break};
 
 use crate::refusal::DebugRefusal;
-use crate::watches::word_at;
 use arrayvec::ArrayVec;
+use pm_access::{reads, word_at, writes};
 use pm_machine::{CodePlace, Machine, place_in_code};
 use pm_words::Memory;
 
@@ -22,11 +23,40 @@ pub struct Condition {
     pub word: u16,
 }
 
-/// A breakpoint: a run stops before a step at its place, where its condition holds; always, where it has none.
+/// Where a breakpoint stands.
+#[derive(Clone, Copy)]
+pub enum Spot {
+    /// At a place in the code: it stops a run before a step there.
+    Code(CodePlace),
+    /// On words of the memory: it stops a run before a step that writes a byte of one of them.
+    Writes {
+        /// The address of the first word, which is even.
+        address: u16,
+        /// How many words; with none it never stops a run, and no word stands behind 65,535.
+        words: u16,
+    },
+    /// On words of the memory: it stops a run before a step that reads a byte of one of them. The instruction's own
+    /// bytes do not count, and one that ends with an error reads what it would read if it went on.
+    Reads {
+        /// The address of the first word, which is even.
+        address: u16,
+        /// How many words; with none it never stops a run, and no word stands behind 65,535.
+        words: u16,
+    },
+}
+
+impl Default for Spot {
+    fn default() -> Spot {
+        Spot::Code(CodePlace::default())
+    }
+}
+
+/// A breakpoint: a run stops before a step at its place, or before one that writes or reads its words, where its
+/// condition holds; always, where it has none.
 #[derive(Clone, Copy, Default)]
 pub struct Breakpoint {
     /// Where it stands.
-    pub place: CodePlace,
+    pub spot: Spot,
     /// What has to hold before the step.
     pub condition: Option<Condition>,
 }
@@ -34,17 +64,52 @@ pub struct Breakpoint {
 /// The breakpoints that are set.
 pub(crate) type Breaks = ArrayVec<Breakpoint, MOST_BREAKS>;
 
-fn is_same(a: CodePlace, b: CodePlace) -> bool
-    ensures same { result ≡ is_same a b }
+fn is_same_place(a: CodePlace, b: CodePlace) -> bool
+    ensures same { result ≡ is_same_place a b }
 {
     a.segment == b.segment && a.procedure == b.procedure && a.offset == b.offset
 }
 
-/// Whether a breakpoint is set at a place.
-fn is_set(breaks: &[Breakpoint], wanted: CodePlace) -> bool
+/// Whether two breakpoints stand at the same place, or on the same words for the same kind of step.
+fn is_same(a: Spot, b: Spot) -> bool
+    ensures same { result ≡ is_same a b }
+{
+    match (a, b) {
+        (Spot::Code(a), Spot::Code(b)) => is_same_place(a, b),
+        (
+            Spot::Writes { address, words },
+            Spot::Writes {
+                address: other,
+                words: count,
+            },
+        )
+        | (
+            Spot::Reads { address, words },
+            Spot::Reads {
+                address: other,
+                words: count,
+            },
+        ) => address == other && words == count,
+        _ => false,
+    }
+}
+
+/// Whether a breakpoint is set there.
+fn is_set(breaks: &[Breakpoint], wanted: Spot) -> bool
     ensures set { result ≡ is_set wanted breaks.now }
 {
-    breaks.iter().any(|known| is_same(wanted, known.place))
+    breaks.iter().any(|known| is_same(wanted, known.spot))
+}
+
+/// Whether the words of a breakpoint stand at an even address.
+fn can_stand(spot: Spot) -> bool
+    ensures even { result ≡ can_stand spot }
+{
+    match spot {
+        Spot::Code(_) => true,
+        Spot::Writes { address, .. } => address % 2 == 0,
+        Spot::Reads { address, .. } => address % 2 == 0,
+    }
 }
 
 /// Whether the address of a condition's word is even.
@@ -57,13 +122,13 @@ fn can_be_asked(condition: Option<Condition>) -> bool
     }
 }
 
-/// The breakpoints, with this one in the place of that of its place.
+/// The breakpoints, with this one in the place of that which stands where it does.
 fn with_instead(breaks: &Breaks, new: Breakpoint) -> Breaks
     ensures breaks { result.items ≡ map (instead new) breaks.now.items }
 {
     let mut all = ArrayVec::new();
     for known in breaks.as_slice() {
-        all.push(if is_same(new.place, known.place) {
+        all.push(if is_same(new.spot, known.spot) {
             new
         } else {
             *known
@@ -72,18 +137,18 @@ fn with_instead(breaks: &Breaks, new: Breakpoint) -> Breaks
     all
 }
 
-/// Sets a breakpoint. It takes the place of one that is set at its place already; an odd address in its condition is
-/// refused, and a new one beside 64.
+/// Sets a breakpoint. It takes the place of one that stands there already; an odd address, of its words or in its
+/// condition, is refused, and a new one beside 64.
 #[tactic(auto, unfolding(crate::specs::Breaks::with_break))]
 pub(crate) fn set(breaks: &mut Breaks, new: Breakpoint) -> Result<(), DebugRefusal>
     ensures set { OnOk result (with_break new breaks.old.items ≡ Ok breaks.new.items) }
     ensures refused { IfErr result (λ refusal. with_break new breaks.old.items ≡ Err refusal) }
     ensures unchanged { OnErr result (breaks.new ≡ breaks.old) }
 {
-    if !can_be_asked(new.condition) {
+    if !can_stand(new.spot) || !can_be_asked(new.condition) {
         return Err(DebugRefusal::OddAddress);
     }
-    if is_set(breaks, new.place) {
+    if is_set(breaks, new.spot) {
         *breaks = with_instead(breaks, new);
         return Ok(());
     }
@@ -94,9 +159,9 @@ pub(crate) fn set(breaks: &mut Breaks, new: Breakpoint) -> Result<(), DebugRefus
     Ok(())
 }
 
-/// Takes the breakpoint at a place away.
+/// Takes the breakpoint that stands there away.
 #[tactic(auto, unfolding(crate::specs::Breaks::without_break))]
-pub(crate) fn clear(breaks: &mut Breaks, old: CodePlace) -> Result<(), DebugRefusal>
+pub(crate) fn clear(breaks: &mut Breaks, old: Spot) -> Result<(), DebugRefusal>
     ensures cleared { OnOk result (without_break old breaks.old.items ≡ Ok breaks.new.items) }
     ensures refused { IfErr result (λ refusal. without_break old breaks.old.items ≡ Err refusal) }
     ensures unchanged { OnErr result (breaks.new ≡ breaks.old) }
@@ -104,7 +169,7 @@ pub(crate) fn clear(breaks: &mut Breaks, old: CodePlace) -> Result<(), DebugRefu
     if !is_set(breaks, old) {
         return Err(DebugRefusal::NotSet);
     }
-    breaks.retain(|known| !is_same(old, known.place));
+    breaks.retain(|known| !is_same(old, known.spot));
     Ok(())
 }
 
@@ -112,7 +177,7 @@ fn is_that(place: CodePlace, here: Option<CodePlace>) -> bool
     ensures that { result ≡ is_that place here }
 {
     match here {
-        Some(here) => is_same(place, here),
+        Some(here) => is_same_place(place, here),
         None => false,
     }
 }
@@ -134,11 +199,23 @@ fn holds(condition: Option<Condition>, memory: &Memory) -> bool
     }
 }
 
-/// Whether a run stops for this breakpoint, here and with this memory.
-fn stops_for(known: Breakpoint, here: Option<CodePlace>, memory: &Memory) -> bool
-    ensures stops { result ≡ (is_that known.place here && holds known.condition memory.now.words) }
+/// Whether a machine that stands here meets a place, or writes or reads certain words next.
+fn is_met(spot: Spot, here: Option<CodePlace>, machine: &Machine) -> bool
+    ensures met { result ≡ is_met_from here spot machine.now.state }
 {
-    is_that(known.place, here) && holds(known.condition, memory)
+    match spot {
+        Spot::Code(place) => is_that(place, here),
+        Spot::Writes { address, words } => writes(machine, address, 2 * u32::from(words)),
+        Spot::Reads { address, words } => reads(machine, address, 2 * u32::from(words)),
+    }
+}
+
+/// Whether a run stops for this breakpoint, where the machine stands here.
+fn stops_for(known: Breakpoint, here: Option<CodePlace>, machine: &Machine) -> bool
+    ensures stops { result ≡ (is_met_from here known.spot machine.now.state
+        && holds known.condition machine.now.state.memory) }
+{
+    is_met(known.spot, here, machine) && holds(known.condition, machine.memory())
 }
 
 /// Whether a run stops here for a breakpoint.
@@ -146,6 +223,5 @@ pub(crate) fn is_at_break(machine: &Machine, breaks: &[Breakpoint]) -> bool
     ensures matches { result ≡ is_at_break breaks.now machine.now.state }
 {
     let here = place_in_code(machine);
-    let memory = machine.memory();
-    breaks.iter().any(|known| stops_for(*known, here, memory))
+    breaks.iter().any(|known| stops_for(*known, here, machine))
 }

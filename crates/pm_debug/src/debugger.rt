@@ -14,6 +14,7 @@ ghost use Rattle.pm_debug.specs.Refusals.{or_refused};
 ghost use Rattle.pm_debug.specs.Runs.{gone, gone_on, gone_out, gone_over, gone_to, gone_until, has_left, is_back};
 ghost use Rattle.pm_debug.specs.Runs.{is_there, left_after, left_on, nowhere, stops_after};
 ghost use Rattle.pm_debug.specs.Runs.Left.{Nothing};
+ghost use Rattle.pm_debug.specs.declared.breaks.Spot.TheVariants.{Code};
 ghost use Rattle.pm_debug.specs.declared.run.Depth.TheVariants.{Any, Back};
 ghost use Rattle.pm_debug.specs.declared.run.Depth.TheVariants as depths;
 ghost use Rattle.pm_machine.specs.Runs.{GaveUp};
@@ -22,7 +23,7 @@ ghost use Rattle.pm_debug.specs.Views.{static_chain, words_from};
 ghost use Rattle.pm_debug.specs.Watches.{with_watch, without_watch};
 
 use crate::ahead::addresses_from;
-use crate::breaks::{Breakpoint, Breaks, Condition};
+use crate::breaks::{Breakpoint, Breaks, Condition, Spot};
 use crate::frames::{Frame, frames};
 use crate::reason::BreakReason;
 use crate::refusal::{DebugRefusal, refusal_of};
@@ -123,10 +124,10 @@ impl Debugger {
         condition: Option<Condition>,
     ) -> Result<(), DebugRefusal>
         ensures alone { self.new ≡ record self.old { breaks = self.new.breaks } }
-        ensures set { OnOk result (with_break (breakpoint (code_place segment procedure offset) condition)
+        ensures set { OnOk result (with_break (breakpoint (Code (code_place segment procedure offset)) condition)
             self.old.breaks ≡ Ok self.new.breaks) }
         ensures refused { IfErr result (λ refusal. with_break
-            (breakpoint (code_place segment procedure offset) condition) self.old.breaks ≡ Err refusal) }
+            (breakpoint (Code (code_place segment procedure offset)) condition) self.old.breaks ≡ Err refusal) }
         ensures unchanged { OnErr result (self.new ≡ self.old) }
     {
         let place = CodePlace {
@@ -134,7 +135,26 @@ impl Debugger {
             procedure,
             offset,
         };
-        breaks::set(&mut self.breaks, Breakpoint { place, condition })
+        let spot = Spot::Code(place);
+        breaks::set(&mut self.breaks, Breakpoint { spot, condition })
+    }
+
+    /// Sets a breakpoint wherever one may stand, as on words that a step writes or reads, and what has to hold there,
+    /// if anything. One that is set there already goes, and the new one has its place in the list, also beside 64
+    /// breakpoints; `OddAddress` for words or a condition at an odd address, and `Full` for a new one beside 64.
+    pub fn set_break_on(
+        &mut self,
+        spot: Spot,
+        condition: Option<Condition>,
+    ) -> Result<(), DebugRefusal>
+        ensures alone { self.new ≡ record self.old { breaks = self.new.breaks } }
+        ensures set { OnOk result (with_break (breakpoint spot condition) self.old.breaks ≡ Ok self.new.breaks) }
+        ensures refused { IfErr result (λ refusal. with_break (breakpoint spot condition) self.old.breaks
+            ≡ Err refusal) }
+        ensures unchanged { OnErr result (self.new ≡ self.old) }
+    {
+        let new = Breakpoint { spot, condition };
+        breaks::set(&mut self.breaks, new)
     }
 
     /// Takes the breakpoint at a place away, whatever its condition; `NotSet` where there is none.
@@ -145,10 +165,10 @@ impl Debugger {
         offset: u16,
     ) -> Result<(), DebugRefusal>
         ensures alone { self.new ≡ record self.old { breaks = self.new.breaks } }
-        ensures cleared { OnOk result (without_break (code_place segment procedure offset) self.old.breaks
+        ensures cleared { OnOk result (without_break (Code (code_place segment procedure offset)) self.old.breaks
             ≡ Ok self.new.breaks) }
-        ensures refused { IfErr result (λ refusal. without_break (code_place segment procedure offset) self.old.breaks
-            ≡ Err refusal) }
+        ensures refused { IfErr result (λ refusal.
+            without_break (Code (code_place segment procedure offset)) self.old.breaks ≡ Err refusal) }
         ensures unchanged { OnErr result (self.new ≡ self.old) }
     {
         let place = CodePlace {
@@ -156,7 +176,18 @@ impl Debugger {
             procedure,
             offset,
         };
-        breaks::clear(&mut self.breaks, place)
+        breaks::clear(&mut self.breaks, Spot::Code(place))
+    }
+
+    /// Takes the breakpoint away that stands there, as on just these words, whatever its condition; `NotSet` where
+    /// there is none.
+    pub fn clear_break_on(&mut self, spot: Spot) -> Result<(), DebugRefusal>
+        ensures alone { self.new ≡ record self.old { breaks = self.new.breaks } }
+        ensures cleared { OnOk result (without_break spot self.old.breaks ≡ Ok self.new.breaks) }
+        ensures refused { IfErr result (λ refusal. without_break spot self.old.breaks ≡ Err refusal) }
+        ensures unchanged { OnErr result (self.new ≡ self.old) }
+    {
+        breaks::clear(&mut self.breaks, spot)
     }
 
     /// Watches the word at an even address: a run stops before a step, but the first, where it is

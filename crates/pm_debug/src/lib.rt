@@ -11,7 +11,7 @@ mod run;
 mod views;
 mod watches;
 
-pub use breaks::{Breakpoint, Condition};
+pub use breaks::{Breakpoint, Condition, Spot};
 pub use debugger::Debugger;
 pub use frames::Frame;
 pub use reason::BreakReason;

@@ -6,6 +6,7 @@ ghost use Rattle.pm_debug.specs.Watches.{first_changed, is_watched, watched_word
 
 use crate::refusal::DebugRefusal;
 use arrayvec::ArrayVec;
+use pm_access::word_at;
 use pm_words::Memory;
 
 /// The most watched words.
@@ -66,13 +67,6 @@ pub(crate) fn clear(watches: &mut Watches, old: u16) -> Result<(), DebugRefusal>
     }
     watches.retain(|known| *known != old);
     Ok(())
-}
-
-/// The word at an address, of which the lowest bit does not count.
-pub(crate) fn word_at(memory: &Memory, address: u16) -> u16
-    ensures word { result ≡ word_at memory.now.words address }
-{
-    memory.word(address - address % 2).unwrap_or(0)
 }
 
 /// The words at these addresses.

@@ -8,5 +8,5 @@ pub returns-clause-cleared : goal.returns-clause-cleared
 unfolding without_break
 returns-clause-cleared c =
     let there : is_set c.args.old c.args.breaks.now.items ≡ true = search rules in
-    rw there (ap (λ xs. Ok xs) (sym (filter-from_retain _ (λ (known : Breakpoint). not (is_same c.args.old known.place)) _
+    rw there (ap (λ xs. Ok xs) (sym (filter-from_retain _ (λ (known : Breakpoint). not (is_same c.args.old known.spot)) _
     (λ x b f' y k. search rules) _ _ c.retain.ensures.filtered)))

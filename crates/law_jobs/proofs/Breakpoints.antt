@@ -1,5 +1,6 @@
 -- Breakpoints and watched words, by what is in them.
-use Rattle.std.proofs.Common.{◌≡◌, ◌∙◌, ◌<◌, ℕ, Bool, true, false, List, [], ◌∷◌, ◌++◌, length, Option, None, Some, Result, Ok, Err, refl, sym, ap, arith}
+use Rattle.std.proofs.Common.{◌≡◌, ◌∙◌, ◌<◌, ℕ, Bool, true, false, List, [], ◌∷◌, ◌++◌, length, Option, None, Some}
+use Rattle.std.proofs.Common.{Result, Ok, Err, refl, sym, ap, arith}
 use Rattle.std.specs.Prelude.{◌==◌, ◌||◌, ◌&&◌, not, filter, if◌then◌else◌, map, nat_lt}
 use Rattle.std.specs.Cmp.{IsEquivalence}
 use Rattle.std.specs.List.{list_any}
@@ -8,11 +9,12 @@ use Rattle.std.proofs.lemmas.Cmp.{nat_eq_equiv}
 use Rattle.std.proofs.lemmas.List.Folds.{list_any-append}
 use Rattle.std.proofs.lemmas.Map.Views.{any-filter_same}
 use Rattle.pm_machine.specs.CodePlaces.{code_place}
-use Rattle.pm_machine.specs.declared.code_place.CodePlace.{CodePlace}
 use Rattle.pm_debug.specs.declared.breaks.Breakpoint.{Breakpoint}
+use Rattle.pm_debug.specs.declared.breaks.Spot.{Spot}
+use Rattle.pm_debug.specs.declared.breaks.Spot.TheVariants.{Code, Reads, Writes}
 use Rattle.pm_debug.specs.declared.refusal.DebugRefusal.{DebugRefusal}
 use Rattle.pm_debug.specs.declared.refusal.DebugRefusal.TheVariants.{Full}
-use Rattle.pm_debug.specs.Breaks.{breakpoint, can_be_asked, instead, is_same, is_set, with_break, without_break, word_is}
+use Rattle.pm_debug.specs.Breaks.{breakpoint, can_be_asked, can_stand, instead, is_same, is_same_place, is_set, with_break, without_break, word_is}
 use Rattle.pm_debug.specs.Passes.{Passed}
 use Rattle.pm_debug.specs.Runs.{gone_on}
 use Rattle.pm_debug.specs.Session.{Session}
@@ -22,7 +24,7 @@ use Rattle.pm_session.specs.Answers.{after_command, after_keys, after_on, passin
 use Rattle.pm_session.specs.Orders.{Order, order_of}
 use Rattle.pm_session.specs.Orders.Order.{Does, Types}
 use Rattle.law_jobs.specs.Breakpoints.{BreakIfSetsOne, BreakSetsOne, BreaksStay, ClearTakesOne, UnwatchTakesOne, WatchAddsOne, WatchesStay, is_of_breaks}
-use Rattle.law_jobs.specs.Breakpoints.{is_of_watches}
+use Rattle.law_jobs.specs.Breakpoints.{ClearWordsTakesOne, WordsSetOne, is_of_watches}
 
 -- ---- lines that are of neither set
 
@@ -52,6 +54,8 @@ unfolding after_command
 breaks_stay_once None d other = refl
 breaks_stay_once (Some (Does (commands.Break s p o condition))) d other = absurd (cc)
 breaks_stay_once (Some (Does (commands.Clear s p o))) d other = absurd (cc)
+breaks_stay_once (Some (Does (commands.BreakOn on condition))) d other = absurd (cc)
+breaks_stay_once (Some (Does (commands.ClearOn on))) d other = absurd (cc)
 breaks_stay_once (Some (Does (commands.Watch a))) d other = watched_so d (with_watch a d.watches)
 breaks_stay_once (Some (Does (commands.Unwatch a))) d other = watched_so d (without_watch a d.watches)
 breaks_stay_once (Some (Does (commands.Poke a w))) d other = refl
@@ -73,8 +77,10 @@ typed_watches (b ∷ bytes) d = typed_watches bytes (after_command (commands.Key
 watches_stay_once : (command : Option Order) (d : Session) → is_of_watches command ≡ false → (session_after command d).watches ≡ d.watches
 unfolding after_command
 watches_stay_once None d other = refl
-watches_stay_once (Some (Does (commands.Break s p o condition))) d other = broken_so d (with_break (breakpoint (code_place s p o) condition) d.breaks)
-watches_stay_once (Some (Does (commands.Clear s p o))) d other = broken_so d (without_break (code_place s p o) d.breaks)
+watches_stay_once (Some (Does (commands.Break s p o condition))) d other = broken_so d (with_break (breakpoint (Code (code_place s p o)) condition) d.breaks)
+watches_stay_once (Some (Does (commands.Clear s p o))) d other = broken_so d (without_break (Code (code_place s p o)) d.breaks)
+watches_stay_once (Some (Does (commands.BreakOn on condition))) d other = broken_so d (with_break (breakpoint on condition) d.breaks)
+watches_stay_once (Some (Does (commands.ClearOn on))) d other = broken_so d (without_break on d.breaks)
 watches_stay_once (Some (Does (commands.Watch a))) d other = absurd (cc)
 watches_stay_once (Some (Does (commands.Unwatch a))) d other = absurd (cc)
 watches_stay_once (Some (Does (commands.Poke a w))) d other = refl
@@ -161,7 +167,7 @@ three_of a b c is = let both = and_of a (b && c) is in (both.0, and_of b c both.
 three_alike : (a b c x y z : Bool) → a ≡ x → b ≡ y → c ≡ z → (a && (b && c)) ≡ (x && (y && z))
 three_alike a b c x y z one two three = rw one (rw two (rw three refl))
 
-pub same_places : IsEquivalence is_same
+pub same_places : IsEquivalence is_same_place
 same_places = record {
   refl = λ x. three_are (x.segment == x.segment) (x.procedure == x.procedure) (x.offset == x.offset)
       (nat_eq_equiv.refl x.segment) (nat_eq_equiv.refl x.procedure) (nat_eq_equiv.refl x.offset);
@@ -177,51 +183,114 @@ same_places = record {
       (nat_eq_equiv.congr x.offset y.offset z.offset parts.1.1);
 }
 
--- one in the place of another has its place
-instead_same : (b c : Breakpoint) (q : CodePlace) → is_same q (instead b c).place ≡ is_same q c.place
-instead_same b c q = by_test (is_same b.place c.place) refl
+two_alike : (a b x y : Bool) → a ≡ x → b ≡ y → (a && b) ≡ (x && y)
+two_alike a b x y one two = rw one (rw two refl)
+
+-- ---- places and words
+
+spot_refl : (x : Spot) → is_same x x ≡ true
+spot_refl (Code a) = same_places.refl a
+spot_refl (Reads a n) = are_and (a == a) (n == n) (nat_eq_equiv.refl a) (nat_eq_equiv.refl n)
+spot_refl (Writes a n) = are_and (a == a) (n == n) (nat_eq_equiv.refl a) (nat_eq_equiv.refl n)
+
+pair_symm : (a n b k : ℕ) → (a == b && n == k) ≡ (b == a && k == n)
+pair_symm a n b k = two_alike (a == b) (n == k) (b == a) (k == n) (nat_eq_equiv.symm a b) (nat_eq_equiv.symm n k)
+
+spot_symm : (x y : Spot) → is_same x y ≡ is_same y x
+spot_symm (Code a) (Code b) = same_places.symm a b
+spot_symm (Code a) (Reads b k) = refl
+spot_symm (Code a) (Writes b k) = refl
+spot_symm (Reads a n) (Code b) = refl
+spot_symm (Reads a n) (Reads b k) = pair_symm a n b k
+spot_symm (Reads a n) (Writes b k) = refl
+spot_symm (Writes a n) (Code b) = refl
+spot_symm (Writes a n) (Reads b k) = refl
+spot_symm (Writes a n) (Writes b k) = pair_symm a n b k
+
+pair_congr : (a n b k c l : ℕ) → (a == b && n == k) ≡ true → (a == c && n == l) ≡ (b == c && k == l)
+pair_congr a n b k c l is =
+    let parts = and_of (a == b) (n == k) is in
+    two_alike (a == c) (n == l) (b == c) (k == l) (nat_eq_equiv.congr a b c parts.0) (nat_eq_equiv.congr n k l parts.1)
+
+spot_congr : (x y z : Spot) → is_same x y ≡ true → is_same x z ≡ is_same y z
+spot_congr (Code a) (Code b) (Code c) is = same_places.congr a b c is
+spot_congr (Code a) (Code b) (Reads c l) is = refl
+spot_congr (Code a) (Code b) (Writes c l) is = refl
+spot_congr (Code a) (Reads b k) z is = absurd (cc)
+spot_congr (Code a) (Writes b k) z is = absurd (cc)
+spot_congr (Reads a n) (Code b) z is = absurd (cc)
+spot_congr (Reads a n) (Reads b k) (Code c) is = refl
+spot_congr (Reads a n) (Reads b k) (Reads c l) is = pair_congr a n b k c l is
+spot_congr (Reads a n) (Reads b k) (Writes c l) is = refl
+spot_congr (Reads a n) (Writes b k) z is = absurd (cc)
+spot_congr (Writes a n) (Code b) z is = absurd (cc)
+spot_congr (Writes a n) (Reads b k) z is = absurd (cc)
+spot_congr (Writes a n) (Writes b k) (Code c) is = refl
+spot_congr (Writes a n) (Writes b k) (Reads c l) is = refl
+spot_congr (Writes a n) (Writes b k) (Writes c l) is = pair_congr a n b k c l is
+
+pub same_spots : IsEquivalence is_same
+same_spots = record { refl = spot_refl; symm = spot_symm; congr = spot_congr }
+
+-- one in the place of another stands where that stood
+instead_same : (b c : Breakpoint) (q : Spot) → is_same q (instead b c).spot ≡ is_same q c.spot
+instead_same b c q = by_test (is_same b.spot c.spot) refl
   where
-    by_test : (same : Bool) → is_same b.place c.place ≡ same → is_same q (if same then b else c).place ≡ is_same q c.place
+    by_test : (same : Bool) → is_same b.spot c.spot ≡ same → is_same q (if same then b else c).spot ≡ is_same q c.spot
     by_test true is =
-        same_places.symm q b.place ∙ same_places.congr b.place c.place q is ∙ same_places.symm c.place q
+        same_spots.symm q b.spot ∙ same_spots.congr b.spot c.spot q is ∙ same_spots.symm c.spot q
     by_test false is = refl
 
-instead_sets : (b : Breakpoint) (q : CodePlace) (xs : List Breakpoint) → is_set q (map (instead b) xs) ≡ is_set q xs
+instead_sets : (b : Breakpoint) (q : Spot) (xs : List Breakpoint) → is_set q (map (instead b) xs) ≡ is_set q xs
 instead_sets b q [] = refl
 instead_sets b q (c ∷ xs) =
-    ap (λ here. here || is_set q (map (instead b) xs)) (instead_same b c q) ∙ ap (λ more. is_same q c.place || more) (instead_sets b q xs)
+    ap (λ here. here || is_set q (map (instead b) xs)) (instead_same b c q) ∙ ap (λ more. is_same q c.spot || more) (instead_sets b q xs)
 
-sets_one : (b : Breakpoint) (d : Session) (q : CodePlace) → can_be_asked b.condition ≡ true → length d.breaks < 64
-    → is_set q (with_breaks d (with_break b d.breaks)).breaks ≡ (is_same q b.place || is_set q d.breaks)
+sets_one : (b : Breakpoint) (d : Session) (q : Spot) → (can_stand b.spot && can_be_asked b.condition) ≡ true → length d.breaks < 64
+    → is_set q (with_breaks d (with_break b d.breaks)).breaks ≡ (is_same q b.spot || is_set q d.breaks)
 unfolding with_break
-sets_one b d q asked few = rw asked (go (is_set b.place d.breaks) refl)
+sets_one b d q asked few = rw asked (go (is_set b.spot d.breaks) refl)
   where
     room : nat_lt (length d.breaks) 64 ≡ true
     room = grind (arith, nat_tests)
 
-    go : (set : Bool) → is_set b.place d.breaks ≡ set
+    go : (set : Bool) → is_set b.spot d.breaks ≡ set
         → is_set q
         (with_breaks d (if set then Ok (map (instead b) d.breaks) else if nat_lt (length d.breaks) 64 then Ok (d.breaks ++ b ∷ []) else Err Full)).breaks
-        ≡ (is_same q b.place || is_set q d.breaks)
-    go true has = instead_sets b q d.breaks ∙ there is_same same_places (λ (c : Breakpoint). c.place) q b d.breaks has
-    go false has = rw room (one_more is_same same_places (λ (c : Breakpoint). c.place) q b d.breaks)
+        ≡ (is_same q b.spot || is_set q d.breaks)
+    go true has = instead_sets b q d.breaks ∙ there is_same same_spots (λ (c : Breakpoint). c.spot) q b d.breaks has
+    go false has = rw room (one_more is_same same_spots (λ (c : Breakpoint). c.spot) q b d.breaks)
+
+takes_one : (x : Spot) (d : Session) (q : Spot)
+    → is_set q (with_breaks d (without_break x d.breaks)).breaks ≡ (not (is_same q x) && is_set q d.breaks)
+unfolding without_break
+takes_one x d q = go (is_set x d.breaks) refl
+  where
+    go : (b : Bool) → is_set x d.breaks ≡ b
+        → is_set q (with_breaks d (without_break x d.breaks)).breaks ≡ (not (is_same q x) && is_set q d.breaks)
+    go true has = rw has (one_less is_same same_spots (λ (c : Breakpoint). c.spot) q (breakpoint x None) d.breaks)
+    go false has = rw has (missing is_same same_spots (λ (c : Breakpoint). c.spot) q (breakpoint x None) d.breaks has)
 
 pub break_sets_one : BreakSetsOne
 unfolding after_command
-break_sets_one s p o d place few = sets_one (breakpoint (code_place s p o) None) d place refl few
+break_sets_one s p o d spot few = sets_one (breakpoint (Code (code_place s p o)) None) d spot refl few
 
 pub break_if_sets_one : BreakIfSetsOne
 unfolding after_command
-break_if_sets_one s p o a w d place even few = sets_one (breakpoint (code_place s p o) (Some (word_is a w))) d place even few
+break_if_sets_one s p o a w d spot even few = sets_one (breakpoint (Code (code_place s p o)) (Some (word_is a w))) d spot even few
+
+pub words_set_one : WordsSetOne
+unfolding after_command
+words_set_one on condition d spot even asked few =
+    sets_one (breakpoint on condition) d spot (are_and (can_stand on) (can_be_asked condition) even asked) few
 
 pub clear_takes_one : ClearTakesOne
-unfolding after_command without_break
-clear_takes_one s p o d place = go (is_set (code_place s p o) d.breaks) refl
-  where
-    go : (b : Bool) → is_set (code_place s p o) d.breaks ≡ b
-        → is_set place (session_after (Some (Does (commands.Clear s p o))) d).breaks ≡ (not (is_same place (code_place s p o)) && is_set place d.breaks)
-    go true has = rw has (one_less is_same same_places (λ (c : Breakpoint). c.place) place (breakpoint (code_place s p o) None) d.breaks)
-    go false has = rw has (missing is_same same_places (λ (c : Breakpoint). c.place) place (breakpoint (code_place s p o) None) d.breaks has)
+unfolding after_command
+clear_takes_one s p o d spot = takes_one (Code (code_place s p o)) d spot
+
+pub clear_words_takes_one : ClearWordsTakesOne
+unfolding after_command
+clear_words_takes_one on d spot = takes_one on d spot
 
 -- ---- words
 

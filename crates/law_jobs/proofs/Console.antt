@@ -7,6 +7,7 @@ use Rattle.std.specs.List.{flat_map}
 use Rattle.pm_machine.specs.State.{State}
 use Rattle.law_engine.proofs.OutputLaws.{outputs_only_grow}
 use Rattle.pm_debug.specs.declared.breaks.Breakpoint.{Breakpoint}
+use Rattle.pm_debug.specs.declared.breaks.Spot.TheVariants.{Code}
 use Rattle.pm_debug.specs.declared.refusal.DebugRefusal.{DebugRefusal}
 use Rattle.pm_debug.specs.Breaks.{breakpoint, with_break, without_break}
 use Rattle.pm_machine.specs.CodePlaces.{code_place}
@@ -55,8 +56,10 @@ typed_keep (b ∷ bytes) d = typed_keep bytes (after_command (commands.Key b) d)
 still_on : (command : Option Order) (d : Session) → stays_on command ≡ true → d.shows_console ≡ true → (session_after command d).shows_console ≡ true
 unfolding after_command
 still_on None d stays on = on
-still_on (Some (Does (commands.Break s p o condition))) d stays on = breaks_keep d (with_break (breakpoint (code_place s p o) condition) d.breaks) ∙ on
-still_on (Some (Does (commands.Clear s p o))) d stays on = breaks_keep d (without_break (code_place s p o) d.breaks) ∙ on
+still_on (Some (Does (commands.Break s p o condition))) d stays on = breaks_keep d (with_break (breakpoint (Code (code_place s p o)) condition) d.breaks) ∙ on
+still_on (Some (Does (commands.Clear s p o))) d stays on = breaks_keep d (without_break (Code (code_place s p o)) d.breaks) ∙ on
+still_on (Some (Does (commands.BreakOn spot condition))) d stays on = breaks_keep d (with_break (breakpoint spot condition) d.breaks) ∙ on
+still_on (Some (Does (commands.ClearOn spot))) d stays on = breaks_keep d (without_break spot d.breaks) ∙ on
 still_on (Some (Does (commands.Watch a))) d stays on = watches_keep d (with_watch a d.watches) ∙ on
 still_on (Some (Does (commands.Unwatch a))) d stays on = watches_keep d (without_watch a d.watches) ∙ on
 still_on (Some (Does (commands.Poke a w))) d stays on = on

@@ -15,6 +15,7 @@ use Rattle.pm_machine.specs.declared.state.Stop.TheVariants as stop
 use Rattle.law_engine.proofs.EventLaws.{events_go_on}
 use Rattle.pm_machine.proofs.UntilLaws.{after_more, after_none, runs_end_so}
 use Rattle.pm_debug.specs.declared.breaks.Breakpoint.{Breakpoint}
+use Rattle.pm_debug.specs.declared.breaks.Spot.TheVariants.{Code}
 use Rattle.pm_debug.specs.declared.reason.BreakReason.TheVariants as reasons
 use Rattle.pm_debug.specs.declared.refusal.DebugRefusal.{DebugRefusal}
 use Rattle.pm_debug.specs.Breaks.{breakpoint, with_break, without_break}
@@ -219,8 +220,10 @@ typed_events (b ∷ bytes) d = typed_events bytes (after_command (commands.Key b
 pub command_made : (command : Option Order) (d : Session) → Made command d
 unfolding after_command
 command_made None d = ([], refl, refl)
-command_made (Some (Does (commands.Break s p o condition))) d = ([], refl, kept d (with_break (breakpoint (code_place s p o) condition) d.breaks))
-command_made (Some (Does (commands.Clear s p o))) d = ([], refl, kept d (without_break (code_place s p o) d.breaks))
+command_made (Some (Does (commands.Break s p o condition))) d = ([], refl, kept d (with_break (breakpoint (Code (code_place s p o)) condition) d.breaks))
+command_made (Some (Does (commands.Clear s p o))) d = ([], refl, kept d (without_break (Code (code_place s p o)) d.breaks))
+command_made (Some (Does (commands.BreakOn spot condition))) d = ([], refl, kept d (with_break (breakpoint spot condition) d.breaks))
+command_made (Some (Does (commands.ClearOn spot))) d = ([], refl, kept d (without_break spot d.breaks))
 command_made (Some (Does (commands.Watch a))) d = ([], refl, kept_watching d (with_watch a d.watches))
 command_made (Some (Does (commands.Unwatch a))) d = ([], refl, kept_watching d (without_watch a d.watches))
 command_made (Some (Does (commands.Poke a w))) d = (Poke a w ∷ [], refl, refl)

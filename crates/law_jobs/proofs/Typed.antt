@@ -12,7 +12,7 @@ use Rattle.pm_session.specs.Sessions.{answer_line, is_quit, opened, told}
 use Rattle.pm_session.proofs.SessionLaws.{told_byte, told_from, told_line, told_start}
 use Rattle.pm_tool.specs.Said.{debugged, typed_into}
 use Rattle.pm_session.specs.Words.{pieces_between, without_empty, without_return, words_of_line}
-use Rattle.law_jobs.specs.Breakpoints.{ConditionIsRead}
+use Rattle.law_jobs.specs.Breakpoints.{ConditionIsRead, WordsAreRead}
 use Rattle.law_jobs.specs.Typed.{InputIsTyped, IsOneLine, TypesAreKeys}
 
 -- what each of the lines asks for
@@ -70,3 +70,7 @@ input_is_typed typed line input machine is order =
 pub condition_is_read : ConditionIsRead
 unfolding typed command_of number_behind numbers pieces_between without_empty without_return words_of_line
 condition_is_read = refl
+
+pub words_are_read : WordsAreRead
+unfolding typed command_of command_rows number_behind numbers pieces_between without_empty without_return words_of_line
+words_are_read = record { reads = refl; writes = refl; clears = refl }

@@ -1,13 +1,17 @@
 -- What the breakpoints and the watched words of a session are after its lines, as sets: which are in them, and which
 -- are not.
 use Rattle.std.specs.Prelude.{◌≡◌, ◌<◌, ◌==◌, ◌||◌, ◌&&◌, not, ℕ, Bool, true, false, List, [], ◌∷◌, length}
-use Rattle.std.specs.Prelude.{Option, Some, None, ⊤, if◌then◌else◌, codes}
+use Rattle.std.specs.Prelude.{Option, Some, None, ⊤, filter, if◌then◌else◌, codes}
 use Rattle.pm_words.specs.Words.{word_at}
 use Rattle.pm_words.specs.Stack.{is_even}
 use Rattle.pm_machine.specs.CodePlaces.{code_place}
-use Rattle.pm_machine.specs.declared.code_place.CodePlace.{CodePlace}
 use Rattle.pm_machine.specs.State.{State}
-use Rattle.pm_debug.specs.Breaks.{is_at_break, is_same, is_set, stands_at, word_is}
+use Rattle.pm_debug.specs.Breaks.{can_be_asked, can_stand, holds, is_at_break, is_met, is_same, is_set}
+use Rattle.pm_debug.specs.Breaks.{stands_at, word_is}
+use Rattle.pm_debug.specs.declared.breaks.Breakpoint.{Breakpoint}
+use Rattle.pm_debug.specs.declared.breaks.Condition.{Condition}
+use Rattle.pm_debug.specs.declared.breaks.Spot.{Spot}
+use Rattle.pm_debug.specs.declared.breaks.Spot.TheVariants.{Code, Reads, Writes}
 use Rattle.pm_debug.specs.Session.{Session}
 use Rattle.pm_debug.specs.Watches.{is_watched}
 use Rattle.pm_session.specs.declared.commands.Command.TheVariants as commands
@@ -16,10 +20,12 @@ use Rattle.pm_session.specs.Orders.{Order, order_of}
 use Rattle.pm_session.specs.Orders.Order.{Does}
 use Rattle.law_jobs.specs.Console.{after_lines}
 
--- the line is `break`, with a condition or without, or `clear`
+-- the line is `break`, `reads` or `writes`, with a condition or without, or `clear`
 abbrev pub is_of_breaks : Option Order → Bool
 is_of_breaks (Some (Does (commands.Break s p o condition))) = true
 is_of_breaks (Some (Does (commands.Clear s p o))) = true
+is_of_breaks (Some (Does (commands.BreakOn spot condition))) = true
+is_of_breaks (Some (Does (commands.ClearOn spot))) = true
 is_of_breaks other = false
 
 -- the line is `watch` or `unwatch`
@@ -33,7 +39,7 @@ abbrev pub NoneIs : (Option Order → Bool) → List (List ℕ) → Type 0
 NoneIs test [] = ⊤
 NoneIs test (line ∷ lines) = (test (order_of line) ≡ false) × NoneIs test lines
 
--- lines among which there is no `break` and no `clear` leave the breakpoints, whatever steps they make
+-- lines among which there is no `break`, `reads`, `writes` and `clear` leave the breakpoints, whatever steps they make
 abbrev pub BreaksStay : Type 0
 BreaksStay = (lines : List (List ℕ)) (d : Session) → NoneIs is_of_breaks lines → (after_lines lines d).breaks ≡ d.breaks
 
@@ -42,23 +48,37 @@ abbrev pub WatchesStay : Type 0
 WatchesStay =
     (lines : List (List ℕ)) (d : Session) → NoneIs is_of_watches lines → (after_lines lines d).watches ≡ d.watches
 
--- After `break`, where fewer than 64 are set, its place is a breakpoint, and each other place is one as before.
+-- After `break`, where fewer than 64 are set, a breakpoint stands at its place, and at each other place and on words as
+-- before.
 abbrev pub BreakSetsOne : Type 0
-BreakSetsOne = (s p o : ℕ) (d : Session) (place : CodePlace) → length d.breaks < 64
-    → is_set place (session_after (Some (Does (commands.Break s p o None))) d).breaks
-    ≡ (is_same place (code_place s p o) || is_set place d.breaks)
+BreakSetsOne = (s p o : ℕ) (d : Session) (spot : Spot) → length d.breaks < 64
+    → is_set spot (session_after (Some (Does (commands.Break s p o None))) d).breaks
+    ≡ (is_same spot (Code (code_place s p o)) || is_set spot d.breaks)
 
 -- and so after `break` with a condition, where the address of its word is even
 abbrev pub BreakIfSetsOne : Type 0
-BreakIfSetsOne = (s p o a w : ℕ) (d : Session) (place : CodePlace) → is_even a ≡ true → length d.breaks < 64
-    → is_set place (session_after (Some (Does (commands.Break s p o (Some (word_is a w))))) d).breaks
-    ≡ (is_same place (code_place s p o) || is_set place d.breaks)
+BreakIfSetsOne = (s p o a w : ℕ) (d : Session) (spot : Spot) → is_even a ≡ true → length d.breaks < 64
+    → is_set spot (session_after (Some (Does (commands.Break s p o (Some (word_is a w))))) d).breaks
+    ≡ (is_same spot (Code (code_place s p o)) || is_set spot d.breaks)
 
--- After `clear` its place is none, and each other place is one as before.
+-- and so after `reads` and `writes`, where the address of the first word is even: one stands on these words
+abbrev pub WordsSetOne : Type 0
+WordsSetOne = (on : Spot) (condition : Option Condition) (d : Session) (spot : Spot) → can_stand on ≡ true
+    → can_be_asked condition ≡ true → length d.breaks < 64
+    → is_set spot (session_after (Some (Does (commands.BreakOn on condition))) d).breaks
+    ≡ (is_same spot on || is_set spot d.breaks)
+
+-- After `clear` none stands at its place, and at each other place and on words as before.
 abbrev pub ClearTakesOne : Type 0
-ClearTakesOne = (s p o : ℕ) (d : Session) (place : CodePlace)
-    → is_set place (session_after (Some (Does (commands.Clear s p o))) d).breaks
-    ≡ (not (is_same place (code_place s p o)) && is_set place d.breaks)
+ClearTakesOne = (s p o : ℕ) (d : Session) (spot : Spot)
+    → is_set spot (session_after (Some (Does (commands.Clear s p o))) d).breaks
+    ≡ (not (is_same spot (Code (code_place s p o))) && is_set spot d.breaks)
+
+-- and so after `clear reads` and `clear writes`, on these words
+abbrev pub ClearWordsTakesOne : Type 0
+ClearWordsTakesOne = (on : Spot) (d : Session) (spot : Spot)
+    → is_set spot (session_after (Some (Does (commands.ClearOn on))) d).breaks
+    ≡ (not (is_same spot on) && is_set spot d.breaks)
 
 -- After `watch` with an even address, where fewer than 64 are watched, the word there is watched, and each other as
 -- before.
@@ -75,6 +95,19 @@ UnwatchTakesOne = (a : ℕ) (d : Session) (address : ℕ)
 
 -- ---- where they stop a run
 
+abbrev pub is_on_words : Spot → Bool
+is_on_words (Code place) = false
+is_on_words (Reads a n) = true
+is_on_words (Writes a n) = true
+
+-- the breakpoints that stand on words
+abbrev pub on_words : List Breakpoint → List Breakpoint
+on_words breaks = filter (λ b. is_on_words b.spot) breaks
+
+-- the breakpoints that stand at other places and on other words
+abbrev pub elsewhere : Spot → List Breakpoint → List Breakpoint
+elsewhere spot breaks = filter (λ b. not (is_same spot b.spot)) breaks
+
 -- After `break` a breakpoint stops a run wherever the machine stands at its place, whatever was set there before, and
 -- at each other place as before.
 abbrev pub BreakStopsThere : Type 0
@@ -83,18 +116,34 @@ BreakStopsThere = (s p o : ℕ) (d : Session) (t : State) → length d.breaks < 
     ≡ (if stands_at (code_place s p o) t then true else is_at_break d.breaks t)
 
 -- After `break` on the condition that the word at a is w, a breakpoint stops a run at its place exactly where that word
--- is w, whatever was set there before, and at each other place as before.
+-- is w or the next step reads or writes words on which one stands, whatever was set there before, and at each other
+-- place as before.
 abbrev pub BreakIfStopsSo : Type 0
 BreakIfStopsSo = (s p o a w : ℕ) (d : Session) (t : State) → is_even a ≡ true → length d.breaks < 64
     → is_at_break (session_after (Some (Does (commands.Break s p o (Some (word_is a w))))) d).breaks t
-    ≡ (if stands_at (code_place s p o) t then word_at t.memory a == w else is_at_break d.breaks t)
+    ≡ (if stands_at (code_place s p o) t then word_at t.memory a == w || is_at_break (on_words d.breaks) t
+    else is_at_break d.breaks t)
 
--- After `clear` no breakpoint stops a run at its place, whatever its condition was, and at each other place one stops
--- it as before.
+-- After `clear` only a breakpoint on words stops a run at its place, whatever its condition was, and at each other
+-- place one stops it as before.
 abbrev pub ClearStopsNoMore : Type 0
 ClearStopsNoMore = (s p o : ℕ) (d : Session) (t : State)
     → is_at_break (session_after (Some (Does (commands.Clear s p o))) d).breaks t
-    ≡ (not (stands_at (code_place s p o) t) && is_at_break d.breaks t)
+    ≡ (if stands_at (code_place s p o) t then is_at_break (on_words d.breaks) t else is_at_break d.breaks t)
+
+-- After `reads` or `writes` a breakpoint stops a run before a step that reads, or writes, one of these words, where its
+-- condition holds, whatever was set on these words before; and those that stand elsewhere as before.
+abbrev pub WordsStopSo : Type 0
+WordsStopSo = (on : Spot) (condition : Option Condition) (d : Session) (t : State) → can_stand on ≡ true
+    → can_be_asked condition ≡ true → length d.breaks < 64
+    → is_at_break (session_after (Some (Does (commands.BreakOn on condition))) d).breaks t
+    ≡ ((is_met on t && holds condition t.memory) || is_at_break (elsewhere on d.breaks) t)
+
+-- After `clear reads` or `clear writes` those that stand elsewhere stop a run as before, and no others.
+abbrev pub ClearWordsStopsNoMore : Type 0
+ClearWordsStopsNoMore = (on : Spot) (d : Session) (t : State)
+    → is_at_break (session_after (Some (Does (commands.ClearOn on))) d).breaks t
+    ≡ is_at_break (elsewhere on d.breaks) t
 
 -- ---- how a condition is read
 
@@ -102,3 +151,9 @@ ClearStopsNoMore = (s p o : ℕ) (d : Session) (t : State)
 abbrev pub ConditionIsRead : Type 0
 ConditionIsRead =
     order_of (codes "break 1 2 3 if 4 = 5") ≡ Some (Does (commands.Break 1 2 3 (Some (word_is 4 5))))
+
+-- the words of each, with the address first
+pub record WordsAreRead : Type 0 where
+  pub reads : order_of (codes "reads 8 2 if 6 = 7") ≡ Some (Does (commands.BreakOn (Reads 8 2) (Some (word_is 6 7))))
+  pub writes : order_of (codes "writes 8 2") ≡ Some (Does (commands.BreakOn (Writes 8 2) None))
+  pub clears : order_of (codes "clear reads 8 2") ≡ Some (Does (commands.ClearOn (Reads 8 2)))

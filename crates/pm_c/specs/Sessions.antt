@@ -10,6 +10,7 @@ use Rattle.pm_debug.specs.Runs.{Gone, gone, nowhere, stops_after}
 use Rattle.pm_debug.specs.Session.{Debugged, Session, session_of}
 use Rattle.pm_debug.specs.Watches.{with_watch, without_watch}
 use Rattle.pm_debug.specs.declared.breaks.Breakpoint.{Breakpoint}
+use Rattle.pm_debug.specs.declared.breaks.Spot.TheVariants.{Code}
 use Rattle.pm_debug.specs.declared.refusal.DebugRefusal.{DebugRefusal}
 use Rattle.pm_debug.specs.declared.reason.BreakReason.{BreakReason}
 use Rattle.pm_debug.specs.declared.reason.BreakReason.TheVariants as reasons
@@ -47,7 +48,7 @@ set_code (Err refusal) = 500 + number_of refusal
 -- a breakpoint without a condition is set, or taken away
 abbrev pub breaks_after : Bool → CodePlace → List Breakpoint → Result (List Breakpoint) DebugRefusal
 breaks_after on place breaks =
-    if on then with_break (breakpoint place None) breaks else without_break place breaks
+    if on then with_break (breakpoint (Code place) None) breaks else without_break (Code place) breaks
 
 abbrev pub watches_after : Bool → ℕ → List ℕ → Result (List ℕ) DebugRefusal
 watches_after on address watches = if on then with_watch address watches else without_watch address watches

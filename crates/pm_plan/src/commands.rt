@@ -361,6 +361,9 @@ Commands, one a line, numbers in decimal, or as $1F with at most four hexadecima
   break S P O    sets a breakpoint: segment, procedure, distance in bytes from its entry; with if A = W behind,
                  one that stops where the word at the even address A is W; it takes the place of one there
   clear S P O    takes it away
+  reads A N, writes A N   sets a breakpoint on N words from an even address on: a run stops before a step that reads, or
+                 writes, one of them; with if B = W behind, where the word at the even address B is W
+  clear reads A N, clear writes A N   takes it away
   go N           makes at most N steps
   poke A W       writes a word at an even address
   key B          lets a byte wait on the console

@@ -19,6 +19,7 @@ use Rattle.pm_trace.specs.Trace.{trace_line}
 use Rattle.pm_debug.specs.Views.{dynamic_chain, local, stack_words, static_chain}
 use Rattle.pm_debug.specs.Watches.{with_watch, without_watch}
 use Rattle.pm_debug.specs.declared.breaks.Breakpoint.{Breakpoint}
+use Rattle.pm_debug.specs.declared.breaks.Spot.TheVariants.{Code}
 use Rattle.pm_debug.specs.declared.reason.BreakReason.{BreakReason}
 use Rattle.pm_debug.specs.declared.reason.BreakReason.TheVariants as reasons
 use Rattle.pm_debug.specs.declared.refusal.DebugRefusal.{DebugRefusal}
@@ -91,8 +92,10 @@ registers_text r =
 -- what is answered to a command, without a line feed; `quit` ends the session unanswered
 unfoldable pub command_text : Command → Session → Option (List ℕ)
 command_text (commands.Break s p o condition) d =
-    Some (done_text (with_break (breakpoint (code_place s p o) condition) d.breaks))
-command_text (commands.Clear s p o) d = Some (done_text (without_break (code_place s p o) d.breaks))
+    Some (done_text (with_break (breakpoint (Code (code_place s p o)) condition) d.breaks))
+command_text (commands.Clear s p o) d = Some (done_text (without_break (Code (code_place s p o)) d.breaks))
+command_text (commands.BreakOn spot condition) d = Some (done_text (with_break (breakpoint spot condition) d.breaks))
+command_text (commands.ClearOn spot) d = Some (done_text (without_break spot d.breaks))
 command_text (commands.Watch a) d = Some (done_text (with_watch a d.watches))
 command_text (commands.Unwatch a) d = Some (done_text (without_watch a d.watches))
 command_text (commands.Poke a w) d = Some (if is_even a then codes "ok" else refused_text OddAddress)
@@ -147,8 +150,10 @@ after_on d None = d
 -- the debugger after a command; those that are not named here only show it, or end the session
 unfoldable pub after_command : Command → Session → Session
 after_command (commands.Break s p o condition) d =
-    with_breaks d (with_break (breakpoint (code_place s p o) condition) d.breaks)
-after_command (commands.Clear s p o) d = with_breaks d (without_break (code_place s p o) d.breaks)
+    with_breaks d (with_break (breakpoint (Code (code_place s p o)) condition) d.breaks)
+after_command (commands.Clear s p o) d = with_breaks d (without_break (Code (code_place s p o)) d.breaks)
+after_command (commands.BreakOn spot condition) d = with_breaks d (with_break (breakpoint spot condition) d.breaks)
+after_command (commands.ClearOn spot) d = with_breaks d (without_break spot d.breaks)
 after_command (commands.Watch a) d = with_watches d (with_watch a d.watches)
 after_command (commands.Unwatch a) d = with_watches d (without_watch a d.watches)
 after_command (commands.Poke a w) d = record d { machine = next d.machine (Poke a w) }

@@ -1,5 +1,5 @@
 -- The commands of a debugger's line.
-use Rattle.std.specs.Prelude.{ℕ, zero, suc, ◌+◌, ◌-◌, ◌*◌, ◌^◌, ◌==◌, ◌&&◌, List, [], ◌∷◌, Option, Some, None}
+use Rattle.std.specs.Prelude.{ℕ, zero, suc, ◌+◌, ◌-◌, ◌*◌, ◌^◌, ◌==◌, ◌&&◌, ◌||◌, List, [], ◌∷◌, Option, Some, None}
 use Rattle.std.specs.Prelude.{option_map, if◌then◌else◌, length, nat_le, nat_lt, codes, true, false}
 use Rattle.std.specs.Char.{is_ascii_hexdigit}
 use Rattle.std.specs.List.{list_all}
@@ -7,6 +7,9 @@ use Rattle.std.specs.Str.{bytes_eq}
 use Rattle.std.specs.Str.Parse.{digits_value}
 use Rattle.pm_notes.specs.Names.{is_digit}
 use Rattle.pm_debug.specs.Breaks.{word_is}
+use Rattle.pm_debug.specs.declared.breaks.Condition.{Condition}
+use Rattle.pm_debug.specs.declared.breaks.Spot.{Spot}
+use Rattle.pm_debug.specs.declared.breaks.Spot.TheVariants.{Reads, Writes}
 use Rattle.pm_session.specs.declared.commands.Command.{Command}
 use Rattle.pm_session.specs.declared.commands.Command.TheVariants as commands
 use Rattle.pm_session.specs.declared.commands.View.TheVariants as views
@@ -130,6 +133,8 @@ command_rows =
     ∷ (codes "watch", codes " A", one 65535 commands.Watch)
     ∷ (codes "unwatch", codes " A", one 65535 commands.Unwatch)
     ∷ (codes "watches", [], alone (commands.Show views.Watches))
+    ∷ (codes "reads", codes " A N", two (λ a n. commands.BreakOn (Reads a n) None))
+    ∷ (codes "writes", codes " A N", two (λ a n. commands.BreakOn (Writes a n) None))
     ∷ (codes "help", [], alone (commands.Show views.Help))
     ∷ (codes "quit", [], alone commands.Quit)
     ∷ []
@@ -173,9 +178,51 @@ conditional (s ∷ p ∷ o ∷ mark ∷ a ∷ sign ∷ w ∷ []) =
     then conditional_break (word_number s) (word_number p) (word_number o) (word_number a) (word_number w) else None
 conditional other = None
 
+-- the words that a step `reads` or `writes`: the address of the first, and how many
+abbrev pub words_named : List ℕ → ℕ → ℕ → Option Spot
+words_named word a n =
+    if bytes_eq word (codes "reads") then Some (Reads a n)
+    else if bytes_eq word (codes "writes") then Some (Writes a n)
+    else None
+
+-- a breakpoint there, with a condition
+abbrev pub break_if : Option Condition → Option Spot → Option Command
+break_if condition None = None
+break_if condition (Some spot) = Some (commands.BreakOn spot condition)
+
+-- the command of a breakpoint on words with a condition, by its numbers: the address of the first word, how many, the
+-- address of a word, and what it is to be
+abbrev pub conditional_words_of : List ℕ → Option ℕ → Option ℕ → Option ℕ → Option ℕ → Option Command
+conditional_words_of word (Some a) (Some n) (Some b) (Some w) =
+    if nat_le a 65535 && (nat_le n 65535 && (nat_le b 65535 && nat_le w 65535))
+    then break_if (Some (word_is b w)) (words_named word a n) else None
+conditional_words_of word a n b w = None
+
+-- the command of `reads` or `writes` and the words behind it: two numbers, `if`, a number, `=`, and a number
+abbrev pub conditional_words : List ℕ → List (List ℕ) → Option Command
+conditional_words word (a ∷ n ∷ mark ∷ b ∷ sign ∷ w ∷ []) =
+    if bytes_eq mark (codes "if") && bytes_eq sign (codes "=")
+    then conditional_words_of word (word_number a) (word_number n) (word_number b) (word_number w) else None
+conditional_words word other = None
+
+-- the command that takes a breakpoint on words away, by the address of the first and how many
+abbrev pub clear_words_of : List ℕ → Option ℕ → Option ℕ → Option Command
+clear_words_of word (Some a) (Some n) =
+    if nat_le a 65535 && nat_le n 65535 then option_map commands.ClearOn (words_named word a n) else None
+clear_words_of word a n = None
+
+-- the command of words behind `clear`: `reads` or `writes`, and two numbers
+abbrev pub clear_words : List (List ℕ) → Option Command
+clear_words (word ∷ a ∷ n ∷ []) = clear_words_of word (word_number a) (word_number n)
+clear_words other = None
+
 -- the command of a word and others behind it, of which one is no number
 abbrev pub with_words : List ℕ → List (List ℕ) → Option Command
-with_words word words = if bytes_eq word (codes "break") then conditional words else setting_with word words
+with_words word words =
+    if bytes_eq word (codes "break") then conditional words
+    else if bytes_eq word (codes "reads") || bytes_eq word (codes "writes") then conditional_words word words
+    else if bytes_eq word (codes "clear") then clear_words words
+    else setting_with word words
 
 abbrev pub command_with : List ℕ → List (List ℕ) → Option (List ℕ) → Option Command
 command_with word words None = with_words word words

@@ -16,6 +16,8 @@ use Rattle.pm_debug.specs.Views.{bytes_from, console_end, words_from}
 use Rattle.pm_machine.specs.declared.code_place.CodePlace.{CodePlace}
 use Rattle.pm_debug.specs.declared.breaks.Breakpoint.{Breakpoint}
 use Rattle.pm_debug.specs.declared.breaks.Condition.{Condition}
+use Rattle.pm_debug.specs.declared.breaks.Spot.{Spot}
+use Rattle.pm_debug.specs.declared.breaks.Spot.TheVariants as spots
 use Rattle.pm_debug.specs.declared.frames.Frame.{Frame}
 use Rattle.pm_debug.specs.declared.refusal.DebugRefusal.TheVariants.{OddAddress}
 use Rattle.pm_session.specs.declared.commands.Command.{Command}
@@ -34,9 +36,15 @@ abbrev pub condition_text : Option Condition → List ℕ
 condition_text None = []
 condition_text (Some c) = codes " if " ++ (decimal c.address ++ (codes " = " ++ decimal c.word))
 
--- a place, and behind it a condition, as `break` takes them
+-- a place, as `break` takes it, or words, as `reads` and `writes` take them
+abbrev pub spot_text : Spot → List ℕ
+spot_text (spots.Code place) = point_text place
+spot_text (spots.Reads a n) = codes "reads " ++ (decimal a ++ (32 ∷ decimal n))
+spot_text (spots.Writes a n) = codes "writes " ++ (decimal a ++ (32 ∷ decimal n))
+
+-- where a breakpoint stands, and behind it a condition
 abbrev pub break_text : Breakpoint → List ℕ
-break_text b = point_text b.place ++ condition_text b.condition
+break_text b = spot_text b.spot ++ condition_text b.condition
 
 abbrev pub breaks_text : List Breakpoint → List ℕ
 breaks_text breaks = parts_text (codes ", ") break_text breaks
@@ -105,7 +113,8 @@ setting_text row = row.0 ++ (32 ∷ row.1)
 
 unfoldable pub help_text : List ℕ
 help_text = parts_text (codes ", ") usage_text command_rows
-    ++ (more_parts (codes ", ") setting_text setting_rows ++ codes ", type \"TEXT\", break S P O if A = W")
+    ++ (more_parts (codes ", ") setting_text setting_rows ++ codes ", type \"TEXT\", break S P O if A = W"
+    ++ codes ", reads A N if B = W, writes A N if B = W, clear reads A N, clear writes A N")
 
 -- what is answered to a command that only shows
 unfoldable pub view_text : View → Session → List ℕ

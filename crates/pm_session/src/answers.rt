@@ -192,13 +192,12 @@ fn do_command(
     let text = match command {
         Command::Break(s, p, o, condition) => done(alloc, debugger.set_break(s, p, o, condition)),
         Command::Clear(s, p, o) => done(alloc, debugger.clear_break(s, p, o)),
+        Command::BreakOn(spot, condition) => done(alloc, debugger.set_break_on(spot, condition)),
+        Command::ClearOn(spot) => done(alloc, debugger.clear_break_on(spot)),
         Command::Watch(address) => done(alloc, debugger.set_watch(address)),
         Command::Unwatch(address) => done(alloc, debugger.clear_watch(address)),
         Command::Poke(address, word) => done(alloc, poke(debugger, address, word)),
-        Command::Key(byte) => {
-            key(debugger, byte)?;
-            done(alloc, Ok(()))
-        }
+        Command::Key(byte) => done(alloc, Ok(key(debugger, byte)?)),
         Command::ShowConsole(shows) => done(alloc, Ok(debugger.set_shows_console(shows))),
         Command::Go(n) => told(alloc, debugger.go(u64::from(n))?, n, debugger),
         Command::Step(n) => told(alloc, debugger.step_over(u64::from(n))?, n, debugger),

@@ -3,6 +3,8 @@ ghost use Rattle.std.specs.Prelude.{◌≡◌, ◌<◌, ◌≤◌, ◌⊎◌, mi
 ghost use Rattle.std.specs.Char.{is_ascii_hexdigit};
 ghost use Rattle.std.specs.List.{list_all};
 ghost use Rattle.pm_session.specs.Commands.{conditional_break, command_in, command_of, command_rows, conditional};
+ghost use Rattle.pm_session.specs.Commands.{clear_words, clear_words_of, conditional_words, conditional_words_of};
+ghost use Rattle.pm_session.specs.Commands.{words_named};
 ghost use Rattle.pm_session.specs.Commands.{decimal_number, hexadecimal_number};
 ghost use Rattle.pm_notes.specs.Names.{is_digit};
 ghost use Rattle.pm_session.specs.Commands.{number_up_to, numbers, setting_in, setting_rows, setting_with, word_number};
@@ -11,7 +13,7 @@ ghost use Rattle.pm_session.specs.Words.{begins_word, words_of_line, without_ret
 
 use arrayvec::ArrayVec;
 use pm_code::magnitude;
-use pm_debug::Condition;
+use pm_debug::{Condition, Spot};
 
 /// The most steps of a run.
 const MOST_STEPS: u32 = 4_294_967_295;
@@ -23,6 +25,10 @@ pub enum Command {
     Break(u8, u8, u16, Option<Condition>),
     /// Takes a breakpoint away.
     Clear(u8, u8, u16),
+    /// Sets a breakpoint on words, and its condition, if any.
+    BreakOn(Spot, Option<Condition>),
+    /// Takes a breakpoint on words away.
+    ClearOn(Spot),
     /// Watches the word at an address.
     Watch(u16),
     /// Watches it no more.
@@ -288,6 +294,17 @@ fn named_with_one(name: &[u8], n: u32) -> Option<Command>
     Some(command)
 }
 
+/// The words that a step `reads` or `writes`: the address of the first, and how many.
+fn words_named(name: &[u8], address: u16, words: u16) -> Option<Spot>
+    ensures spot { result ≡ words_named name.now address words }
+{
+    match name {
+        _ if is_text(name, "reads") => Some(Spot::Reads { address, words }),
+        _ if is_text(name, "writes") => Some(Spot::Writes { address, words }),
+        _ => None,
+    }
+}
+
 /// The command of a name and two numbers: a row for each.
 #[tactic(auto, unfolding(crate::specs::Commands::command_rows))]
 fn named_with_two(name: &[u8], a: u32, n: u32) -> Option<Command>
@@ -298,7 +315,7 @@ fn named_with_two(name: &[u8], a: u32, n: u32) -> Option<Command>
         _ if is_text(name, "local") => Command::Local(word(a)?, word(n)?),
         _ if is_text(name, "peek") => Command::Show(View::Peek(word(a)?, word(n)?)),
         _ if is_text(name, "bytes") => Command::Show(View::Bytes(word(a)?, word(n)?)),
-        _ => return None,
+        _ => Command::BreakOn(words_named(name, word(a)?, word(n)?)?, None),
     };
     Some(command)
 }
@@ -402,6 +419,58 @@ fn conditional(line: &[u8]) -> Option<Command>
     }
 }
 
+/// The command of a breakpoint on words with a condition, by its numbers.
+fn conditional_words_of(name: &[u8], a: u32, n: u32, b: u32, value: u32) -> Option<Command>
+    ensures command { result ≡ conditional_words_of name.now (Some a) (Some n) (Some b) (Some value) }
+{
+    let (address, words) = (word(a)?, word(n)?);
+    let condition = Condition {
+        address: word(b)?,
+        word: word(value)?,
+    };
+    let spot = words_named(name, address, words)?;
+    Some(Command::BreakOn(spot, Some(condition)))
+}
+
+/// The command of `reads` or `writes` and what stands behind it, where that is `A N if B = W`.
+fn conditional_words(name: &[u8], line: &[u8]) -> Option<Command>
+    ensures command { result ≡ conditional_words name.now (words_of_line line.now) }
+{
+    let (a, rest) = next_word(line)?;
+    let (n, rest) = next_word(rest)?;
+    let (keyword, rest) = next_word(rest)?;
+    let (b, rest) = next_word(rest)?;
+    let (equals, rest) = next_word(rest)?;
+    let (value, rest) = next_word(rest)?;
+    match next_word(rest) {
+        None if is_text(keyword, "if") && is_text(equals, "=") => {
+            conditional_words_of(name, number(a)?, number(n)?, number(b)?, number(value)?)
+        }
+        _ => None,
+    }
+}
+
+/// The command that takes a breakpoint on words away, by its numbers.
+fn clear_words_of(name: &[u8], a: u32, n: u32) -> Option<Command>
+    ensures command { result ≡ clear_words_of name.now (Some a) (Some n) }
+{
+    let (address, words) = (word(a)?, word(n)?);
+    Some(Command::ClearOn(words_named(name, address, words)?))
+}
+
+/// The command of what stands behind `clear`, where that is `reads A N` or `writes A N`.
+fn clear_words(line: &[u8]) -> Option<Command>
+    ensures command { result ≡ clear_words (words_of_line line.now) }
+{
+    let (name, rest) = next_word(line)?;
+    let (a, rest) = next_word(rest)?;
+    let (n, rest) = next_word(rest)?;
+    match next_word(rest) {
+        None => clear_words_of(name, number(a)?, number(n)?),
+        _ => None,
+    }
+}
+
 /// A line without the carriage return at its end.
 pub(crate) fn without_return(line: &[u8]) -> &[u8]
     ensures line { result.now ≡ without_return line.now }
@@ -421,6 +490,8 @@ pub fn command_of(line: &[u8]) -> Option<Command>
     match numbers(rest) {
         Some(numbers) => command_named(name, &numbers),
         None if is_text(name, "break") => conditional(rest),
+        None if is_text(name, "reads") || is_text(name, "writes") => conditional_words(name, rest),
+        None if is_text(name, "clear") => clear_words(rest),
         None => setting(name, rest),
     }
 }

@@ -1,8 +1,8 @@
 //! Places in the code, breakpoints, frames and bytes as text.
 ghost use Rattle.std.specs.Prelude.{◌≡◌, Some};
-ghost use Rattle.pm_session.specs.Views.{break_text, frame_text, pair_text, point_text};
+ghost use Rattle.pm_session.specs.Views.{break_text, frame_text, pair_text, point_text, spot_text};
 
-use pm_debug::{Breakpoint, Condition, Frame};
+use pm_debug::{Breakpoint, Condition, Frame, Spot};
 use pm_machine::CodePlace;
 use std::fmt;
 
@@ -23,7 +23,23 @@ impl fmt::Display for Point {
     }
 }
 
-/// A breakpoint: its place, and behind it its condition, as `break` takes them.
+/// Where a breakpoint stands: a place, as `break` takes it, or words, as `reads` and `writes` take them.
+#[derive(Clone, Copy)]
+struct SpotText(Spot);
+
+impl fmt::Display for SpotText {
+    ghost output = { λ t. Some (spot_text t.0) };
+
+    fn fmt<W: fmt::Write>(&self, f: &mut fmt::Formatter<W>) -> fmt::Result {
+        match self.0 {
+            Spot::Code(place) => write!(f, "{}", Point(place)),
+            Spot::Reads { address, words } => write!(f, "reads {address} {words}"),
+            Spot::Writes { address, words } => write!(f, "writes {address} {words}"),
+        }
+    }
+}
+
+/// A breakpoint: where it stands, and behind it its condition.
 #[derive(Clone, Copy)]
 pub(crate) struct BreakText(pub Breakpoint);
 
@@ -31,10 +47,10 @@ impl fmt::Display for BreakText {
     ghost output = { λ t. Some (break_text t.0) };
 
     fn fmt<W: fmt::Write>(&self, f: &mut fmt::Formatter<W>) -> fmt::Result {
-        let place = Point(self.0.place);
+        let spot = SpotText(self.0.spot);
         match self.0.condition {
-            None => write!(f, "{place}"),
-            Some(Condition { address, word }) => write!(f, "{place} if {address} = {word}"),
+            None => write!(f, "{spot}"),
+            Some(Condition { address, word }) => write!(f, "{spot} if {address} = {word}"),
         }
     }
 }

@@ -21,7 +21,8 @@ use std::alloc::{AllocError, Global};
 const HELP: &str = concat!(
     "break S P O, clear S P O, poke A W, key B, go N, stack N, static N, dynamic N, local D B, regs, place N, trace, ",
     "peek A N, bytes A N, where, breaks, frames N, list N, console N, step [N], finish [N], until S P O [N], on N, ",
-    "ignore K, watch A, unwatch A, watches, help, quit, console on, console off, type \"TEXT\", break S P O if A = W",
+    "ignore K, watch A, unwatch A, watches, reads A N, writes A N, help, quit, console on, console off, ",
+    "type \"TEXT\", break S P O if A = W, reads A N if B = W, writes A N if B = W, clear reads A N, clear writes A N",
 );
 
 /// Breakpoints.

@@ -11,7 +11,7 @@ use Rattle.pm_codefile.specs.declared.fault.CodeFault.{CodeFault}
 use Rattle.pm_codefile.specs.declared.file.Slot.{Slot}
 use Rattle.pm_codefile.proofs.Written.{slice_range-right, word_in-left}
 use Rattle.law_disks.specs.SystemLaws.{IsSlot, NewFileIsSound, SegmentsStay}
-use Rattle.pm_system.specs.Segment.{filled, with_segment}
+use Rattle.pm_filer.specs.SystemSegments.{filled, with_segment}
 use Rattle.pm_volume.proofs.WrittenLaws.{get_written_above, get_written_outside, length-written, same_parts, word_in-below, word_in-written}
 use Rattle.pm_volume.specs.Words.{written}
 

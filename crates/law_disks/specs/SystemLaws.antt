@@ -3,7 +3,7 @@ use Rattle.std.specs.Prelude.{◌≡◌, ◌≤◌, ◌<◌, ◌%◌, ℕ, List,
 use Rattle.pm_bytes.specs.Blocks.{blocks_for}
 use Rattle.pm_codefile.specs.Dictionary.{IsCodeFile, block_in, segment_in, slot_in}
 use Rattle.pm_codefile.specs.declared.file.Slot.{Slot}
-use Rattle.pm_system.specs.Segment.{with_segment}
+use Rattle.pm_filer.specs.SystemSegments.{with_segment}
 
 -- A slot, and the bytes of its segment: as many as its length says, which is a word, and has a name of 8 bytes.
 pub record IsSlot (slot : Slot) (segment : List ℕ) : Type 0 where

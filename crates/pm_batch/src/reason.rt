@@ -1,9 +1,8 @@
 //! Why an input is refused, in words.
 use crate::refusal::Refusal;
 use pm_codefile::CodeFault;
-use pm_filer::FilerFault;
+use pm_filer::{FilerFault, SystemFault};
 use pm_machine::BootFault;
-use pm_system::SystemFault;
 use pm_textfile::TextFault;
 use pm_volume::VolumeFault;
 use std::fmt;

@@ -5,9 +5,8 @@ ghost use Rattle.pm_batch.specs.Refusals.{text_fault_text, volume_text};
 
 use pm_asm::AsmFault;
 use pm_codefile::CodeFault;
-use pm_filer::FilerFault;
+use pm_filer::{FilerFault, SystemFault};
 use pm_machine::BootFault;
-use pm_system::SystemFault;
 use pm_textfile::TextFault;
 use pm_volume::VolumeFault;
 use std::fmt;

@@ -1,12 +1,18 @@
-//! Commands on the files of a volume.
+//! Commands on the files of a volume, and the segment of a system that is put into the code file of a program there.
 #![tactic(auto)]
 
 mod command;
 mod fault;
 mod fitting;
 mod listing;
+mod system_disk;
+mod system_fault;
+mod system_segment;
 
 pub use command::{FileCommand, Reply, apply};
 pub use fault::FilerFault;
 pub use fitting::fits;
 pub use listing::kind_word;
+pub use system_disk::put_system;
+pub use system_fault::SystemFault;
+pub use system_segment::with_system;

@@ -12,9 +12,9 @@ use Rattle.pm_batch.specs.declared.refusal.Refusal.{Refusal}
 use Rattle.pm_batch.specs.declared.refusal.Refusal.TheVariants as refusals
 use Rattle.pm_tool.specs.declared.programs.Start.{Start}
 use Rattle.pm_tool.specs.declared.programs.Start.TheVariants as starts
-use Rattle.pm_system.specs.Disk.{image_with_system}
-use Rattle.pm_system.specs.declared.fault.SystemFault.{SystemFault}
-use Rattle.pm_system.specs.declared.fault.SystemFault.TheVariants as faults
+use Rattle.pm_filer.specs.SystemDisks.{image_with_system}
+use Rattle.pm_filer.specs.declared.system_fault.SystemFault.{SystemFault}
+use Rattle.pm_filer.specs.declared.system_fault.SystemFault.TheVariants as faults
 use Rattle.pm_tool.specs.declared.outcome.About.{About}
 use Rattle.pm_tool.specs.declared.outcome.About.TheVariants as abouts
 use Rattle.pm_tool.specs.declared.outcome.Outcome.{Outcome}

@@ -29,7 +29,7 @@ pub enum Job {
     /// that the program waits for console bytes, one is read. The output is what the program writes to the console. The
     /// message is the last line of a trace; the outcome has the printer's bytes and, as `saving` says, the image on
     /// unit 4, those on the other disk units or all, as the program left them. With `system`, the program is that of
-    /// the image on which the code file `name` has the segment of slot 0 of this code file, as `pm_system::put_system`
+    /// the image on which the code file `name` has the segment of slot 0 of this code file, as `pm_filer::put_system`
     /// puts it in; where it is not put in, the job is refused by `refused system N`, behind the images and before the
     /// start.
     Run {

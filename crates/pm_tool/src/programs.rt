@@ -10,8 +10,8 @@ use crate::hint::{Hint, hint_for};
 use crate::outcome::About;
 use pm_batch::{Refusal, form_told};
 use pm_check::{Form, form_seen};
+use pm_filer::{SystemFault, put_system};
 use pm_machine::{BootFault, Machine};
-use pm_system::{SystemFault, put_system};
 use pm_volume::{Volume, VolumeFault};
 use std::alloc::{AllocError, Global};
 

@@ -1,6 +1,6 @@
-use Rattle.pm_system.proofs.Kept.{stay_beside, where_ok}
-use Rattle.pm_system.proofs.Made.{made-removed}
-use Rattle.pm_system.proofs.disk.exchange.Goals as goal
+use Rattle.pm_filer.proofs.SystemKept.{stay_beside, where_ok}
+use Rattle.pm_filer.proofs.SystemMade.{made-removed}
+use Rattle.pm_filer.proofs.system_disk.exchange.Goals as goal
 
 pub returns-clause-done : goal.returns-clause-done
 returns-clause-done c = rw (made-removed _ _ _ c.in_ok-remove.ensures.removed) c.put_code.ensures.done

@@ -1,9 +1,9 @@
 -- The volume on which the code file of a program has the system's segment.
 use Rattle.std.specs.Prelude.{ℕ, ◌==◌, List, Option, Some, None, Result, Ok, Err, if◌then◌else◌}
 use Rattle.pm_codefile.specs.declared.file.Slot.{Slot}
-use Rattle.pm_system.specs.Segment.{given, system_slot}
-use Rattle.pm_system.specs.declared.fault.SystemFault.{SystemFault}
-use Rattle.pm_system.specs.declared.fault.SystemFault.TheVariants.{Volume}
+use Rattle.pm_filer.specs.SystemSegments.{given, system_slot}
+use Rattle.pm_filer.specs.declared.system_fault.SystemFault.{SystemFault}
+use Rattle.pm_filer.specs.declared.system_fault.SystemFault.TheVariants.{Volume}
 use Rattle.pm_volume.specs.Directory.{directory_of}
 use Rattle.pm_volume.specs.Files.{file_bytes, file_named}
 use Rattle.pm_volume.specs.Headers.{last_date_of}

@@ -7,8 +7,8 @@ use Rattle.pm_bytes.specs.declared.blocks.TheConstants.{BLOCK}
 use Rattle.pm_codefile.specs.Dictionary.{file_fault, segment_in, slot_in}
 use Rattle.pm_codefile.specs.declared.fault.CodeFault.{CodeFault}
 use Rattle.pm_codefile.specs.declared.file.Slot.{Slot}
-use Rattle.pm_system.specs.declared.fault.SystemFault.{SystemFault}
-use Rattle.pm_system.specs.declared.fault.SystemFault.TheVariants.{NoCode, NoSegment, NoProgram, Taken, Volume}
+use Rattle.pm_filer.specs.declared.system_fault.SystemFault.{SystemFault}
+use Rattle.pm_filer.specs.declared.system_fault.SystemFault.TheVariants.{NoCode, NoSegment, NoProgram, Taken, Volume}
 use Rattle.pm_volume.specs.declared.fault.VolumeFault.TheVariants.{NoRoom}
 
 -- a file filled up to whole blocks with zeros

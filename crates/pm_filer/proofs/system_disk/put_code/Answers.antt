@@ -1,6 +1,6 @@
 use Rattle.std.proofs.lemmas.Result.{err_from_is_err_and}
-use Rattle.pm_system.proofs.Made.{made-unadded}
-use Rattle.pm_system.proofs.disk.put_code.Goals as goal
+use Rattle.pm_filer.proofs.SystemMade.{made-unadded}
+use Rattle.pm_filer.proofs.system_disk.put_code.Goals as goal
 
 pub returns-in_err-add-clause-refused : goal.returns-in_err-add-clause-refused
 returns-in_err-add-clause-refused c =

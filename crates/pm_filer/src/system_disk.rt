@@ -1,16 +1,16 @@
 //! Volumes on which a program has the system's segment.
 ghost use Rattle.std.specs.Prelude.{◌≡◌, ◌≢◌, ◌-◌, Ok, Err, IfErr, IfOk, IfSome, OnOk, option_map};
 ghost use Rattle.std.specs.List.{All, remove};
-ghost use Rattle.pm_system.specs.Disk.{image_with_system, program_file, put_anew, put_code};
-ghost use Rattle.pm_system.specs.declared.fault.SystemFault.TheVariants.{NoMemory};
+ghost use Rattle.pm_filer.specs.SystemDisks.{image_with_system, program_file, put_anew, put_code};
+ghost use Rattle.pm_filer.specs.declared.system_fault.SystemFault.TheVariants.{NoMemory};
 ghost use Rattle.pm_volume.specs.Changes.{slot_named};
 ghost use Rattle.pm_volume.specs.Directory.{directory_of};
 ghost use Rattle.pm_volume.specs.Files.{files_of};
 ghost use Rattle.pm_volume.specs.Stays.{FileStays, FilesStay};
 ghost use Rattle.pm_volume.specs.Made.{file_removed};
 
-use crate::fault::SystemFault;
-use crate::segment::{given, system_slot};
+use crate::system_fault::SystemFault;
+use crate::system_segment::{given, system_slot};
 use pm_volume::kinds::CODE;
 use pm_volume::{Volume, VolumeFault};
 use std::alloc::Global;
@@ -28,7 +28,7 @@ fn program_file<'a>(volume: &'a Volume, name: &str) -> Option<&'a [u8]>
 }
 
 /// Puts a code file with the volume's last date.
-#[tactic(auto, using(crate::proofs::Made::made))]
+#[tactic(auto, using(crate::proofs::SystemMade::made))]
 fn put_code(volume: &mut Volume, name: &str, file: &[u8]) -> Result<(), VolumeFault>
     ensures done { OnOk result (put_code volume.old name.now file.now ≡ Ok volume.new) }
     ensures refused { IfErr result (λ fault. put_code volume.old name.now file.now ≡ Err fault) }
@@ -40,7 +40,7 @@ fn put_code(volume: &mut Volume, name: &str, file: &[u8]) -> Result<(), VolumeFa
 }
 
 /// Puts another code file in the place of the first file of a name.
-#[tactic(auto, using(crate::proofs::Made::made))]
+#[tactic(auto, using(crate::proofs::SystemMade::made))]
 fn exchange(volume: &mut Volume, name: &str, file: &[u8]) -> Result<(), VolumeFault>
     ensures done { OnOk result (put_anew name.now file.now (file_removed volume.old name.now) ≡ Ok volume.new) }
     ensures refused { IfErr result (λ fault.
@@ -58,7 +58,7 @@ fn exchange(volume: &mut Volume, name: &str, file: &[u8]) -> Result<(), VolumeFa
 /// there is no file of that name whose kind is code, the volume stays. The refusals are those of `with_system`, and
 /// then those of the volume: `Duplicate` where a second file has the name, `BadName` for one that no new file may have,
 /// `NoRoom`.
-#[tactic(auto, unfolding(crate::specs::Disk::image_with_system))]
+#[tactic(auto, unfolding(crate::specs::SystemDisks::image_with_system))]
 pub fn put_system(
     alloc: Global,
     volume: Volume,

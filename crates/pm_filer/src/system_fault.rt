@@ -1,6 +1,6 @@
 //! Why a system segment is not put in.
 ghost use Rattle.std.specs.Prelude.{◌≡◌};
-ghost use Rattle.pm_system.specs.Faults.{number_of};
+ghost use Rattle.pm_filer.specs.SystemFaults.{number_of};
 
 use pm_codefile::CodeFault;
 use pm_volume::VolumeFault;
@@ -47,7 +47,7 @@ impl SystemFault {
 }
 
 impl From<VolumeFault> for SystemFault {
-    ghost use Rattle.pm_system.specs.declared.fault.SystemFault.TheVariants.{Volume};
+    ghost use Rattle.pm_filer.specs.declared.system_fault.SystemFault.TheVariants.{Volume};
 
     ghost from_gives = { λ inner fault. fault ≡ Volume inner };
 
@@ -57,7 +57,7 @@ impl From<VolumeFault> for SystemFault {
 }
 
 impl From<AllocError> for SystemFault {
-    ghost use Rattle.pm_system.specs.declared.fault.SystemFault.TheVariants.{NoMemory};
+    ghost use Rattle.pm_filer.specs.declared.system_fault.SystemFault.TheVariants.{NoMemory};
 
     ghost from_gives = { λ _ fault. fault ≡ NoMemory };
 

@@ -2,17 +2,17 @@
 ghost use Rattle.std.specs.Prelude.{◌≡◌, ◌≢◌, ◌≤◌, length, Err, Ok, IfErr, IfOk, IsErrOf, IsOk};
 ghost use Rattle.pm_bytes.specs.declared.blocks.TheConstants.{BLOCK};
 ghost use Rattle.pm_bytes.specs.Blocks.{blocks_for};
-ghost use Rattle.pm_system.specs.Segment.{given, system_slot, with_segment, with_system};
-ghost use Rattle.pm_system.specs.declared.fault.SystemFault.TheVariants.{NoMemory};
+ghost use Rattle.pm_filer.specs.SystemSegments.{given, system_slot, with_segment, with_system};
+ghost use Rattle.pm_filer.specs.declared.system_fault.SystemFault.TheVariants.{NoMemory};
 
-use crate::fault::SystemFault;
+use crate::system_fault::SystemFault;
 use pm_bytes::{BLOCK, blocks_for, set_bytes, set_word};
 use pm_codefile::{CodeFile, Slot};
 use pm_volume::VolumeFault;
 use std::alloc::{AllocError, Global};
 
 /// Slot 0 of the system's file, and its segment.
-#[tactic(auto, unfolding(crate::specs::Segment::system_slot))]
+#[tactic(auto, unfolding(crate::specs::SystemSegments::system_slot))]
 pub(crate) fn system_slot(system: &[u8]) -> Result<(Slot, &[u8]), SystemFault>
     ensures found { IfOk result (λ found. system_slot system.now ≡ Ok (found.0, found.1.now)) }
     ensures refused { IfErr result (λ fault. (fault ≢ NoMemory) × (system_slot system.now ≡ Err fault)) }
@@ -27,7 +27,7 @@ pub(crate) fn system_slot(system: &[u8]) -> Result<(Slot, &[u8]), SystemFault>
 }
 
 /// A code file of so many blocks with a segment behind its last block, and slot 0 saying so.
-#[tactic(auto, unfolding(crate::specs::Segment::with_segment))]
+#[tactic(auto, unfolding(crate::specs::SystemSegments::with_segment))]
 fn with_segment(
     alloc: Global,
     file: &[u8],
@@ -49,7 +49,7 @@ fn with_segment(
 }
 
 /// The program's file with a segment in its empty slot 0.
-#[tactic(auto, unfolding(crate::specs::Segment::given))]
+#[tactic(auto, unfolding(crate::specs::SystemSegments::given))]
 pub(crate) fn given(
     alloc: Global,
     file: &[u8],

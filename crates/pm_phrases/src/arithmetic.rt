@@ -4,7 +4,7 @@ ghost use Rattle.std.specs.Prelude.{◌≡◌, ◌<◌, IfOk};
 ghost use Rattle.pm_phrases.specs.Arithmetic as texts;
 
 use crate::literals::Beside;
-use crate::operand::{Form, Phrase, Value, standing, valued};
+use crate::operand::{Form, Phrase, Value, standing, text, valued};
 use crate::signs::{binary_sign, binary_strength, relation_sign};
 use crate::spelling::{Marks, Spelling};
 use pm_code::Signed;
@@ -23,7 +23,7 @@ pub(crate) fn infixed(
     requires few { strength < 9 }
     ensures shown { IfOk result (λ p. p ≡ texts.between a.now sign.now strength b.now) }
 {
-    let text = format!(in alloc; "{} {sign} {}", Value(a, strength), Value(b, strength + 1))?;
+    let text = text!(in alloc; "{} {sign} {}", Value(a, strength), Value(b, strength + 1))?;
     Ok(valued(text, strength))
 }
 
@@ -33,7 +33,7 @@ fn compared(alloc: Global, a: &Phrase, sign: &'static str, b: &Phrase) -> Result
     ensures shown { IfOk result (λ p. p ≡ texts.compared a.now sign.now b.now) }
 {
     let (first, second) = (Beside(b.form, a, 1), Beside(a.form, b, 2));
-    Ok(valued(format!(in alloc; "{first} {sign} {second}")?, 1))
+    Ok(valued(text!(in alloc; "{first} {sign} {second}")?, 1))
 }
 
 #[tactic(auto, unfolding(crate::specs::Arithmetic::arithmetic_alone))]
@@ -46,7 +46,7 @@ pub(crate) fn arithmetic_alone(
 {
     match what {
         Arithmetic::Constant(word) => {
-            let text = format!(in alloc; "{}{}", Signed(word), Marks(spelling))?;
+            let text = text!(in alloc; "{}{}", Signed(word), Marks(spelling))?;
             let form = match spelling {
                 Spelling::Shortest => Form::Constant(word),
                 _ if word < 32768 => Form::Value(9),
@@ -54,7 +54,7 @@ pub(crate) fn arithmetic_alone(
             };
             Ok(Some(standing(text, form)))
         }
-        Arithmetic::Nil => Ok(Some(valued(format!(in alloc; "NIL")?, 9))),
+        Arithmetic::Nil => Ok(Some(valued(text!(in alloc; "NIL")?, 9))),
         _ => Ok(None),
     }
 }
@@ -71,10 +71,10 @@ pub(crate) fn arithmetic_one(
         return Ok(None);
     };
     Ok(Some(match o {
-        Unary::Absolute => valued(format!(in alloc; "ABS({})", Value(a, 0))?, 9),
-        Unary::Negate => valued(format!(in alloc; "-({})", Value(a, 0))?, 4),
-        Unary::Square => valued(format!(in alloc; "SQR({})", Value(a, 0))?, 9),
-        Unary::Complement => valued(format!(in alloc; "NOT {}", Value(a, 4))?, 4),
+        Unary::Absolute => valued(text!(in alloc; "ABS({})", Value(a, 0))?, 9),
+        Unary::Negate => valued(text!(in alloc; "-({})", Value(a, 0))?, 4),
+        Unary::Square => valued(text!(in alloc; "SQR({})", Value(a, 0))?, 9),
+        Unary::Complement => valued(text!(in alloc; "NOT {}", Value(a, 4))?, 4),
     }))
 }
 
@@ -110,7 +110,7 @@ pub(crate) fn arithmetic_three(
 {
     match what {
         Arithmetic::Check => Ok(Some(valued(
-            format!(in alloc; "CHECK({}, {}..{})", Value(a, 0), Value(b, 0), Value(c, 0))?,
+            text!(in alloc; "CHECK({}, {}..{})", Value(a, 0), Value(b, 0), Value(c, 0))?,
             9,
         ))),
         _ => Ok(None),

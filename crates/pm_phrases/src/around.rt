@@ -4,7 +4,7 @@ ghost use Rattle.std.specs.Prelude.{◌≡◌, ◌++◌, IfOk, Some};
 ghost use Rattle.pm_phrases.specs.Shown as shown;
 ghost use Rattle.pm_phrases.specs.Missing as missing;
 
-use crate::operand::{Arguments, Form, Further, Phrase, Value, standing, valued};
+use crate::operand::{Arguments, Form, Further, Phrase, Value, standing, text, valued};
 use pm_effects::Share;
 use std::alloc::{AllocError, Global};
 use std::fmt;
@@ -38,9 +38,9 @@ fn pop(alloc: Global, share: Share) -> Result<Option<Phrase>, AllocError>
 {
     match share {
         Share::Words(0) => Ok(None),
-        Share::Words(1) => Ok(Some(valued(format!(in alloc; "POP")?, 9))),
-        Share::Words(n) => Ok(Some(valued(format!(in alloc; "POP*{n}")?, 9))),
-        Share::Set => Ok(Some(standing(format!(in alloc; "POP SET")?, Form::Set(9)))),
+        Share::Words(1) => Ok(Some(valued(text!(in alloc; "POP")?, 9))),
+        Share::Words(n) => Ok(Some(valued(text!(in alloc; "POP*{n}")?, 9))),
+        Share::Set => Ok(Some(standing(text!(in alloc; "POP SET")?, Form::Set(9)))),
     }
 }
 
@@ -49,7 +49,10 @@ pub(crate) fn stand_ins(alloc: Global, known: bool, what: Missing) -> Result<Pop
     ensures pops { IfOk result (λ p. missing.listed p ≡ missing.stand_ins known what) }
 {
     if !known {
-        return Ok(Pops::One(valued(format!(in alloc; "?")?, 9)));
+        return Ok(Pops::One(valued(text!(in alloc; "?")?, 9)));
+    }
+    if let (Share::Words(0), Share::Words(0)) = (what.below, what.top) {
+        return Ok(Pops::None);
     }
     let below = pop(alloc, what.below)?;
     let top = pop(alloc, what.top)?;

@@ -5,7 +5,7 @@ ghost use Rattle.pm_phrases.specs.Calls as texts;
 ghost use Rattle.pm_phrases.specs.Missing.{listed};
 
 use crate::around::{AllArguments, Pops};
-use crate::operand::{Phrase, valued};
+use crate::operand::{Phrase, text, valued};
 use pm_families::{Call, Return};
 use pm_notes::{standard_name, system_name};
 use pm_opcode::Operation;
@@ -58,14 +58,14 @@ pub(crate) fn called(
     match what {
         Operation::Call(call) => {
             let arguments = AllArguments(pops, operands);
-            Ok(Some(valued(format!(in alloc; "{}{arguments}", CalledName(call))?, 9)))
+            Ok(Some(valued(text!(in alloc; "{}{arguments}", CalledName(call))?, 9)))
         }
         Operation::Standard(number) => {
             let Some(name) = standard_name(number) else {
                 return Ok(None);
             };
             let arguments = AllArguments(pops, operands);
-            Ok(Some(valued(format!(in alloc; "{name}{arguments}")?, 9)))
+            Ok(Some(valued(text!(in alloc; "{name}{arguments}")?, 9)))
         }
         _ => Ok(None),
     }
@@ -76,9 +76,9 @@ pub(crate) fn returned(alloc: Global, what: Return) -> Result<Phrase, AllocError
     ensures shown { IfOk result (λ p. p ≡ texts.returned what) }
 {
     match what {
-        Return::Normal(0) => Ok(valued(format!(in alloc; "RETURN")?, 0)),
-        Return::Normal(words) => Ok(valued(format!(in alloc; "RETURN {words}")?, 0)),
-        Return::Base(0) => Ok(valued(format!(in alloc; "RETURN FROM BASE")?, 0)),
-        Return::Base(words) => Ok(valued(format!(in alloc; "RETURN FROM BASE {words}")?, 0)),
+        Return::Normal(0) => Ok(valued(text!(in alloc; "RETURN")?, 0)),
+        Return::Normal(words) => Ok(valued(text!(in alloc; "RETURN {words}")?, 0)),
+        Return::Base(0) => Ok(valued(text!(in alloc; "RETURN FROM BASE")?, 0)),
+        Return::Base(words) => Ok(valued(text!(in alloc; "RETURN FROM BASE {words}")?, 0)),
     }
 }

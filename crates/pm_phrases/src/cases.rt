@@ -4,7 +4,7 @@ ghost use Rattle.std.specs.Prelude.{◌≡◌, ◌%◌, ◌∷◌, ◌++◌, ◌
 ghost use Rattle.pm_code.specs.Views.{placed_target};
 ghost use Rattle.pm_phrases.specs.Cases as texts;
 
-use crate::operand::{Phrase, Value, valued};
+use crate::operand::{Phrase, Value, text, valued};
 use pm_code::{Label, Signed, Target};
 use std::alloc::{AllocError, Global};
 use std::fmt;
@@ -86,6 +86,6 @@ pub(crate) fn case_on(
         (λ p. p ≡ texts.case_on table.now.low table.now.high (placed_target otherwise.now)
         table.now.places.now a.now) }
 {
-    let text = format!(in alloc; "CASE {} OF {table} ELSE {otherwise}", Value(a, 0))?;
+    let text = text!(in alloc; "CASE {} OF {table} ELSE {otherwise}", Value(a, 0))?;
     Ok(valued(text, 0))
 }

@@ -3,7 +3,7 @@
 ghost use Rattle.std.specs.Prelude.{◌≡◌, IfOk, Some};
 ghost use Rattle.pm_phrases.specs.Comparisons as texts;
 
-use crate::operand::{Phrase, Place, Value, valued};
+use crate::operand::{Phrase, Place, Value, text, valued};
 use crate::signs::relation_sign;
 use crate::spelling::{Marks, Spelling};
 use pm_families::{Kind, Relation};
@@ -50,11 +50,11 @@ pub(crate) fn compare_two(
     let sign = relation_sign(r);
     match kind {
         Kind::Real | Kind::Boolean | Kind::Set => {
-            let text = format!(in alloc; "{name} {} {sign} {}", Value(a, 2), Value(b, 2))?;
+            let text = text!(in alloc; "{name} {} {sign} {}", Value(a, 2), Value(b, 2))?;
             Ok(valued(text, 1))
         }
         Kind::String | Kind::Bytes(_) | Kind::Words(_) => {
-            let text = format!(in alloc; "{name} {} {sign} {}", Place(a), Place(b))?;
+            let text = text!(in alloc; "{name} {} {sign} {}", Place(a), Place(b))?;
             Ok(valued(text, 1))
         }
     }

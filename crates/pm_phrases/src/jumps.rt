@@ -4,7 +4,7 @@ ghost use Rattle.std.specs.Prelude.{◌≡◌, IfOk, Some};
 ghost use Rattle.pm_code.specs.Views.{placed_target};
 ghost use Rattle.pm_phrases.specs.Jumps as texts;
 
-use crate::operand::{Phrase, Value, valued};
+use crate::operand::{Phrase, Value, text, valued};
 use pm_code::Target;
 use pm_families::{Condition, Jump};
 use pm_opcode::{Instr, Operation};
@@ -30,7 +30,7 @@ pub(crate) fn jump_alone(
     ensures shown { IfOk result (λ p. p ≡ texts.jump_alone op (placed_target target.now)) }
 {
     match condition_of(op) {
-        Some(Condition::Always) => Ok(Some(valued(format!(in alloc; "GOTO {target}")?, 0))),
+        Some(Condition::Always) => Ok(Some(valued(text!(in alloc; "GOTO {target}")?, 0))),
         _ => Ok(None),
     }
 }
@@ -46,7 +46,7 @@ pub(crate) fn jump_one(
 {
     match condition_of(op) {
         Some(Condition::IfFalse) => {
-            let text = format!(in alloc; "IF NOT ({}) GOTO {target}", Value(a, 0))?;
+            let text = text!(in alloc; "IF NOT ({}) GOTO {target}", Value(a, 0))?;
             Ok(Some(valued(text, 0)))
         }
         _ => Ok(None),
@@ -66,11 +66,11 @@ pub(crate) fn jump_two(
 {
     match condition_of(op) {
         Some(Condition::IfDifferent) => {
-            let text = format!(in alloc; "IF {} <> {} GOTO {target}", Value(a, 2), Value(b, 2))?;
+            let text = text!(in alloc; "IF {} <> {} GOTO {target}", Value(a, 2), Value(b, 2))?;
             Ok(Some(valued(text, 0)))
         }
         Some(Condition::IfEqual) => {
-            let text = format!(in alloc; "IF {} = {} GOTO {target}", Value(a, 2), Value(b, 2))?;
+            let text = text!(in alloc; "IF {} = {} GOTO {target}", Value(a, 2), Value(b, 2))?;
             Ok(Some(valued(text, 0)))
         }
         _ => Ok(None),

@@ -21,5 +21,5 @@ pub mod worked;
 
 pub use around::{Around, Missing};
 pub use jumps::condition_of;
-pub use operand::{Form, Phrase, Value};
+pub use operand::{Form, Phrase, Value, push_value};
 pub use whole::phrase;

@@ -5,7 +5,7 @@ ghost use Rattle.std.specs.List.{flat_map};
 ghost use Rattle.pm_code.specs.Views.{placed_item};
 ghost use Rattle.pm_phrases.specs.Literals as texts;
 
-use crate::operand::{Form, Phrase, Value, standing};
+use crate::operand::{Form, Phrase, Value, standing, text};
 use pm_code::{Item, Quoted};
 use pm_families::Literal;
 use pm_opcode::Operation;
@@ -79,11 +79,11 @@ pub(crate) fn literal_alone(
 {
     match what {
         Literal::String(_) => {
-            let text = format!(in alloc; "{}", Apostrophes(named))?;
+            let text = text!(in alloc; "{}", Apostrophes(named))?;
             Ok(Some(standing(text, Form::Literal)))
         }
         Literal::Characters(_) => {
-            let text = format!(in alloc; "{}", Quoted(named))?;
+            let text = text!(in alloc; "{}", Quoted(named))?;
             Ok(Some(standing(text, Form::Literal)))
         }
         Literal::Words { .. } => Ok(None),

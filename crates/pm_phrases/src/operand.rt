@@ -1,11 +1,33 @@
 //! Texts as operands.
 
-ghost use Rattle.std.specs.Prelude.{◌≡◌, ◌∷◌, ◌++◌, Some, string_bytes};
+ghost use Rattle.std.specs.Prelude.{◌≡◌, ◌∷◌, ◌++◌, IfOk, IfSome, OnOk, Some, string_bytes};
 ghost use Rattle.std.specs.List.{flat_map};
 ghost use Rattle.pm_phrases.specs.Shown as shown;
 
+use std::alloc::{AllocError, Global};
 use std::fmt;
 use std::marker::Model;
+
+/// The room that a text has from the start, in bytes.
+const ROOM: usize = 24;
+
+/// A text, with room for what most texts have.
+pub(crate) fn written<D: fmt::Display + Drop>(alloc: Global, value: D) -> Result<String, AllocError>
+    ensures text { IfOk result (λ text. IfSome (D.output value) (λ bytes. string_bytes text ≡ bytes)) }
+{
+    let mut text = String::with_capacity(alloc, ROOM)?;
+    text.write(value)?;
+    Ok(text)
+}
+
+/// A text of what `format_args!` takes.
+macro_rules! text {
+    (in $alloc:expr; $($arg:tt)+) => {
+        crate::operand::written($alloc, format_args!($($arg)+))
+    };
+}
+
+pub(crate) use text;
 
 /// How a text stands as an operand.
 #[derive(Clone, Copy, Drop)]
@@ -113,6 +135,15 @@ impl fmt::Display for Value<'_> {
             write!(f, "{lead}{text}")
         }
     }
+}
+
+/// Adds a text as a value that stands alone.
+#[tactic(auto, unfolding(crate::specs::Shown::value_text))]
+pub fn push_value(out: &mut String, phrase: &Phrase) -> Result<(), AllocError>
+    ensures text { OnOk result (string_bytes out.new ≡ string_bytes out.old ++ shown.value_text phrase.now 0) }
+{
+    out.push_str(lead_of(phrase.form))?;
+    out.push_str(phrase.text.as_str())
 }
 
 /// What an operand leads to, which is an address.

@@ -4,7 +4,7 @@ ghost use Rattle.std.specs.Prelude.{◌≡◌, IfOk, Some, string_bytes};
 ghost use Rattle.pm_phrases.specs.Parts as texts;
 
 use crate::literals::Beside;
-use crate::operand::{Form, Phrase, Place, Value, standing, valued};
+use crate::operand::{Form, Phrase, Place, Value, standing, text, valued};
 use pm_families::{Byte, Field, Text};
 use std::alloc::{AllocError, Global};
 
@@ -14,7 +14,7 @@ fn part_stored(alloc: Global, kind: Form, a: &Phrase, b: &Phrase) -> Result<Phra
     ensures shown { IfOk result (λ p. p ≡ texts.part_stored kind a.now b.now) }
 {
     let text = &a.text;
-    Ok(valued(format!(in alloc; "{text} := {}", Beside(kind, b, 0))?, 0))
+    Ok(valued(text!(in alloc; "{text} := {}", Beside(kind, b, 0))?, 0))
 }
 
 #[tactic(auto, unfolding(crate::specs::Parts::byte_one))]
@@ -24,7 +24,7 @@ pub(crate) fn byte_one(alloc: Global, what: Byte, a: &Phrase) -> Result<Option<P
     match (what, a.form) {
         (Byte::Load, Form::Character) => {
             let text = &a.text;
-            Ok(Some(standing(format!(in alloc; "{text}")?, Form::Byte)))
+            Ok(Some(standing(text!(in alloc; "{text}")?, Form::Byte)))
         }
         _ => Ok(None),
     }
@@ -41,7 +41,7 @@ pub(crate) fn byte_two(
 {
     match (what, a.form) {
         (Byte::Load, _) => {
-            let text = format!(in alloc; "{}.byte[{}]", Place(a), Value(b, 0))?;
+            let text = text!(in alloc; "{}.byte[{}]", Place(a), Value(b, 0))?;
             Ok(Some(standing(text, Form::Byte)))
         }
         (Byte::Store, Form::Character) => Ok(Some(part_stored(alloc, Form::Byte, a, b)?)),
@@ -63,7 +63,7 @@ pub(crate) fn byte_three(
         Byte::Load => Ok(None),
         Byte::Store => {
             let (a, b, c) = (Place(a), Value(b, 0), Beside(Form::Byte, c, 0));
-            Ok(Some(valued(format!(in alloc; "{a}.byte[{b}] := {c}")?, 0)))
+            Ok(Some(valued(text!(in alloc; "{a}.byte[{b}] := {c}")?, 0)))
         }
     }
 }
@@ -79,11 +79,11 @@ pub(crate) fn text_two(
 {
     match what {
         Text::Index => {
-            let text = format!(in alloc; "{}.char[{}]", Place(a), Value(b, 0))?;
+            let text = text!(in alloc; "{}.char[{}]", Place(a), Value(b, 0))?;
             Ok(standing(text, Form::Character))
         }
         Text::Assign(n) => {
-            let text = format!(in alloc; "{} := string[{n}] {}", Place(a), Place(b))?;
+            let text = text!(in alloc; "{} := string[{n}] {}", Place(a), Place(b))?;
             Ok(valued(text, 0))
         }
     }
@@ -100,7 +100,7 @@ pub(crate) fn field_one(
     match (what, a.form) {
         (Field::Load, Form::Bits) => {
             let text = &a.text;
-            Ok(Some(valued(format!(in alloc; "{text}")?, 9)))
+            Ok(Some(valued(text!(in alloc; "{text}")?, 9)))
         }
         _ => Ok(None),
     }
@@ -118,7 +118,7 @@ pub(crate) fn field_two(
     match (what, a.form) {
         (Field::Index { per_word, width }, _) => {
             let (a, b) = (Place(a), Value(b, 0));
-            let text = format!(in alloc; "{a}.packed[{b}: {per_word} of {width} bits]")?;
+            let text = text!(in alloc; "{a}.packed[{b}: {per_word} of {width} bits]")?;
             Ok(Some(standing(text, Form::Bits)))
         }
         (Field::Store, Form::Bits) => Ok(Some(part_stored(alloc, Form::Bits, a, b)?)),
@@ -138,7 +138,7 @@ pub(crate) fn field_three(
 {
     match what {
         Field::Load => {
-            let text = format!(in alloc; "{}.bits[{}: {}]", Place(a), Value(b, 0), Value(c, 0))?;
+            let text = text!(in alloc; "{}.bits[{}: {}]", Place(a), Value(b, 0), Value(c, 0))?;
             Ok(Some(valued(text, 9)))
         }
         _ => Ok(None),
@@ -159,7 +159,7 @@ pub(crate) fn field_four(
     match what {
         Field::Store => {
             let (a, b, c, d) = (Place(a), Value(b, 0), Value(c, 0), Value(d, 0));
-            Ok(Some(valued(format!(in alloc; "{a}.bits[{b}: {c}] := {d}")?, 0)))
+            Ok(Some(valued(text!(in alloc; "{a}.bits[{b}: {c}] := {d}")?, 0)))
         }
         _ => Ok(None),
     }

@@ -3,7 +3,7 @@
 ghost use Rattle.std.specs.Prelude.{◌≡◌, IfOk, Some};
 ghost use Rattle.pm_phrases.specs.Pointers as texts;
 
-use crate::operand::{Form, Phrase, Place, Stored, Value, standing, valued};
+use crate::operand::{Form, Phrase, Place, Stored, Value, standing, text, valued};
 use crate::spelling::{Marks, Spelling};
 use pm_families::Pointer;
 use std::alloc::{AllocError, Global};
@@ -25,9 +25,9 @@ fn loaded(alloc: Global, spelling: Spelling, number: u16, a: &Phrase) -> Result<
     ensures shown { IfOk result (λ p. p ≡ texts.loaded spelling number a.now) }
 {
     if is_unnumbered(spelling, a.form, number) {
-        Ok(valued(format!(in alloc; "{}", Place(a))?, 9))
+        Ok(valued(text!(in alloc; "{}", Place(a))?, 9))
     } else {
-        let text = format!(in alloc; "{}.{number}{}", Place(a), Marks(spelling))?;
+        let text = text!(in alloc; "{}.{number}{}", Place(a), Marks(spelling))?;
         Ok(valued(text, 9))
     }
 }
@@ -43,11 +43,11 @@ pub(crate) fn pointer_one(
 {
     match what {
         Pointer::Increment(n) => {
-            let text = format!(in alloc; "{}.{n}{}", Place(a), Marks(spelling))?;
+            let text = text!(in alloc; "{}.{n}{}", Place(a), Marks(spelling))?;
             Ok(Some(standing(text, Form::Place)))
         }
         Pointer::Load(n) => Ok(Some(loaded(alloc, spelling, n, a)?)),
-        Pointer::LoadWords(n) => Ok(Some(valued(format!(in alloc; "load[{n}] {}", Place(a))?, 4))),
+        Pointer::LoadWords(n) => Ok(Some(valued(text!(in alloc; "load[{n}] {}", Place(a))?, 4))),
         _ => Ok(None),
     }
 }
@@ -64,12 +64,12 @@ fn indexed(
 {
     match spelling {
         Spelling::Shortest if number == 1 => {
-            let text = format!(in alloc; "{}[{}]", Place(a), Value(b, 0))?;
+            let text = text!(in alloc; "{}[{}]", Place(a), Value(b, 0))?;
             Ok(standing(text, Form::Element))
         }
         _ => {
             let marks = Marks(spelling);
-            let text = format!(in alloc; "{}[{}:{number}{marks}]", Place(a), Value(b, 0))?;
+            let text = text!(in alloc; "{}[{}:{number}{marks}]", Place(a), Value(b, 0))?;
             Ok(standing(text, Form::Element))
         }
     }
@@ -86,7 +86,7 @@ fn moved(
     ensures shown { IfOk result (λ p. p ≡ texts.moved spelling number a.now b.now) }
 {
     let marks = Marks(spelling);
-    let text = format!(in alloc; "{} := move[{number}{marks}] {}", Place(a), Place(b))?;
+    let text = text!(in alloc; "{} := move[{number}{marks}] {}", Place(a), Place(b))?;
     Ok(valued(text, 0))
 }
 
@@ -103,11 +103,11 @@ pub(crate) fn pointer_two(
     match what {
         Pointer::Index(n) => Ok(Some(indexed(alloc, spelling, n, a, b)?)),
         Pointer::Store => {
-            let text = format!(in alloc; "{} := {}", Stored(a), Value(b, 0))?;
+            let text = text!(in alloc; "{} := {}", Stored(a), Value(b, 0))?;
             Ok(Some(valued(text, 0)))
         }
         Pointer::StoreWords(n) => {
-            let text = format!(in alloc; "{} :=[{n}] {}", Place(a), Value(b, 0))?;
+            let text = text!(in alloc; "{} :=[{n}] {}", Place(a), Value(b, 0))?;
             Ok(Some(valued(text, 0)))
         }
         Pointer::Move(n) => Ok(Some(moved(alloc, spelling, n, a, b)?)),

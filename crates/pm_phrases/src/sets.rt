@@ -3,7 +3,7 @@
 ghost use Rattle.std.specs.Prelude.{◌≡◌, ◌<◌, ◌*◌, IfOk, Some, option_map};
 ghost use Rattle.pm_phrases.specs.Sets as texts;
 
-use crate::operand::{Form, Phrase, Value, standing, valued};
+use crate::operand::{Form, Phrase, Value, standing, text, valued};
 use pm_families::Set;
 use std::alloc::{AllocError, Global};
 use std::fmt;
@@ -185,10 +185,10 @@ pub(crate) fn set_one(alloc: Global, what: Set, a: &Phrase) -> Result<Option<Phr
     match what {
         Set::Singleton => {
             let mark = constant_mark(a.form, a.form);
-            let text = format!(in alloc; "[{}]{mark}", Value(a, 0))?;
+            let text = text!(in alloc; "[{}]{mark}", Value(a, 0))?;
             Ok(Some(standing(text, Form::Set(9))))
         }
-        Set::Adjust(n) => Ok(Some(valued(format!(in alloc; "adj[{n}] {}", SetText(a, 4))?, 4))),
+        Set::Adjust(n) => Ok(Some(valued(text!(in alloc; "adj[{n}] {}", SetText(a, 4))?, 4))),
         _ => Ok(None),
     }
 }
@@ -204,23 +204,23 @@ pub(crate) fn set_two(
 {
     match what {
         Set::Member => {
-            let text = format!(in alloc; "{} IN {}", Value(a, 2), SetText(b, 2))?;
+            let text = text!(in alloc; "{} IN {}", Value(a, 2), SetText(b, 2))?;
             Ok(Some(valued(text, 1)))
         }
         Set::Subrange => {
             let mark = constant_mark(a.form, b.form);
-            let text = format!(in alloc; "[{}..{}]{mark}", Value(a, 0), Value(b, 0))?;
+            let text = text!(in alloc; "[{}..{}]{mark}", Value(a, 0), Value(b, 0))?;
             Ok(Some(standing(text, Form::Set(9))))
         }
         Set::Adjust(n) => {
-            let text = format!(in alloc; "adj[{n}] {}", Counted(a, b))?;
+            let text = text!(in alloc; "adj[{n}] {}", Counted(a, b))?;
             Ok(Some(valued(text, 4)))
         }
         _ => match (set_sign(what), a.form, b.form) {
             (Some(sign), Form::Set(_) | Form::Constant(0), Form::Set(_) | Form::Constant(0)) => {
                 let strength = set_strength(what);
                 let (a, b) = (SetText(a, strength), SetText(b, strength + 1));
-                let text = format!(in alloc; "{a} {sign} {b}")?;
+                let text = text!(in alloc; "{a} {sign} {b}")?;
                 Ok(Some(standing(text, Form::Set(strength))))
             }
             _ => Ok(None),
@@ -241,18 +241,18 @@ pub(crate) fn set_three(
 {
     match what {
         Set::Member => {
-            let text = format!(in alloc; "{} IN {}", Value(a, 2), Counted(b, c))?;
+            let text = text!(in alloc; "{} IN {}", Value(a, 2), Counted(b, c))?;
             Ok(Some(valued(text, 1)))
         }
         _ => match (set_sign(what), a.form, c.form) {
             (Some(sign), Form::Set(_), _) => {
                 let strength = set_strength(what);
-                let text = format!(in alloc; "{} {sign} {}", Value(a, strength), Counted(b, c))?;
+                let text = text!(in alloc; "{} {sign} {}", Value(a, strength), Counted(b, c))?;
                 Ok(Some(standing(text, Form::Set(strength))))
             }
             (Some(sign), _, Form::Set(_)) => {
                 let strength = set_strength(what);
-                let text = format!(in alloc;
+                let text = text!(in alloc;
                     "{} {sign} {}",
                     Counted(a, b),
                     Value(c, strength + 1)
@@ -279,7 +279,7 @@ pub(crate) fn set_four(
         (_, Form::Set(_) | Form::Constant(0), _) => Ok(None),
         (_, _, Form::Set(_) | Form::Constant(0)) => Ok(None),
         (Some(sign), _, _) => {
-            let text = format!(in alloc; "{} {sign} {}", Counted(a, b), Counted(c, d))?;
+            let text = text!(in alloc; "{} {sign} {}", Counted(a, b), Counted(c, d))?;
             Ok(Some(standing(text, Form::Set(set_strength(what)))))
         }
         (None, _, _) => Ok(None),

@@ -4,7 +4,7 @@ ghost use Rattle.std.specs.Prelude.{◌≡◌, IfOk, Some};
 ghost use Rattle.pm_phrases.specs.Variables as texts;
 
 use crate::around::Around;
-use crate::operand::{Form, Phrase, Value, standing, valued};
+use crate::operand::{Form, Phrase, Value, standing, text, valued};
 use crate::spelling::{Marks, Spelling};
 use pm_families::{Scope, Variable};
 use std::alloc::{AllocError, Global};
@@ -56,11 +56,11 @@ pub(crate) fn variable_alone(
     match what {
         Variable::Address(scope, number) => {
             let name = Named(around, scope, number, spelling);
-            Ok(Some(standing(format!(in alloc; "{name}")?, Form::Variable)))
+            Ok(Some(standing(text!(in alloc; "{name}")?, Form::Variable)))
         }
         Variable::Load(scope, number) => {
             let name = Named(around, scope, number, spelling);
-            Ok(Some(valued(format!(in alloc; "{name}")?, 9)))
+            Ok(Some(valued(text!(in alloc; "{name}")?, 9)))
         }
         Variable::Store(_, _) => Ok(None),
     }
@@ -79,7 +79,7 @@ pub(crate) fn variable_one(
     match what {
         Variable::Store(scope, number) => {
             let name = Named(around, scope, number, spelling);
-            Ok(Some(valued(format!(in alloc; "{name} := {}", Value(a, 0))?, 0)))
+            Ok(Some(valued(text!(in alloc; "{name} := {}", Value(a, 0))?, 0)))
         }
         _ => Ok(None),
     }

@@ -9,7 +9,7 @@ use crate::around::{AllArguments, Around, Missing, Pops, stand_ins};
 use crate::calls::called;
 use crate::counts::{behind_one, behind_two, by_count, operation_in};
 use crate::literals::words_in;
-use crate::operand::{Form, Phrase};
+use crate::operand::{Form, Phrase, text};
 use pm_code::Item;
 use std::alloc::{AllocError, Global};
 
@@ -54,7 +54,7 @@ pub fn phrase(
         Some(phrase) => Ok(phrase),
         None => {
             Ok(Phrase {
-                text: format!(in alloc; "{{{item}}}{arguments}")?,
+                text: text!(in alloc; "{{{item}}}{arguments}")?,
                 form: Form::Value(9),
                 words: words_in(alloc, item)?,
             })

@@ -5,6 +5,7 @@ use Rattle.pm_codefile.specs.Dictionary.{segment_in}
 use Rattle.pm_codefile.specs.Segments.{attributes_in}
 use Rattle.pm_statements.specs.Callees.{system_callee}
 use Rattle.std.specs.Fmt.{decimal}
+use Rattle.std.specs.List.{AllByRecursion}
 use Rattle.std.proofs.lemmas.List.{append-nil}
 use Rattle.pm_code.specs.Shown.{label_text}
 use Rattle.pm_statements.specs.Files.{callee_in, callees_from, entry_lines, numbered_text, slot_callees, slot_text, slots_callees}
@@ -90,3 +91,8 @@ entries_step k place places all out new whole e n i =
 
 pub entries_done : (k : ℕ) (all out whole : List ℕ) → all ≡ [] → out ++ entry_lines k all ≡ whole → out ≡ whole
 entries_done k all out whole e i = sym (ap (λ l. out ++ entry_lines k l) e ∙ append-nil out) ∙ i
+
+-- one more of which something is known
+pub all_behind : {A : Type 0} (P : A → Type 0) (xs : List A) (x : A) → AllByRecursion P xs → P x → AllByRecursion P (xs ++ x ∷ [])
+all_behind P [] x h p = (p, tt)
+all_behind P (y ∷ xs) x h p = (h.0, all_behind P xs x h.1 p)

@@ -6,14 +6,14 @@ use Rattle.pm_trees.specs.Lines.{depth_at, depth_behind, is_extra}
 use Rattle.pm_trees.specs.declared.line.Line.{Line}
 use Rattle.pm_trees.specs.declared.line.Word.{Word}
 use Rattle.pm_trees.specs.declared.line.Word.TheVariants as word
-use Rattle.pm_code.specs.Shown.{padded, target_text}
+use Rattle.pm_code.specs.Shown.{target_text}
 use Rattle.pm_code.specs.Views.{placed_target}
 use Rattle.pm_families.specs.declared.families.Condition.TheVariants as condition
 use Rattle.pm_phrases.specs.Shown.{Shown, value_text}
 use Rattle.pm_trees.specs.declared.left.Left.{Left}
 use Rattle.pm_trees.specs.declared.left.Role.{Role}
 use Rattle.pm_trees.specs.declared.left.Role.TheVariants as role
-use Rattle.pm_statements.specs.Texts.{blanks, is_call, is_check, place_lines, push_text}
+use Rattle.pm_statements.specs.Texts.{blanks, front, is_call, is_check, push_text}
 
 -- ---- the condition of a jump
 
@@ -52,7 +52,7 @@ abbrev pub worded_line : ℕ → Bool → Word → Left → Shown → List ℕ
 worded_line depth behind_call w l s =
     if behind_call && is_check l
     then 32 ∷ value_text s 0
-    else (place_lines l.place ++ (10 ∷ padded 5 l.place.offset ++ 32 ∷ [])) ++ (blanks depth ++ word_text w l s)
+    else front l.place ++ (blanks depth ++ word_text w l s)
 
 -- the first of some statements, if there is one
 abbrev pub first_line : ℕ → Bool → Word → List Left → List Shown → List ℕ

@@ -1,13 +1,15 @@
 -- The text of a code file as statements.
 use Rattle.std.specs.Prelude.{◌≡◌, ℕ, zero, suc, ◌+◌, ◌==◌, List, [], ◌∷◌, ◌++◌, nat_le, Option, Some, None}
-use Rattle.std.specs.Prelude.{◌*◌, codes, string_bytes, if◌then◌else◌}
+use Rattle.std.specs.Prelude.{◌*◌, codes, string_bytes, if◌then◌else◌, IfSome}
 use Rattle.std.specs.Fmt.{decimal, signed_decimal}
+use Rattle.std.specs.List.{AllByRecursion}
 use Rattle.pm_codefile.specs.Dictionary.{segment_in}
 use Rattle.pm_codefile.specs.Segments.{attributes_in, procedures_in}
 use Rattle.pm_codefile.specs.declared.table.Attributes.{Attributes}
 use Rattle.pm_disasm.specs.Split.{procedure_of}
 use Rattle.pm_code.specs.Program.{Procedure}
 use Rattle.pm_code.specs.Shown.{label_text}
+use Rattle.pm_code.specs.Views.{procedure_seen}
 use Rattle.pm_statements.specs.Callees.{callee_of, no_return, returns_from, system_callee}
 use Rattle.pm_trees.specs.Parts.{Known}
 use Rattle.pm_statements.specs.Bodies.{procedure_statements}
@@ -17,6 +19,7 @@ use Rattle.pm_trees.specs.declared.items.Layout.{Layout}
 use Rattle.pm_trees.specs.declared.items.Layout.TheVariants as layouts
 use Rattle.pm_trees.specs.declared.part.Callee.{Callee}
 use Rattle.pm_statements.specs.declared.sized.SizedTable.{SizedTable}
+use Rattle.pm_statements.specs.declared.sized.SizedSegment.{SizedSegment}
 use Rattle.pm_statements.specs.declared.shown.ShownTable.{ShownTable}
 
 -- ---- what the procedures of a file take and leave
@@ -54,9 +57,17 @@ slots_callees file n (suc count) = slot_callees n (segment_in file n) ++ slots_c
 unfoldable pub file_callees : List ℕ → List (Option Callee)
 file_callees file = slots_callees file 0 16
 
--- what a table's procedure takes and leaves in this segment
+-- a table's procedure in this segment, if it is kept
+abbrev pub IsKept : List ℕ → SizedTable → Type 0
+IsKept segment s = IfSome s.procedure (λ p. procedure_seen p ≡ procedure_of segment s.table)
+
+-- what a table's procedure takes and leaves in this segment, and the procedure, if it is kept
 abbrev pub IsSizedTable : List ℕ → SizedTable → Type 0
-IsSizedTable segment s = s.callee ≡ table_callee segment s.table
+IsSizedTable segment s = (s.callee ≡ table_callee segment s.table) × IsKept segment s
+
+-- a segment with tables of it
+abbrev pub IsSizedSegment : SizedSegment → Type 0
+IsSizedSegment s = AllByRecursion (IsSizedTable s.segment.now) s.tables.items
 
 -- ---- the text
 
@@ -84,12 +95,15 @@ entry_lines k (place ∷ places) =
 abbrev pub returns_in : Procedure → Returns
 returns_in p = returns_from no_return p.items
 
--- A procedure by its table: that line, and behind it those of its jump table and of its statements. Where its exit code
--- lies before its code it has none.
+-- a procedure with code: that line, and behind it those of its jump table and of its statements
+abbrev pub code_text : Known → Attributes → Procedure → List ℕ
+code_text k a p =
+    ((header k.segment a (returns_in p) ++ entry_lines 0 p.entries) ++ procedure_statements k p) ++ 10 ∷ []
+
+-- A procedure by its table. Where its exit code lies before its code it has none.
 unfoldable pub table_text : Known → List ℕ → Attributes → List ℕ
 table_text k segment a = if nat_le a.enter a.exit
-    then ((header k.segment a (returns_in (procedure_of segment a)) ++ entry_lines 0 (procedure_of segment a).entries)
-    ++ procedure_statements k (procedure_of segment a)) ++ 10 ∷ []
+    then code_text k a (procedure_of segment a)
     else named a.procedure k.segment ++ (codes ": no code" ++ 10 ∷ [])
 
 -- procedure p of a segment, by its number alone where it has no table

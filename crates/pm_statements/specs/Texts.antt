@@ -25,6 +25,10 @@ place_lines p =
     (if p.has_label then 10 ∷ label_text p.offset ++ codes ":" else [])
     ++ (if p.is_exit then 10 ∷ codes "EXIT:" else [])
 
+-- those, and the offset, behind a line feed and before a blank
+abbrev pub front : Place → List ℕ
+front p = place_lines p ++ (10 ∷ padded 5 p.offset ++ 32 ∷ [])
+
 abbrev pub has_call_role : Role → Bool
 has_call_role role.Call = true
 has_call_role _ = false
@@ -59,8 +63,7 @@ abbrev pub line : ℕ → Bool → Left → Shown → List ℕ
 line depth behind_call l s =
     if behind_call && is_check l
     then 32 ∷ value_text s 0
-    else (place_lines l.place ++ (10 ∷ padded 5 l.place.offset ++ 32 ∷ []))
-    ++ (blanks depth ++ (push_text l.leaves ++ value_text s 0))
+    else front l.place ++ (blanks depth ++ (push_text l.leaves ++ value_text s 0))
 
 -- statements, the first one first, behind a call or not
 unfoldable pub lines : Depths → Bool → List Left → List Shown → List ℕ

@@ -5,8 +5,7 @@ ghost use Rattle.pm_statements.specs.BlockLines as texts;
 
 use crate::conditions::push_condition;
 use crate::leading::behind_first;
-use crate::lines::{PlaceLines, Push, is_call, is_check, push_blanks};
-use pm_code::FiveDigits;
+use crate::lines::{is_call, is_check, push_beside, push_blanks, push_front, push_own};
 use pm_phrases::{Phrase, Value};
 use pm_trees::{Left, Line, Role, Word};
 use std::alloc::{AllocError, Global};
@@ -44,11 +43,7 @@ fn push_word(
 {
     let text = phrase.text.as_str();
     match word {
-        Word::Plain(_) => {
-            let push = Push(left.leaves);
-            let value = Value(phrase, 0);
-            write!(out, "{push}{value}")?;
-        }
+        Word::Plain(_) => push_own(out, left.leaves, phrase)?,
         Word::If => push_between(alloc, out, "IF ", left.role, text, " THEN")?,
         Word::While => push_between(alloc, out, "WHILE ", left.role, text, " DO")?,
         Word::Until => {
@@ -82,13 +77,9 @@ fn push_worded(
         ≡ string_bytes out.old ++ texts.worded_line depth behind_call word left.now phrase.now) }
 {
     if behind_call && is_check(left) {
-        let text = Value(phrase, 0);
-        write!(out, " {text}")?;
-        return Ok(());
+        return push_beside(out, phrase);
     }
-    let labels = PlaceLines(left.place);
-    let offset = FiveDigits(left.place.offset);
-    write!(out, "{labels}\n{offset} ")?;
+    push_front(out, left.place)?;
     push_blanks(out, depth)?;
     push_word(alloc, out, word, left, phrase)
 }

@@ -1,51 +1,51 @@
 //! Statements as lines.
 
-ghost use Rattle.std.specs.Prelude.{◌≡◌, ◌++◌, false, string_bytes, OnOk, Some};
+ghost use Rattle.std.specs.Prelude.{◌≡◌, ◌∷◌, ◌++◌, false, string_bytes, OnOk};
+ghost use Rattle.pm_phrases.specs.Shown.{value_text};
 ghost use Rattle.pm_statements.specs.Texts as texts;
 
 use crate::depths::Depths;
 use pm_code::{FiveDigits, Label};
-use pm_phrases::{Phrase, Value};
+use pm_phrases::{Phrase, push_value};
 use pm_trees::{Leaves, Left, Pile, Place, Role, is_reached, leaves_nothing};
 use std::alloc::AllocError;
-use std::fmt;
 use std::fmt::Write;
 
 /// The deepest level that has blanks.
 const DEEPEST: usize = 30;
 
-/// The lines of a label and of the exit code, each behind a line feed.
-#[derive(Clone, Copy)]
-pub(crate) struct PlaceLines(pub(crate) Place);
-
-impl fmt::Display for PlaceLines {
-    ghost output = { λ p. Some (texts.place_lines p.0) };
-
-    fn fmt<W: fmt::Write>(&self, f: &mut fmt::Formatter<W>) -> fmt::Result {
-        let place = self.0;
-        if place.has_label {
-            write!(f, "\n{}:", Label(place.offset))?;
-        }
-        if place.is_exit {
-            write!(f, "\nEXIT:")?;
-        }
-        Ok(())
+/// Adds the lines of a label and of the exit code, each behind a line feed.
+pub(crate) fn push_place_lines(out: &mut String, place: Place) -> Result<(), AllocError>
+    ensures text { OnOk result (string_bytes out.new ≡ string_bytes out.old ++ texts.place_lines place) }
+{
+    if place.has_label {
+        let label = Label(place.offset);
+        write!(out, "\n{label}:")?;
     }
+    if place.is_exit {
+        out.push_str("\nEXIT:")?;
+    }
+    Ok(())
 }
 
-/// What stands before a statement that leaves something.
-#[derive(Clone, Copy)]
-pub(crate) struct Push(pub(crate) Leaves);
-
-impl fmt::Display for Push {
-    ghost output = { λ p. Some (texts.push_text p.0) };
-
-    fn fmt<W: fmt::Write>(&self, f: &mut fmt::Formatter<W>) -> fmt::Result {
-        if leaves_nothing(self.0) {
-            return Ok(());
-        }
-        write!(f, "PUSH ")
+/// Adds a statement's own text, behind `PUSH` where it leaves something.
+pub(crate) fn push_own(out: &mut String, leaves: Leaves, phrase: &Phrase) -> Result<(), AllocError>
+    ensures text { OnOk result (string_bytes out.new
+        ≡ string_bytes out.old ++ (texts.push_text leaves ++ value_text phrase.now 0)) }
+{
+    if !leaves_nothing(leaves) {
+        out.push_str("PUSH ")?;
     }
+    push_value(out, phrase)
+}
+
+/// Adds a check to the line of the call before it.
+pub(crate) fn push_beside(out: &mut String, check: &Phrase) -> Result<(), AllocError>
+    ensures text { OnOk result (string_bytes out.new
+        ≡ string_bytes out.old ++ (32 ∷ value_text check.now 0)) }
+{
+    out.push_str(" ")?;
+    push_value(out, check)
 }
 
 /// Whether a statement is a call.
@@ -73,6 +73,16 @@ pub(crate) fn push_blanks(out: &mut String, depth: usize) -> Result<(), AllocErr
     Ok(())
 }
 
+/// Adds what stands before the blanks of a statement: the lines of its place, and its offset.
+pub(crate) fn push_front(out: &mut String, place: Place) -> Result<(), AllocError>
+    ensures text { OnOk result (string_bytes out.new ≡ string_bytes out.old ++ texts.front place) }
+{
+    push_place_lines(out, place)?;
+    let offset = FiveDigits(place.offset);
+    write!(out, "\n{offset} ")?;
+    Ok(())
+}
+
 /// Adds a statement, behind a line feed or on the line of the call before it.
 fn push_line(
     out: &mut String,
@@ -84,18 +94,12 @@ fn push_line(
     ensures text { OnOk result (string_bytes out.new
         ≡ string_bytes out.old ++ texts.line depth behind_call left.now phrase.now) }
 {
-    let text = Value(phrase, 0);
     if behind_call && is_check(left) {
-        write!(out, " {text}")?;
-        return Ok(());
+        return push_beside(out, phrase);
     }
-    let labels = PlaceLines(left.place);
-    let offset = FiveDigits(left.place.offset);
-    write!(out, "{labels}\n{offset} ")?;
+    push_front(out, left.place)?;
     push_blanks(out, depth)?;
-    let push = Push(left.leaves);
-    write!(out, "{push}{text}")?;
-    Ok(())
+    push_own(out, left.leaves, phrase)
 }
 
 /// Adds statements.

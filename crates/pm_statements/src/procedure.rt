@@ -13,13 +13,12 @@ use crate::block_labels::{all_relabelled, shown_labels};
 use crate::block_lines::push_block_lines;
 use crate::depths::depths_if;
 use crate::leading::stretches;
-use crate::lines::{PlaceLines, push_statements};
+use crate::lines::{push_place_lines, push_statements};
 use crate::marks::labels_of;
 use pm_code::{Item, Procedure, items_end};
 use pm_phrases::{Around, Phrase};
 use pm_trees::{Known, Layout, Left, Line, Part, Pile, Place, blocks, part_of, statements};
 use std::alloc::{AllocError, Global};
-use std::fmt::Write;
 
 /// A place, where these have labels and the exit code begins at one.
 #[tactic(auto, using(crate::proofs::Marked::place_known))]
@@ -76,9 +75,7 @@ fn push_end(out: &mut String, labels: &[bool], procedure: &Procedure) -> Result<
     let Some(end) = items_end(procedure.start, &procedure.items) else {
         return Err(AllocError);
     };
-    let lines = PlaceLines(place_at(labels, procedure.exit, end));
-    write!(out, "{lines}")?;
-    Ok(())
+    push_place_lines(out, place_at(labels, procedure.exit, end))
 }
 
 /// Adds statements by depth, or as they are.

@@ -6,16 +6,18 @@ ghost use Rattle.std.specs.List.{AllByRecursion};
 ghost use Rattle.pm_codefile.specs.Dictionary.{segment_in};
 ghost use Rattle.pm_codefile.specs.Segments.{attributes_in, procedures_in};
 ghost use Rattle.pm_codefile.specs.declared.table.Attributes.{Attributes};
+ghost use Rattle.pm_code.specs.Views.{procedure_seen};
 ghost use Rattle.pm_disasm.specs.Offsets.{IsDecoded};
+ghost use Rattle.pm_disasm.specs.Split.{procedure_of};
 ghost use Rattle.pm_statements.specs.Files as files;
 
 use crate::callees::{Returns, returns_of};
 use crate::procedure::push_procedure;
-use crate::sized::file_callees;
-use pm_code::Label;
+use crate::sized::{Sized, SizedSegment, SizedTable, file_sizes};
+use pm_code::{Label, Procedure};
 use pm_codefile::{Attributes, CodeFile, attributes, procedures};
 use pm_disasm::{Decoded, code, decode_segment};
-use pm_trees::{Callee, Known, Layout};
+use pm_trees::{Known, Layout};
 use std::alloc::{AllocError, Global};
 use std::fmt;
 use std::fmt::Write;
@@ -98,13 +100,6 @@ fn slot_of(known: &Known<'_>) -> u8
     known.segment
 }
 
-/// Whether the exit code of a procedure does not lie before its code.
-fn has_code(a: &Attributes) -> bool
-    ensures code { result ≡ nat_le a.now.enter a.now.exit }
-{
-    a.enter <= a.exit
-}
-
 /// Adds a line for each entry of a jump table, behind a line feed: its number, and where it leads.
 #[tactic(auto, using(crate::proofs::Filed::entries_done))]
 fn push_entries(out: &mut String, entries: &[usize]) -> Result<(), AllocError>
@@ -117,35 +112,92 @@ fn push_entries(out: &mut String, entries: &[usize]) -> Result<(), AllocError>
     Ok(())
 }
 
+/// Adds the text of a procedure with code.
+fn push_code(
+    alloc: Global,
+    text: &mut String,
+    known: &Known<'_>,
+    a: &Attributes,
+    procedure: &Procedure,
+) -> Result<(), AllocError>
+    ensures text { OnOk result (string_bytes text.new ≡ string_bytes text.old
+        ++ files.code_text known.now a.now (procedure_seen procedure.now)) }
+{
+    let returns = returns_of(&procedure.items);
+    let header = Header(slot_of(known), *a, returns);
+    write!(text, "{header}")?;
+    push_entries(text, &procedure.entries)?;
+    push_procedure(alloc, text, known, procedure)?;
+    text.push_str("\n")?;
+    Ok(())
+}
+
+/// The procedure of a table, where it was kept.
+fn kept<'a>(tables: &'a [SizedTable], a: &Attributes) -> Option<&'a Procedure>
+    ensures procedure { (segment : List ℕ) → AllByRecursion (files.IsSizedTable segment) tables.now
+        → IfSome result (λ p. procedure_seen p.now ≡ procedure_of segment a.now) }
+{
+    for known in tables {
+        if known.table == *a {
+            return known.procedure.as_ref();
+        }
+    }
+    None
+}
+
+/// The procedure of a table, read anew; its segment is decoded once.
+fn read_anew<'a>(
+    alloc: Global,
+    segment: &'a [u8],
+    decoded: &mut Option<Decoded<'a>>,
+    a: &Attributes,
+) -> Result<Procedure, AllocError>
+    requires short { length segment.now ≤ 65534 }
+    requires of_segment { (p : ℕ) × (attributes_in segment.now p ≡ Some a.now) }
+    requires order { a.now.enter ≤ a.now.exit }
+    requires decoded { IfSome decoded.old (λ d. IsDecoded d segment.now) }
+    ensures procedure { IfOk result (λ p. procedure_seen p ≡ procedure_of segment.now a.now) }
+    ensures decoded { OnOk result (IfSome decoded.new (λ d. IsDecoded d segment.now)) }
+{
+    if let Some(known) = decoded {
+        return code(alloc, segment, known, a);
+    }
+    let new = decode_segment(alloc, segment)?;
+    let procedure = code(alloc, segment, &new, a)?;
+    *decoded = Some(new);
+    Ok(procedure)
+}
+
 /// Adds a procedure by its table.
+#[tactic(auto, unfolding(crate::specs::Files::table_text))]
 fn push_table<'a>(
     alloc: Global,
     text: &mut String,
     known: &Known<'_>,
-    segment: &'a [u8],
-    decoded: &Decoded<'a>,
+    sized: &SizedSegment<'a>,
+    decoded: &mut Option<Decoded<'a>>,
     a: &Attributes,
 ) -> Result<(), AllocError>
-    requires short { length segment.now ≤ 65534 }
-    requires of_segment { (p : ℕ) × (attributes_in segment.now p ≡ Some a.now) }
-    requires decoded { IsDecoded decoded.now segment.now }
+    requires short { length sized.now.segment.now ≤ 65534 }
+    requires of_segment { (p : ℕ) × (attributes_in sized.now.segment.now p ≡ Some a.now) }
+    requires sized { files.IsSizedSegment sized.now }
+    requires decoded { IfSome decoded.old (λ d. IsDecoded d sized.now.segment.now) }
     ensures text { OnOk result (string_bytes text.new
-        ≡ string_bytes text.old ++ files.table_text known.now segment.now a.now) }
+        ≡ string_bytes text.old ++ files.table_text known.now sized.now.segment.now a.now) }
+    ensures decoded { OnOk result (IfSome decoded.new (λ d. IsDecoded d sized.now.segment.now)) }
 {
-    let slot = slot_of(known);
-    if !has_code(a) {
-        let named = Named(a.procedure, slot);
+    if a.exit < a.enter {
+        let named = Named(a.procedure, slot_of(known));
         writeln!(text, "{named}: no code")?;
         return Ok(());
     }
-    let procedure = code(alloc, segment, decoded, a)?;
-    let returns = returns_of(&procedure.items);
-    let header = Header(slot, *a, returns);
-    write!(text, "{header}")?;
-    push_entries(text, &procedure.entries)?;
-    push_procedure(alloc, text, known, &procedure)?;
-    text.push_str("\n")?;
-    Ok(())
+    match kept(&sized.tables, a) {
+        Some(procedure) => push_code(alloc, text, known, a, procedure),
+        None => {
+            let procedure = read_anew(alloc, sized.segment, decoded, a)?;
+            push_code(alloc, text, known, a, &procedure)
+        }
+    }
 }
 
 /// Adds a procedure by its table, a copy where the same table was shown before. Many words of a dictionary may lead to
@@ -154,25 +206,27 @@ fn push_table_once<'a>(
     alloc: Global,
     text: &mut String,
     known: &Known<'_>,
-    segment: &'a [u8],
-    decoded: &Decoded<'a>,
+    sized: &SizedSegment<'a>,
+    decoded: &mut Option<Decoded<'a>>,
     shown: &mut Vec<ShownTable>,
     a: Attributes,
 ) -> Result<(), AllocError>
-    requires short { length segment.now ≤ 65534 }
-    requires of_segment { (p : ℕ) × (attributes_in segment.now p ≡ Some a) }
-    requires decoded { IsDecoded decoded.now segment.now }
-    requires shown { AllByRecursion (files.IsShownTable known.now segment.now) shown.old.items }
+    requires short { length sized.now.segment.now ≤ 65534 }
+    requires of_segment { (p : ℕ) × (attributes_in sized.now.segment.now p ≡ Some a) }
+    requires sized { files.IsSizedSegment sized.now }
+    requires decoded { IfSome decoded.old (λ d. IsDecoded d sized.now.segment.now) }
+    requires shown { AllByRecursion (files.IsShownTable known.now sized.now.segment.now) shown.old.items }
     ensures text { OnOk result (string_bytes text.new
-        ≡ string_bytes text.old ++ files.table_text known.now segment.now a) }
-    ensures shown { OnOk result (AllByRecursion (files.IsShownTable known.now segment.now) shown.new.items) }
+        ≡ string_bytes text.old ++ files.table_text known.now sized.now.segment.now a) }
+    ensures decoded { OnOk result (IfSome decoded.new (λ d. IsDecoded d sized.now.segment.now)) }
+    ensures shown { OnOk result (AllByRecursion (files.IsShownTable known.now sized.now.segment.now) shown.new.items) }
 {
     if let Some(before) = text_of(shown, &a) {
         text.push_str(before)?;
         return Ok(());
     }
     let mut own = String::new(alloc);
-    push_table(alloc, &mut own, known, segment, decoded, &a)?;
+    push_table(alloc, &mut own, known, sized, decoded, &a)?;
     text.push_str(own.as_str())?;
     shown.push(ShownTable {
         table: a,
@@ -186,20 +240,22 @@ fn push_segment(
     alloc: Global,
     text: &mut String,
     known: &Known<'_>,
-    segment: &[u8],
+    sized: &SizedSegment<'_>,
 ) -> Result<(), AllocError>
-    requires even { length segment.now % 2 ≡ 0 }
-    requires short { length segment.now ≤ 65534 }
-    ensures text { OnOk result (string_bytes text.new
-        ≡ string_bytes text.old ++ files.tables_text known.now segment.now 1 (procedures_in segment.now)) }
+    requires even { length sized.now.segment.now % 2 ≡ 0 }
+    requires short { length sized.now.segment.now ≤ 65534 }
+    requires sized { files.IsSizedSegment sized.now }
+    ensures text { OnOk result (string_bytes text.new ≡ string_bytes text.old
+        ++ files.tables_text known.now sized.now.segment.now 1 (procedures_in sized.now.segment.now)) }
 {
-    let decoded = decode_segment(alloc, segment)?;
+    let segment = sized.segment;
+    let mut decoded = None;
     let mut shown = Vec::new(alloc);
     for done in 0..procedures(segment) {
         let number = done + 1;
         let named = Named(number, slot_of(known));
         match attributes(segment, number) {
-            Some(a) => push_table_once(alloc, text, known, segment, &decoded, &mut shown, a)?,
+            Some(a) => push_table_once(alloc, text, known, sized, &mut decoded, &mut shown, a)?,
             None => writeln!(text, "{named}: no table")?,
         }
     }
@@ -211,22 +267,29 @@ fn push_slot(
     alloc: Global,
     text: &mut String,
     file: &CodeFile<'_>,
-    callees: &[Option<Callee>],
+    sizes: &Sized<'_>,
     layout: Layout,
     n: u8,
 ) -> Result<(), AllocError>
+    requires sized { AllByRecursion files.IsSizedSegment sizes.now.segments.items }
     ensures text { OnOk result (string_bytes text.new
-        ≡ string_bytes text.old ++ files.slot_text callees.now layout n (segment_in file.now n)) }
+        ≡ string_bytes text.old ++ files.slot_text sizes.now.callees.items layout n (segment_in file.now n)) }
 {
     let Some(segment) = file.segment(n) else {
         return Ok(());
     };
     let known = Known {
         segment: n,
-        callees,
+        callees: &sizes.callees,
         layout,
     };
-    push_segment(alloc, text, &known, segment)
+    match sizes.segments.get(usize::from(n)) {
+        Some(sized) if sized.segment == segment => push_segment(alloc, text, &known, sized),
+        _ => {
+            let tables = Vec::new(alloc);
+            push_segment(alloc, text, &known, &SizedSegment { segment, tables })
+        }
+    }
 }
 
 /// The text of a code file as statements: its segments by ascending slot, of each its procedures by their numbers, of
@@ -235,10 +298,10 @@ fn push_slot(
 pub fn file(alloc: Global, file: &CodeFile<'_>, layout: Layout) -> Result<String, AllocError>
     ensures text { IfOk result (λ text. string_bytes text ≡ files.file_text layout file.now) }
 {
-    let callees = file_callees(alloc, file)?;
+    let sizes = file_sizes(alloc, file)?;
     let mut text = String::new(alloc);
     for n in 0..16 {
-        push_slot(alloc, &mut text, file, &callees, layout, n)?;
+        push_slot(alloc, &mut text, file, &sizes, layout, n)?;
     }
     Ok(text)
 }

@@ -1,7 +1,9 @@
 //! What the procedures of a code file take and leave.
 
-ghost use Rattle.std.specs.Prelude.{◌≡◌, ◌%◌, ◌∷◌, ◌++◌, ◌≤◌, ℕ, Option, None, Some, length, IfOk, IfSome, OnOk};
+ghost use Rattle.std.specs.Prelude.{◌≡◌, ◌%◌, ◌∷◌, ◌++◌, ◌≤◌, ℕ, List, Option, None, Some, length, IfOk, IfSome};
+ghost use Rattle.std.specs.Prelude.{OnOk};
 ghost use Rattle.std.specs.List.{AllByRecursion};
+ghost use Rattle.pm_code.specs.Views.{procedure_seen};
 ghost use Rattle.pm_codefile.specs.Dictionary.{segment_in};
 ghost use Rattle.pm_codefile.specs.Segments.{attributes_in};
 ghost use Rattle.pm_codefile.specs.declared.table.Attributes.{Attributes};
@@ -10,24 +12,36 @@ ghost use Rattle.pm_statements.specs.Files as files;
 ghost use Rattle.pm_trees.specs.declared.part.Callee.{Callee};
 
 use crate::callees::{callee_of, system_callee};
+use pm_code::Procedure;
 use pm_codefile::{Attributes, CodeFile, attributes};
 use pm_disasm::{Decoded, code, decode_segment};
 use pm_trees::Callee;
 use std::alloc::{AllocError, Global};
 
-/// A procedure's table, and what it takes and leaves.
-#[derive(Clone, Copy)]
+/// A procedure's table, what its procedure takes and leaves, and the procedure, where there was room to keep it.
+#[derive(Drop)]
 pub(crate) struct SizedTable {
     /// The table.
     pub table: Attributes,
     /// What its procedure takes and leaves.
     pub callee: Option<Callee>,
+    /// The procedure.
+    pub procedure: Option<Procedure>,
+}
+
+/// A segment with those of its tables that were looked at.
+#[derive(Drop)]
+pub(crate) struct SizedSegment<'a> {
+    /// The segment.
+    pub segment: &'a [u8],
+    /// Its tables.
+    pub tables: Vec<SizedTable>,
 }
 
 /// What is known of a table, if it is among those that were looked at.
 fn sized_before(sized: &[SizedTable], a: &Attributes) -> Option<Option<Callee>>
-    ensures callee { (sizes : Attributes → Option Callee) → AllByRecursion (λ s. s.callee ≡ sizes s.table) sized.now
-        → IfSome result (λ callee. callee ≡ sizes a.now) }
+    ensures callee { (segment : List ℕ) → AllByRecursion (files.IsSizedTable segment) sized.now
+        → IfSome result (λ callee. callee ≡ files.table_callee segment a.now) }
 {
     for known in sized {
         if known.table == *a {
@@ -37,32 +51,69 @@ fn sized_before(sized: &[SizedTable], a: &Attributes) -> Option<Option<Callee>>
     None
 }
 
-/// What the procedure of a table takes and leaves. None where its exit code lies before its code.
+/// A procedure's size, where the exit code of its table does not lie before its code.
 #[tactic(auto, unfolding(crate::specs::Files::table_callee))]
 fn table_callee<'a>(
     alloc: Global,
     segment: &'a [u8],
     decoded: &Decoded<'a>,
-    a: &Attributes,
-) -> Result<Option<Callee>, AllocError>
+    a: Attributes,
+) -> Result<SizedTable, AllocError>
     requires short { length segment.now ≤ 65534 }
-    requires of_segment { (p : ℕ) × (attributes_in segment.now p ≡ Some a.now) }
+    requires of_segment { (p : ℕ) × (attributes_in segment.now p ≡ Some a) }
     requires decoded { IsDecoded decoded.now segment.now }
-    ensures callee { IfOk result (λ callee. callee ≡ files.table_callee segment.now a.now) }
+    ensures sized { IfOk result (λ s. files.IsSizedTable segment.now s) }
+    ensures table { IfOk result (λ s. s.table ≡ a) }
 {
     if a.exit < a.enter {
-        return Ok(None);
+        return Ok(SizedTable {
+            table: a,
+            callee: None,
+            procedure: None,
+        });
     }
-    let procedure = code(alloc, segment, decoded, a)?;
-    Ok(callee_of(&procedure))
+    let procedure = code(alloc, segment, decoded, &a)?;
+    Ok(SizedTable {
+        table: a,
+        callee: callee_of(&procedure),
+        procedure: Some(procedure),
+    })
 }
 
-/// The same, once for each table: many words of a dictionary may lead to one.
+/// How many items a table's procedure has, where it is kept.
+fn items_kept(sized: &SizedTable) -> usize {
+    match &sized.procedure {
+        Some(procedure) => procedure.items.len(),
+        None => 0,
+    }
+}
+
+/// A table, without its procedure where that has more items than there is room for.
+fn within(sized: SizedTable, room: &mut usize) -> SizedTable
+    ensures sized { (segment : List ℕ) → files.IsSizedTable segment sized → files.IsSizedTable segment result }
+    ensures table { result.table ≡ sized.table }
+    ensures callee { result.callee ≡ sized.callee }
+{
+    let items = items_kept(&sized);
+    if items <= *room {
+        *room -= items;
+        return sized;
+    }
+    SizedTable {
+        table: sized.table,
+        callee: sized.callee,
+        procedure: None,
+    }
+}
+
+/// What the procedure of a table takes and leaves, looked at once for each table: many words of a dictionary may lead
+/// to one. Procedures are kept as long as there is room for their items.
 fn table_callee_once<'a>(
     alloc: Global,
     segment: &'a [u8],
     decoded: &Decoded<'a>,
     sized: &mut Vec<SizedTable>,
+    room: &mut usize,
     a: Attributes,
 ) -> Result<Option<Callee>, AllocError>
     requires short { length segment.now ≤ 65534 }
@@ -75,33 +126,37 @@ fn table_callee_once<'a>(
     if let Some(callee) = sized_before(sized, &a) {
         return Ok(callee);
     }
-    let callee = table_callee(alloc, segment, decoded, &a)?;
-    sized.push(SizedTable { table: a, callee })?;
+    let new = within(table_callee(alloc, segment, decoded, a)?, room);
+    let callee = new.callee;
+    sized.push(new)?;
     Ok(callee)
 }
 
-/// Adds those of a segment: of 256 numbers.
-fn add_segment(
+/// Adds those of a segment, of 256 numbers, and tells its tables. Of their procedures as many are kept as have no more
+/// items than the segment has bytes.
+fn add_segment<'a>(
     alloc: Global,
     callees: &mut Vec<Option<Callee>>,
-    segment: &[u8],
-) -> Result<(), AllocError>
+    segment: &'a [u8],
+) -> Result<SizedSegment<'a>, AllocError>
     requires even { length segment.now % 2 ≡ 0 }
     requires short { length segment.now ≤ 65534 }
     ensures callees { OnOk result (callees.new.items
         ≡ callees.old.items ++ (None ∷ files.callees_from segment.now 1 255)) }
+    ensures sized { IfOk result (λ s. files.IsSizedSegment s) }
 {
     let decoded = decode_segment(alloc, segment)?;
-    let mut sized = Vec::new(alloc);
+    let mut tables = Vec::new(alloc);
+    let mut room = segment.len();
     callees.push(None)?;
     for done in 0..255 {
         let callee = match attributes(segment, done + 1) {
-            Some(a) => table_callee_once(alloc, segment, &decoded, &mut sized, a)?,
+            Some(a) => table_callee_once(alloc, segment, &decoded, &mut tables, &mut room, a)?,
             None => None,
         };
         callees.push(callee)?;
     }
-    Ok(())
+    Ok(SizedSegment { segment, tables })
 }
 
 /// Adds those of the operating system.
@@ -115,35 +170,51 @@ fn add_system(callees: &mut Vec<Option<Callee>>) -> Result<(), AllocError>
     Ok(())
 }
 
-/// Adds those of a slot.
-fn add_slot(
+/// Adds those of a slot, and tells the tables of its segment.
+fn add_slot<'a>(
     alloc: Global,
     callees: &mut Vec<Option<Callee>>,
-    file: &CodeFile<'_>,
+    file: &CodeFile<'a>,
     n: u8,
-) -> Result<(), AllocError>
+) -> Result<SizedSegment<'a>, AllocError>
     ensures callees { OnOk result (callees.new.items
         ≡ callees.old.items ++ files.slot_callees n (segment_in file.now n)) }
+    ensures sized { IfOk result (λ s. files.IsSizedSegment s) }
 {
     match file.segment(n) {
-        Some(segment) => add_segment(alloc, callees, segment),
-        None if n == 0 => add_system(callees),
-        None => add_segment(alloc, callees, &[]),
+        Some(segment) => Ok(add_segment(alloc, callees, segment)?),
+        None if n == 0 => {
+            add_system(callees)?;
+            Ok(SizedSegment {
+                segment: &[],
+                tables: Vec::new(alloc),
+            })
+        }
+        None => Ok(add_segment(alloc, callees, &[])?),
     }
 }
 
-/// What the procedures of a code file take and leave: of each slot 256, by their numbers. Where slot 0 has no segment
-/// they are those of the operating system.
+/// What the procedures of a code file take and leave, and the segments of its slots with their tables.
+#[derive(Drop)]
+pub(crate) struct Sized<'a> {
+    /// What they take and leave: of each slot 256, by their numbers. Where slot 0 has no segment they are those of the
+    /// operating system.
+    pub callees: Vec<Option<Callee>>,
+    /// The segments, by their slots.
+    pub segments: Vec<SizedSegment<'a>>,
+}
+
+/// What the procedures of a code file take and leave.
 #[tactic(auto, unfolding(crate::specs::Files::file_callees))]
-pub(crate) fn file_callees(
-    alloc: Global,
-    file: &CodeFile<'_>,
-) -> Result<Vec<Option<Callee>>, AllocError>
-    ensures callees { IfOk result (λ callees. callees.items ≡ files.file_callees file.now) }
+pub(crate) fn file_sizes<'a>(alloc: Global, file: &CodeFile<'a>) -> Result<Sized<'a>, AllocError>
+    ensures callees { IfOk result (λ sized. sized.callees.items ≡ files.file_callees file.now) }
+    ensures segments { IfOk result (λ sized. AllByRecursion files.IsSizedSegment sized.segments.items) }
 {
     let mut callees = Vec::new(alloc);
+    let mut segments = Vec::new(alloc);
     for n in 0..16 {
-        add_slot(alloc, &mut callees, file, n)?;
+        let segment = add_slot(alloc, &mut callees, file, n)?;
+        segments.push(segment)?;
     }
-    Ok(callees)
+    Ok(Sized { callees, segments })
 }

@@ -78,5 +78,8 @@ first_among : (p : Place) (l : List Left) (q : Left) → first_place p (l ++ q �
 first_among p [] q = refl
 first_among p (l ∷ ls) q = first_among l.place ls q
 
+pub last_again : {A : Type 0} → (k : ℕ) (l : List A) → drop (length l - k) l ≡ reverse (take k (reverse l))
+last_again k l = sym (twice_reversed (drop (length l - k) l)) ∙ ap reverse (reverse_last k l)
+
 pub first_place_first : (p : Place) (q : Left) (ls : List Left) → first_place p (reverse (q ∷ ls)) ≡ q.place
 first_place_first p q ls = ap (first_place p) (reverse-append (q ∷ []) ls) ∙ first_among p (reverse ls) q

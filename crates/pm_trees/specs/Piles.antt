@@ -28,12 +28,18 @@ pub record Pile : Type 0 where
 abbrev pub no_trees : Pile
 no_trees = record { lefts = []; phrases = [] }
 
+-- a tree upon others
+abbrev pub upon_all : Left → Shown → Pile → Pile
+upon_all left phrase before = record { lefts = left ∷ before.lefts; phrases = phrase ∷ before.phrases }
+
+-- the phrase of a part behind its operands
+abbrev pub phrase_by : Around → Part → Missing → Pile → Shown
+phrase_by a p missing operands = phrase_of a p.item p.known missing (reverse operands.phrases)
+
 -- a part behind its operands, upon other trees
 abbrev pub upon : Around → Part → Missing → Pile → Pile → Pile
-upon a p missing operands before = record {
-  lefts = left_by p operands.lefts ∷ before.lefts;
-  phrases = phrase_of a p.item p.known missing (reverse operands.phrases) ∷ before.phrases;
-}
+upon a p missing operands before =
+    upon_all (left_by p operands.lefts) (phrase_by a p missing operands) before
 
 abbrev pub pile_of : Around → Forest → Pile
 pile_of a Bare = no_trees

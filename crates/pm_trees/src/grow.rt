@@ -4,36 +4,33 @@ ghost use Rattle.std.specs.Prelude.{◌≡◌, [], drop, reverse, IfOk, OnOk};
 ghost use Rattle.pm_trees.specs.Piles as texts;
 ghost use Rattle.pm_trees.specs.Trees as trees;
 
-use crate::count::{count_takes, leaves_nothing, none_missing};
+use crate::count::{Count, count_takes, leaves_nothing, none_missing};
 use crate::left::{is_full, is_reached, left_by};
 use crate::part::Part;
-use crate::pile::Pile;
-use pm_phrases::{Around, Missing, phrase};
+use crate::pile::{Pile, Tree, last_of};
+use pm_phrases::{Around, phrase};
 use std::alloc::{AllocError, Global};
 
-/// Puts a part behind its operands upon other trees.
-#[tactic(auto, using(crate::proofs::Ends::twice_reversed, crate::proofs::Ends::reverse_pushed))]
-fn put_upon(
+/// A part behind the last of some trees, as it takes them.
+#[tactic(auto, using(crate::proofs::Ends::last_again, crate::proofs::Ends::reverse_last))]
+fn tree_of(
     alloc: Global,
     around: Around,
     part: &Part<'_>,
-    missing: Missing,
+    count: Count,
     operands: &Pile,
-    trees: &mut Pile,
-) -> Result<(), AllocError>
-    ensures upon { OnOk result (trees.new ≡ texts.upon around part.now missing operands.now trees.old) }
+) -> Result<Tree, AllocError>
+    ensures left { IfOk result (λ t. t.left
+        ≡ trees.left_by part.now (texts.last_of count.trees operands.now).lefts) }
+    ensures phrase { IfOk result (λ t. t.phrase
+        ≡ texts.phrase_by around part.now count.missing (texts.last_of count.trees operands.now)) }
 {
-    let phrase = phrase(
-        alloc,
-        around,
-        part.item,
-        part.known,
-        missing,
-        &operands.phrases,
-    )?;
-    trees.lefts.push(left_by(part, &operands.lefts))?;
-    trees.phrases.push(phrase)?;
-    Ok(())
+    let phrases = last_of(&operands.phrases, count.trees);
+    let (item, known) = (part.item, part.known);
+    Ok(Tree {
+        left: left_by(part, last_of(&operands.lefts, count.trees)),
+        phrase: phrase(alloc, around, item, known, count.missing, phrases)?,
+    })
 }
 
 /// Makes statements of what is pending, where a part may take nothing of it.
@@ -63,15 +60,16 @@ fn add(
         ≡ (texts.added around part.now (record { done = done.old; pending = pending.old })).pending) }
 {
     let count = count_takes(&pending.lefts, part.takes);
-    let operands = pending.split_off(count.trees)?;
+    let tree = tree_of(alloc, around, part, count, pending)?;
+    pending.drop_last(count.trees);
     if leaves_nothing(part.leaves) {
         done.append(pending)?;
-        return put_upon(alloc, around, part, count.missing, &operands, done);
+        return done.push(tree);
     }
     if !none_missing(count.missing) {
         done.append(pending)?;
     }
-    put_upon(alloc, around, part, count.missing, &operands, pending)
+    pending.push(tree)
 }
 
 /// The statements of code, with their phrases.

@@ -1,6 +1,6 @@
 //! Trees as their phrases, and what is seen of each.
 
-ghost use Rattle.std.specs.Prelude.{◌≡◌, IfOk, OnOk};
+ghost use Rattle.std.specs.Prelude.{◌≡◌, ◌-◌, drop, length, OnOk};
 ghost use Rattle.pm_trees.specs.Piles as texts;
 
 use crate::left::Left;
@@ -15,6 +15,15 @@ pub struct Pile {
     pub lefts: Vec<Left>,
     /// The phrase of each.
     pub phrases: Vec<Phrase>,
+}
+
+/// A tree.
+#[derive(Drop)]
+pub(crate) struct Tree {
+    /// What is seen of it.
+    pub left: Left,
+    /// Its phrase.
+    pub phrase: Phrase,
 }
 
 impl Model for Pile {
@@ -48,18 +57,31 @@ impl Pile {
         Ok(())
     }
 
-    /// Takes the last trees, so many of them.
-    #[tactic(auto, using(crate::proofs::Ends::reverse_without, crate::proofs::Ends::reverse_last))]
-    pub(crate) fn split_off(&mut self, count: usize) -> Result<Pile, AllocError>
-        ensures last { IfOk result (λ p. p ≡ texts.last_of count self.old) }
-        ensures rest { OnOk result (self.new ≡ texts.rest_of count self.old) }
+    /// Puts a tree behind these.
+    #[tactic(auto, using(crate::proofs::Ends::reverse_pushed))]
+    pub(crate) fn push(&mut self, tree: Tree) -> Result<(), AllocError>
+        ensures behind { OnOk result (self.new ≡ texts.upon_all tree.left tree.phrase self.old) }
     {
-        let lefts = self
-            .lefts
-            .split_off(self.lefts.len().saturating_sub(count))?;
-        let phrases = self
-            .phrases
-            .split_off(self.phrases.len().saturating_sub(count))?;
-        Ok(Pile { lefts, phrases })
+        let Tree { left, phrase } = tree;
+        self.lefts.push(left)?;
+        self.phrases.push(phrase)?;
+        Ok(())
     }
+
+    /// Takes the last trees away, so many of them.
+    #[tactic(auto, using(crate::proofs::Ends::reverse_without))]
+    pub(crate) fn drop_last(&mut self, count: usize)
+        ensures rest { self.new ≡ texts.rest_of count self.old }
+    {
+        self.lefts.truncate(self.lefts.len().saturating_sub(count));
+        self.phrases
+            .truncate(self.phrases.len().saturating_sub(count));
+    }
+}
+
+/// The last of a list, so many.
+pub(crate) fn last_of<T>(list: &[T], count: usize) -> &[T]
+    ensures last { result.now ≡ drop (length list.now - count) list.now }
+{
+    &list[list.len().saturating_sub(count)..]
 }

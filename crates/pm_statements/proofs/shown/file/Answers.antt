@@ -9,6 +9,5 @@ loop-n-preserved c =
     let file = c.args.file.now in
     let n = c.loop-n.n in
     let before = string_bytes c.loop-n.text in
-    next_text c.in_ok-callees.callees.items c.args.layout file n (string_bytes c.push_slot.new.text) before _ (omega (arith, c.loop-n-test.true))
-    (c.in_ok-push_slot.ensures.text ∙ ap (λ callees. before ++ slot_text callees c.args.layout n (segment_in file n)) c.deref.ensures.value)
-    c.loop-n.invariant
+    next_text c.in_ok-sizes.sizes.callees.items c.args.layout file n (string_bytes c.push_slot.new.text) before _ (omega (arith, c.loop-n-test.true))
+    c.in_ok-push_slot.ensures.text c.loop-n.invariant

@@ -5,4 +5,4 @@ use Rattle.pm_statements.proofs.shown.file.Given as goal
 -- the text so far with the slots that are left is the whole
 abbrev pub invariant-loop-n : goal.invariant-loop-n
 invariant-loop-n l =
-    string_bytes l.text ++ slots_text l.callees.items l.layout l.file l.n (16 - l.n) ≡ slots_text l.callees.items l.layout l.file 0 16
+    string_bytes l.text ++ slots_text l.sizes.callees.items l.layout l.file l.n (16 - l.n) ≡ slots_text l.sizes.callees.items l.layout l.file 0 16

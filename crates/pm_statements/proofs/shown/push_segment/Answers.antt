@@ -9,7 +9,7 @@ use Rattle.pm_statements.proofs.shown.push_segment.Goals.{in-Some+in_ok-push_tab
 pub loop-done-preserved : goal.loop-done-preserved
 loop-done-preserved c =
     let k = c.args.known.now in
-    let segment = c.args.segment.now in
+    let segment = c.args.sized.now.segment.now in
     let done = c.loop-done.done in
     let count = procedures_in segment in
     let before = string_bytes c.loop-done.text in
@@ -20,6 +20,7 @@ loop-done-preserved c =
             (ap (numbered_text k segment (done + 1)) (sym c.attributes.ensures.value ∙ w.in-Some.is))
             (ap string_bytes w.text-is ∙ w.in_ok-push_table_once-in-Some.ensures.text) c.loop-done.invariant.text;
         shown = rw w.shown-is w.in_ok-push_table_once-in-Some.ensures.shown;
+        decoded = rw w.decoded-is w.in_ok-push_table_once-in-Some.ensures.decoded;
       }
       | in-None+in_ok-writeln-in-None w ↦ (let line : string_bytes w.writeln.new.self ≡ before
           ++ (named (done + 1) c.slot_of.result ++ (codes ": no table" ++ 10 ∷ [])) = search rules in
@@ -29,5 +30,6 @@ loop-done-preserved c =
                 (ap string_bytes w.text-is ∙ line ∙ ap (λ slot. before
                 ++ (named (done + 1) slot ++ (codes ": no table" ++ 10 ∷ []))) c.slot_of.ensures.slot) c.loop-done.invariant.text;
             shown = rw w.shown-is c.loop-done.invariant.shown;
+            decoded = rw w.decoded-is c.loop-done.invariant.decoded;
           })
     ]

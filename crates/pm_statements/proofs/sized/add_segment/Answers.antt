@@ -8,7 +8,7 @@ pub loop-done-init : goal.loop-done-init
 loop-done-init c = record {
   callees = ap (λ cs. cs ++ callees_from c.args.segment.now 1 255) c.in_ok-push.ensures.items
       ∙ append_assoc c.args.callees.now.items (None ∷ []) (callees_from c.args.segment.now 1 255);
-  sized = search rules;
+  tables = search rules;
 }
 
 pub loop-done-preserved : goal.loop-done-preserved
@@ -22,12 +22,12 @@ loop-done-preserved c =
             (ap (callee_in segment) (sym c.attributes.ensures.value ∙ w.in-Some.is)
             ∙ sym (w.callee-is ∙ w.in_ok-callee-in-Some.ensures.callee))
             c.in_ok-push-2.ensures.items c.loop-done.invariant.callees;
-        sized = rw w.sized-is w.in_ok-callee-in-Some.ensures.sized;
+        tables = rw w.tables-is w.in_ok-callee-in-Some.ensures.sized;
       }
       | in-None w ↦ record {
         callees = next_callee segment done _ before _ c.match-attributes.callee (omega (arith, c.loop-done-test.true))
             (ap (callee_in segment) (sym c.attributes.ensures.value ∙ w.in-None.is) ∙ sym w.callee-is)
             c.in_ok-push-2.ensures.items c.loop-done.invariant.callees;
-        sized = rw w.sized-is c.loop-done.invariant.sized;
+        tables = rw w.tables-is c.loop-done.invariant.tables;
       }
     ]

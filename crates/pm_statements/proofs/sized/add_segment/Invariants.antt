@@ -8,5 +8,5 @@ abbrev pub invariant-loop-done : goal.invariant-loop-done
 invariant-loop-done l = record {
   callees : l.callees.items ++ callees_from l.segment (l.done + 1) (255 - l.done)
       ≡ l.fn.callees.items ++ (None ∷ callees_from l.segment 1 255);
-  sized : AllByRecursion (IsSizedTable l.segment) l.sized.items;
+  tables : AllByRecursion (IsSizedTable l.segment) l.tables.items;
 }

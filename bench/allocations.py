@@ -12,7 +12,7 @@ import tempfile
 
 here = os.path.dirname(os.path.abspath(__file__))
 top = os.path.dirname(here)
-uses = "pm_words pm_opcode pm_textfile pm_codefile pm_asm pm_disasm pm_volume pm_filer pm_check pm_system pm_machine pm_trace pm_debug"
+uses = "pm_words pm_opcode pm_textfile pm_codefile pm_asm pm_disasm pm_volume pm_filer pm_check pm_machine pm_trace pm_debug"
 
 
 def copied(folder):

@@ -291,7 +291,7 @@ if "\n".join(lines("INDEX.md")) != index.page():
     tell("index", "INDEX.md is not that of the source: python3 bench/index.py")
 
 # The most bytes of a page, and of all of docs/.
-MOST = {"PROMISES": 15100, "DECISIONS": 10000, "ARCHITECTURE": 12900, "COMMANDS": 33400, "FILES": 25700,
+MOST = {"PROMISES": 15100, "DECISIONS": 10000, "ARCHITECTURE": 12900, "COMMANDS": 33600, "FILES": 25700,
         "INSTRUCTIONS": 20000, "ASSEMBLY": 18000, "WORKING": 15600, "PROCEDURES": 13900, "MACHINE": 13100, "GLOSSARY": 7100,
         "CASES": 3500, "LIBRARY": 5300, "DISKS": 5700}
 ALL_PAGES = 204800

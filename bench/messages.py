@@ -68,7 +68,7 @@ def sentences():
     add("code", code, [name for name in code[1] if code[1][name] != 1], lambda name: behind)
     add("asm", faults("crates/pm_source/src/fault.rt"), [])
     help_of_system = arms(reason, "help_of_system")
-    add("system", faults("crates/pm_system/src/fault.rt"), [], lambda name: help_of_system.get(name, ""))
+    add("system", faults("crates/pm_filer/src/system_fault.rt"), [], lambda name: help_of_system.get(name, ""))
     return told
 
 

@@ -14,6 +14,8 @@ mod returns;
 mod tables;
 mod valid_registers;
 
+pub use calls::{is_base, procedure_called};
+pub use exits::{Wanted, is_wanted, meet};
 pub use frames::{Frames, KeptTable, SegmentPlace, Table};
 pub use registers::Registers;
 pub use valid_registers::ValidRegisters;

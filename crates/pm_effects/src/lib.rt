@@ -7,4 +7,4 @@ mod table;
 
 pub use effect::{Effect, Share};
 pub use history::instruction_effect;
-pub use table::{effect_of, standard_effect};
+pub use table::{effect_of, standard_effect, words};

@@ -10,7 +10,7 @@ use pm_families::{
 use pm_opcode::Operation;
 
 /// So many words are taken, and so many left.
-pub(crate) fn words(takes: u16, leaves: u16) -> Effect
+pub fn words(takes: u16, leaves: u16) -> Effect
     ensures value { result ≡ effects.words takes leaves }
 {
     Effect {

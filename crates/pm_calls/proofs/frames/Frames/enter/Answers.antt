@@ -10,7 +10,7 @@ use Rattle.pm_calls.proofs.frames.Frames.enter.Goals.{in-Clp, in_default}
 pub returns-in_err-table-clause-entered : goal.returns-in_err-table-clause-entered
 returns-in_err-table-clause-entered c = λ h.
     let p = err_from_is_err_and c.from_residual.result c.from_residual.ensures.1 in
-    rw (p.1, p.2) (entered-no_table _ _ _ _ c.args.registers.now _ _ c.procedure_of.ensures.procedure (c.in_err-table.ensures.value _ h))
+    rw (p.1, p.2) (entered-no_table _ _ _ _ c.args.registers.now _ _ c.procedure_called.ensures.procedure (c.in_err-table.ensures.value _ h))
 
 pub returns-in_err-link-clause-entered : goal.returns-in_err-link-clause-entered
 returns-in_err-link-clause-entered c = λ h.
@@ -18,7 +18,7 @@ returns-in_err-link-clause-entered c = λ h.
     let level : to_z w8 (of_z w8 c.in_ok-table.table.level) ≡ c.in_ok-table.table.level = search rules in
     let link = rw (c.attributes.ensures.words, level)
     at (c.in_err-link.ensures.value (c.attributes.ensures.agrees _ h)) in
-    rw (p.1, p.2) (entered-no_link _ _ _ _ c.args.registers.now _ _ _ c.procedure_of.ensures.procedure (c.in_ok-table.ensures.value _ h) link)
+    rw (p.1, p.2) (entered-no_link _ _ _ _ c.args.registers.now _ _ _ c.procedure_called.ensures.procedure (c.in_ok-table.ensures.value _ h) link)
 
 pub returns-in_err-enter-clause-entered : goal.returns-in_err-enter-clause-entered
 returns-in_err-enter-clause-entered c = λ h.
@@ -28,7 +28,7 @@ returns-in_err-enter-clause-entered c = λ h.
     at (c.in_ok-link.ensures.value (c.attributes.ensures.agrees _ h)) in
     let words = c.static_link.ensures.words ∙ c.attributes.ensures.words in
     let framed = rw (words, c.is_base-base.ensures.base, level) at c.in_err-enter.ensures.framed in
-    rw (p.1, p.2) (entered-framed _ _ _ _ c.args.registers.now _ _ _ c.procedure_of.ensures.procedure (c.in_ok-table.ensures.value _ h) link ∙ framed)
+    rw (p.1, p.2) (entered-framed _ _ _ _ c.args.registers.now _ _ _ c.procedure_called.ensures.procedure (c.in_ok-table.ensures.value _ h) link ∙ framed)
 
 pub returns-then-matches-clause-entered : goal.returns-then-matches-clause-entered
 returns-then-matches-clause-entered c = λ h.
@@ -38,7 +38,7 @@ returns-then-matches-clause-entered c = λ h.
     let words = c.static_link.ensures.words ∙ c.attributes.ensures.words in
     let framed = rw (words, c.is_base-base.ensures.base, level) at c.in_ok-enter.ensures.framed in
     rw c.descend.ensures.words
-    (entered-framed _ _ _ _ c.args.registers.now _ _ _ c.procedure_of.ensures.procedure (c.in_ok-table.ensures.value _ h) link ∙ framed)
+    (entered-framed _ _ _ _ c.args.registers.now _ _ _ c.procedure_called.ensures.procedure (c.in_ok-table.ensures.value _ h) link ∙ framed)
 
 pub returns-then-link-caller-clause-entered : goal.returns-then-link-caller-clause-entered
 returns-then-link-caller-clause-entered c = λ h.
@@ -48,7 +48,7 @@ returns-then-link-caller-clause-entered c = λ h.
     let words = c.static_link.ensures.words ∙ c.attributes.ensures.words in
     let framed = rw (words, c.is_base-base.ensures.base, level) at c.in_ok-enter.ensures.framed in
     rw (c.descend-then-link-caller.ensures.words, c.start.ensures.words)
-    (entered-framed _ _ _ _ c.args.registers.now _ _ _ c.procedure_of.ensures.procedure (c.in_ok-table.ensures.value _ h) link ∙ framed)
+    (entered-framed _ _ _ _ c.args.registers.now _ _ _ c.procedure_called.ensures.procedure (c.in_ok-table.ensures.value _ h) link ∙ framed)
 
 pub returns-else-link-caller-clause-entered : goal.returns-else-link-caller-clause-entered
 returns-else-link-caller-clause-entered c = λ h.
@@ -58,7 +58,7 @@ returns-else-link-caller-clause-entered c = λ h.
     let words = c.static_link.ensures.words ∙ c.attributes.ensures.words in
     let framed = rw (words, c.is_base-base.ensures.base, level) at c.in_ok-enter.ensures.framed in
     rw c.forget.ensures.words
-    (entered-framed _ _ _ _ c.args.registers.now _ _ _ c.procedure_of.ensures.procedure (c.in_ok-table.ensures.value _ h) link ∙ framed)
+    (entered-framed _ _ _ _ c.args.registers.now _ _ _ c.procedure_called.ensures.procedure (c.in_ok-table.ensures.value _ h) link ∙ framed)
 
 pub returns-then-matches-clause-agrees : goal.returns-then-matches-clause-agrees
 returns-then-matches-clause-agrees c = λ h.
@@ -117,10 +117,10 @@ returns-then-link-caller-clause-near c = λ other linked.
 
 pub returns-then-link-caller-clause-entry : goal.returns-then-link-caller-clause-entry
 returns-then-link-caller-clause-entry c = λ quiet.
-    let known = rw c.procedure_of.ensures.procedure at (c.in_ok-table.ensures.entry quiet) in
+    let known = rw c.procedure_called.ensures.procedure at (c.in_ok-table.ensures.entry quiet) in
     inside-kept _ _ _ _ known c.in_ok-enter.ensures.table
 
 pub returns-else-link-caller-clause-entry : goal.returns-else-link-caller-clause-entry
 returns-else-link-caller-clause-entry c = λ quiet.
-    let known = rw c.procedure_of.ensures.procedure at (c.in_ok-table.ensures.entry quiet) in
+    let known = rw c.procedure_called.ensures.procedure at (c.in_ok-table.ensures.entry quiet) in
     inside-kept _ _ _ _ known c.in_ok-enter.ensures.table

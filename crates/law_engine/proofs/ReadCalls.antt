@@ -23,12 +23,13 @@ use Rattle.pm_calls.specs.Laws.{IsCode}
 use Rattle.pm_calls.specs.Links.{base_link, inner_link, level_of, link_by, static_link}
 use Rattle.pm_calls.specs.Places.{Parts}
 use Rattle.pm_calls.specs.Tables.{attributes, self_relative, table_at}
-use Rattle.pm_machine.specs.Written.{Stretch, stretch}
-use Rattle.pm_machine.specs.ReadStretches.{entry_words, inner_read, links_by, reached_read, slot_read, static_link_read, table_read}
+use Rattle.pm_machine.specs.Written.{Stretch, slot_reached, stretch}
+use Rattle.pm_machine.specs.ReadStretches.{entry_words, inner_read, links_by, reached_read, static_link_read, table_read}
 use Rattle.law_engine.specs.ReadLaws.{ChangeAlike}
 use Rattle.law_engine.proofs.ReadSteps.{Agree, Both, RowAlike, RowsAlike, Same, andthen, both, bytes_alike, copy_alike, demanded, done, first_same, left_agree}
 use Rattle.law_engine.proofs.ReadSteps.{length-with_word, load_same, rest_agree, right_agree, then_alike, unchanged, word_alike_sized, word_same}
 use Rattle.law_engine.proofs.ReadOthers.{link_same}
+use Rattle.law_engine.proofs.WrittenCalls.{called_reached}
 
 -- ---- tables
 
@@ -318,7 +319,7 @@ loading_alike c n k code memory other top bytes =
     })
 
 slot_alike : (c : Parts) (n : List ℕ) (call : Call) (k : ℕ) (code : Option (List ℕ)) (slot : Option (Option SegmentPlace)) → IsMemory c.memory → IsMemory n
-    → c.registers.sp ≤ 65504 → IsCode code → Agree (slot_read call k c slot (Ok code)) c.memory n
+    → c.registers.sp ≤ 65504 → IsCode code → Agree (reached_read call c.registers (slot_reached k c slot (Ok code))) c.memory n
     → Both (PartsAlike c.memory n) (called_slot c call k code slot) (called_slot (parts_in c n) call k code slot)
 unfolding called_standing called_loading
 slot_alike c n call k code None memory other top bytes agree = tt
@@ -334,11 +335,7 @@ near_alike c n call memory other agree = at_alike c n call (here c) n (unchanged
 
 -- what a call reads, with the code that it has to load
 abbrev pub called_read : Parts → Call → Option (List ℕ) → List Stretch
-called_read c (Cxp k p) code = slot_read (Cxp k p) k c (slice_get c.places k) (Ok code)
-called_read c (Clp p) code = reached_read (Clp p) c.registers (Ok (here c))
-called_read c (Cgp p) code = reached_read (Cgp p) c.registers (Ok (here c))
-called_read c (Cbp p) code = reached_read (Cbp p) c.registers (Ok (here c))
-called_read c (Cip p) code = reached_read (Cip p) c.registers (Ok (here c))
+called_read c call code = reached_read call c.registers (called_reached call c code)
 
 pub called_alike : (call : Call) (c : Parts) (n : List ℕ) (code : Option (List ℕ)) → IsMemory c.memory → IsMemory n → c.registers.sp ≤ 65504 → IsCode code
     → Agree (called_read c call code) c.memory n → Both (PartsAlike c.memory n) (called c call code) (called (parts_in c n) call code)

@@ -22,8 +22,8 @@ use Rattle.pm_calls.proofs.ReturnLaws.{bound, passed}
 use Rattle.pm_calls.proofs.WalkLaws.{least_is, stops, stops-not}
 use Rattle.pm_stdproc.specs.Procedures.{Reach, exit_row, reach_parts}
 use Rattle.pm_machine.specs.Written.{frame_written, frames_left, frames_written, ips_written, left_by_exit, reached_written, return_written}
-use Rattle.pm_machine.specs.Written.{slot_written, stretch, wanted_at}
-use Rattle.pm_machine.specs.ReadStretches.{asked_read, entry_words, exit_read, frames_left_read, frames_read, reached_read, return_read, slot_read, table_read}
+use Rattle.pm_machine.specs.Written.{slot_reached, stretch, wanted_at}
+use Rattle.pm_machine.specs.ReadStretches.{asked_read, entry_words, exit_read, frames_left_read, frames_read, reached_read, return_read, table_read}
 use Rattle.law_engine.proofs.ExitLaws.{last_is_walk}
 use Rattle.law_engine.proofs.StoreRows.{word_below}
 use Rattle.law_engine.proofs.StoredWords.{popped}
@@ -70,8 +70,9 @@ reached_names c q n call (Ok d) u h agree goes =
     (same_frame call d.loaded c.registers.sp (attributes d.memory d.place p) (attributes h.like.memory d.place p) found.0 found.1 tables))
 
 pub slot_names : (c q : Parts) (n : List ℕ) (call : Call) (k : ℕ) (code : Option (List ℕ)) (slot : Option (Option SegmentPlace)) → IsMemory c.memory
-    → IsMemory n → c.registers.sp ≤ 65504 → IsCode code → Agree (slot_read call k c slot (Ok code)) c.memory n → called_slot c call k code slot ≡ Ok q
-    → slot_written call k (parts_in c n) slot (Ok code) ≡ slot_written call k c slot (Ok code)
+    → IsMemory n → c.registers.sp ≤ 65504 → IsCode code
+    → Agree (reached_read call c.registers (slot_reached k c slot (Ok code))) c.memory n → called_slot c call k code slot ≡ Ok q
+    → reached_written call c.registers.sp (slot_reached k (parts_in c n) slot (Ok code)) ≡ reached_written call c.registers.sp (slot_reached k c slot (Ok code))
 unfolding called_standing called_loading
 slot_names c q n call k code None memory other top bytes agree goes = refl
 slot_names c q n call k code (Some (Some p)) memory other top bytes agree goes =

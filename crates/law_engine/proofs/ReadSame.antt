@@ -20,9 +20,9 @@ use Rattle.pm_machine.specs.Procedures.{reach, with_reach, call_row, is_base_ret
 use Rattle.pm_machine.specs.Rows.{performed, row}
 use Rattle.pm_machine.specs.State.{State}
 use Rattle.pm_machine.specs.Written.{call_written, instruction_written, kept_written, operation_written}
-use Rattle.pm_machine.specs.Written.{procedure_written, reached_written, slot_written, variable_written, word_stretch, stretch}
+use Rattle.pm_machine.specs.Written.{procedure_written, reached_written, slot_reached, variable_written, word_stretch, stretch}
 use Rattle.pm_machine.specs.ReadStretches.{instruction_read, operation_read}
-use Rattle.pm_machine.specs.ReadStretches.{procedure_leads, taken_if, call_read, frame_read, reached_read, slot_read, variable_read}
+use Rattle.pm_machine.specs.ReadStretches.{procedure_leads, taken_if, call_read, frame_read, reached_read, variable_read}
 use Rattle.pm_effects.specs.Effects.{standard_effect}
 use Rattle.law_engine.specs.ReadLaws.{in_memory}
 use Rattle.law_engine.specs.WrittenLaws.{IsPlain}
@@ -73,9 +73,10 @@ same_names (variable.Store scope b) s n agree =
     (frame_read scope s.memory s.registers.mp) s.memory n agree))
 
 far_names : (s t : State) (n : List ℕ) (x k p : ℕ) (code : Result (Option (List ℕ)) ExecError) → IsPlain s → IsMemory n → IfMade IsCode code
-    → Agree (slot_read (Cxp k p) k (parts s) (slice_get s.places k) code) s.memory n
+    → Agree (reached_read (Cxp k p) s.registers (slot_reached k (parts s) (slice_get s.places k) code)) s.memory n
     → or_fails (code >>= λ c. (called (parts (with_ipc s x)) (Cxp k p) c >>= λ q. Ok (with_parts q (with_ipc s x)))) ≡ Ok t
-    → slot_written (Cxp k p) k (parts (in_memory s n)) (slice_get s.places k) code ≡ slot_written (Cxp k p) k (parts s) (slice_get s.places k) code
+    → reached_written (Cxp k p) s.registers.sp (slot_reached k (parts (in_memory s n)) (slice_get s.places k) code)
+    ≡ reached_written (Cxp k p) s.registers.sp (slot_reached k (parts s) (slice_get s.places k) code)
 unfolding called
 far_names s t n x k p (Err e) plain other bytes agree h = cc
 far_names s t n x k p (Ok code) plain other bytes agree h =

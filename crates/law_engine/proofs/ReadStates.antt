@@ -29,9 +29,9 @@ use Rattle.pm_stdproc.specs.Loads.{code_needed, slot_code}
 use Rattle.pm_machine.specs.Procedures.{call_row, is_base_return, parts, status_after, with_parts, words_of_return}
 use Rattle.pm_machine.specs.Rows.{on_registers, on_stack, performed}
 use Rattle.pm_machine.specs.State.{State}
-use Rattle.pm_machine.specs.Written.{stretch, word_stretch}
+use Rattle.pm_machine.specs.Written.{slot_reached, stretch, word_stretch}
 use Rattle.pm_machine.specs.ReadStretches.{call_read, entry_words, frame_read, jump_read}
-use Rattle.pm_machine.specs.ReadStretches.{reached_read, return_read, slot_read, static_link_read, table_read}
+use Rattle.pm_machine.specs.ReadStretches.{reached_read, return_read, static_link_read, table_read}
 use Rattle.pm_machine.specs.ReadStretches.{variable_read}
 use Rattle.law_engine.specs.ReadLaws.{ChangeAlike, in_memory}
 use Rattle.law_engine.specs.WrittenLaws.{IsPlain}
@@ -135,7 +135,8 @@ same_reached call r x (Ok at) = ap (λ ss. table_read at.memory at.place (proced
 same_reached call r x (Err e) = refl
 
 pub same_slot : (s : State) (x : ℕ) (call : Call) (k : ℕ) (slot : Option (Option SegmentPlace)) (code : Result (Option (List ℕ)) ExecError)
-    → slot_read call k (parts s) slot code ≡ slot_read call k (parts (with_ipc s x)) slot code
+    → reached_read call s.registers (slot_reached k (parts s) slot code)
+    ≡ reached_read call (at_ipc s.registers x) (slot_reached k (parts (with_ipc s x)) slot code)
 unfolding reach_standing reach_loading
 same_slot s x call k None code = refl
 same_slot s x call k (Some (Some p)) code = same_reached call s.registers x (reach_standing (parts s) k p)
@@ -144,7 +145,7 @@ same_slot s x call k (Some None) (Ok None) = refl
 same_slot s x call k (Some None) (Err e) = refl
 
 far_alike : (s : State) (n : List ℕ) (x k p : ℕ) (code : Result (Option (List ℕ)) ExecError) → IsPlain s → IsMemory n → IfMade IsCode code
-    → Agree (slot_read (Cxp k p) k (parts s) (slice_get s.places k) code) s.memory n
+    → Agree (reached_read (Cxp k p) s.registers (slot_reached k (parts s) (slice_get s.places k) code)) s.memory n
     → StepAlike s n (or_fails (code >>= λ c. (called (parts (with_ipc s x)) (Cxp k p) c >>= λ q. Ok (with_parts q (with_ipc s x)))))
     (or_fails (code >>= λ c. (called (parts (with_ipc (in_memory s n) x)) (Cxp k p) c >>= λ q. Ok (with_parts q (with_ipc (in_memory s n) x)))))
 far_alike s n x k p (Err e) plain other bytes agree = tt

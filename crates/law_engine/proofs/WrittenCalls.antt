@@ -20,7 +20,7 @@ use Rattle.pm_calls.specs.Calls.{kept_below, procedure_called, reach_loading, re
 use Rattle.pm_calls.specs.Laws.{IsCode}
 use Rattle.pm_calls.specs.Returns.{returned}
 use Rattle.pm_calls.proofs.ReturnLaws.{bound, has_room, loading_memory, low_before, ok_same, standing_memory}
-use Rattle.pm_machine.specs.Written.{Stretch, frame_stretch, frame_written, reached_written, return_written, slot_written, stretch}
+use Rattle.pm_machine.specs.Written.{Stretch, frame_stretch, frame_written, reached_written, return_written, slot_reached, stretch}
 use Rattle.law_engine.proofs.RestLaws.{return_leaves, return_made, whole_frame}
 use Rattle.law_engine.proofs.Stretches.{IfMade, Kept, all_kept, both_kept, bytes_kept, made, word_kept, words_kept}
 
@@ -154,19 +154,20 @@ here_keeps c call memory = of (called_at c call (here c)) refl
     of (Err e) h = tt
 
 slot_keeps : (c : Parts) (call : Call) (n : ℕ) (code : Option (List ℕ)) (slot : Option (Option SegmentPlace)) → IsMemory c.memory → IsCode code
-    → CallKeeps (slot_written call n c slot (Ok code)) c (called_slot c call n code slot)
+    → CallKeeps (reached_written call c.registers.sp (slot_reached n c slot (Ok code))) c (called_slot c call n code slot)
 slot_keeps c call n code None memory bytes = tt
 slot_keeps c call n code (Some (Some p)) memory bytes = standing_keeps c call n p memory
 slot_keeps c call n None (Some None) memory bytes = tt
 slot_keeps c call n (Some code) (Some None) memory bytes = loading_keeps c call n code memory bytes
 
--- what a call writes, with the code that it needs
+-- the segment that a call reaches, with the code that it needs
+abbrev pub called_reached : Call → Parts → Option (List ℕ) → Result Reached ExecError
+called_reached (Cxp n p) c code = slot_reached n c (slice_get c.places n) (Ok code)
+called_reached call c code = Ok (here c)
+
+-- what it writes there
 abbrev pub called_written : Call → Parts → Option (List ℕ) → List Stretch
-called_written (Cxp n p) c code = slot_written (Cxp n p) n c (slice_get c.places n) (Ok code)
-called_written (Clp p) c code = reached_written (Clp p) c.registers.sp (Ok (here c))
-called_written (Cgp p) c code = reached_written (Cgp p) c.registers.sp (Ok (here c))
-called_written (Cbp p) c code = reached_written (Cbp p) c.registers.sp (Ok (here c))
-called_written (Cip p) c code = reached_written (Cip p) c.registers.sp (Ok (here c))
+called_written call c code = reached_written call c.registers.sp (called_reached call c code)
 
 pub called_keeps : (call : Call) (c : Parts) (code : Option (List ℕ)) → IsMemory c.memory → IsCode code
     → IfMade (λ (d : Parts). Kept (called_written call c code) c.memory d.memory) (called c call code)

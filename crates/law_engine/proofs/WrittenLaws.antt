@@ -40,8 +40,8 @@ use Rattle.pm_machine.specs.Procedures.{call_row, is_base_return, parts, reach, 
 use Rattle.pm_machine.specs.Rows.{fetched, on_registers, on_stack, performed, row}
 use Rattle.pm_machine.specs.State.{State}
 use Rattle.pm_machine.specs.Steps.{at_status, executed, settled, stepped}
-use Rattle.pm_machine.specs.Written.{Stretch, call_written, instruction_written, operation_written, procedure_written, return_written, slot_written}
-use Rattle.pm_machine.specs.Written.{variable_written, word_stretch, written}
+use Rattle.pm_machine.specs.Written.{Stretch, call_written, instruction_written, operation_written, procedure_written, reached_written}
+use Rattle.pm_machine.specs.Written.{return_written, slot_reached, variable_written, word_stretch, written}
 use Rattle.law_engine.specs.WrittenLaws.{IsPlain, StepsWriteWhatIsNamed}
 use Rattle.law_engine.proofs.Stretches.{IfMade, Kept, all_kept}
 use Rattle.law_engine.proofs.WrittenRows.{RowKeeps, arithmetic_keeps, literal_keeps, pointer_keeps, value_keeps, variable_keeps}
@@ -106,7 +106,8 @@ parts_keep ss s t (Err e) h = tt
 
 -- IPC is no part of what a call writes
 pub same_slot : (s : State) (x : ℕ) (call : Call) (n : ℕ) (slot : Option (Option SegmentPlace)) (code : Result (Option (List ℕ)) ExecError)
-    → slot_written call n (parts (with_ipc s x)) slot code ≡ slot_written call n (parts s) slot code
+    → reached_written call s.registers.sp (slot_reached n (parts (with_ipc s x)) slot code)
+    ≡ reached_written call s.registers.sp (slot_reached n (parts s) slot code)
 unfolding reach_standing reach_loading
 same_slot s x call n None code = refl
 same_slot s x call n (Some (Some p)) code = refl
@@ -115,10 +116,11 @@ same_slot s x call n (Some None) (Ok None) = refl
 same_slot s x call n (Some None) (Err e) = refl
 
 far_call_keeps : (s : State) (x n p : ℕ) (code : Result (Option (List ℕ)) ExecError) → IsPlain s → IfMade IsCode code
-    → StepKeeps (slot_written (Cxp n p) n (parts s) (slice_get s.places n) code) s
+    → StepKeeps (reached_written (Cxp n p) s.registers.sp (slot_reached n (parts s) (slice_get s.places n) code)) s
     (or_fails (code >>= λ c. (called (parts (with_ipc s x)) (Cxp n p) c >>= λ q. Ok (with_parts q (with_ipc s x)))))
 far_call_keeps s x n p (Ok code) plain bytes =
-    parts_keep (slot_written (Cxp n p) n (parts s) (slice_get s.places n) (Ok code)) s (with_ipc s x) (called (parts (with_ipc s x)) (Cxp n p) code)
+    parts_keep (reached_written (Cxp n p) s.registers.sp (slot_reached n (parts s) (slice_get s.places n) (Ok code))) s (with_ipc s x)
+    (called (parts (with_ipc s x)) (Cxp n p) code)
     (subst (λ ss. IfMade (λ (d : Parts). Kept ss s.memory d.memory) (called (parts (with_ipc s x)) (Cxp n p) code))
     (same_slot s x (Cxp n p) n (slice_get s.places n) (Ok code)) (called_keeps (Cxp n p) (parts (with_ipc s x)) code plain.memory bytes))
 far_call_keeps s x n p (Err e) plain bytes = tt

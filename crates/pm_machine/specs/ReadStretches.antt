@@ -1,9 +1,10 @@
 -- What a step reads: the stretches of memory that the row of its instruction looks at, told of the state before it. The
 -- bytes of the instruction itself do not count, be they its opcode, its operands, words or a table of jumps in the
--- code. A row that ends with an error names what it would read if it went on.
+-- code. A row that ends with an error names what it would read if it went on; but an EXIT that does not find its
+-- procedure names no frame, and a call no table without its segment, and no parameters or links without its table.
 use Rattle.std.specs.Prelude.{ℕ, zero, suc, ◌+◌, ◌-◌, ◌*◌, ◌/◌, ◌%◌, ◌==◌, not, Bool, true, nat_lt, ℤ, pos, negsuc}
 use Rattle.std.specs.Prelude.{◌+ℤ◌, ◌-ℤ◌, int_le}
-use Rattle.std.specs.Prelude.{List, [], ◌∷◌, ◌++◌, Option, Some, None, Result, Ok, Err, if◌then◌else◌, slice_get}
+use Rattle.std.specs.Prelude.{List, [], ◌∷◌, ◌++◌, Option, Some, None, Result, Ok, Err, if◌then◌else◌}
 use Rattle.std.specs.List.{list_any}
 use Rattle.pm_words.specs.declared.error.ExecError.{ExecError}
 use Rattle.pm_words.specs.Words.{byte_at, word_at}
@@ -36,13 +37,11 @@ use Rattle.pm_opcode.specs.Operations.{operation_of}
 use Rattle.pm_effects.specs.declared.effect.Effect.{Effect}
 use Rattle.pm_effects.specs.Effects.{arithmetic_effect, condition_effect, jump_effect, pointer_effect, standard_effect}
 use Rattle.pm_effects.specs.Effects.{value_effect, variable_effect}
-use Rattle.pm_calls.specs.declared.frames.SegmentPlace.{SegmentPlace}
 use Rattle.pm_calls.specs.declared.frames.Table.{Table}
 use Rattle.pm_calls.specs.declared.registers.Registers.{Registers}
-use Rattle.pm_calls.specs.Calls.{Reached, here, procedure_called, reach_loading, reach_standing}
+use Rattle.pm_calls.specs.Calls.{Reached, procedure_called}
 use Rattle.pm_calls.specs.Exits.{control, frame_up}
 use Rattle.pm_calls.specs.Links.{level_of, up}
-use Rattle.pm_calls.specs.Places.{Parts}
 use Rattle.pm_calls.specs.Tables.{attributes, self_relative}
 use Rattle.pm_rows.specs.Variables.{variable_at}
 use Rattle.pm_stdproc.specs.declared.procedures.OnMemory.{OnMemory}
@@ -51,13 +50,13 @@ use Rattle.pm_stdproc.specs.declared.procedures.OnUnits.{OnUnits}
 use Rattle.pm_stdproc.specs.declared.procedures.OnUnits.TheVariants as units
 use Rattle.pm_stdproc.specs.declared.procedures.Procedure.{Procedure}
 use Rattle.pm_stdproc.specs.declared.procedures.Procedure.TheVariants as procedure
-use Rattle.pm_stdproc.specs.Loads.{code_needed}
 use Rattle.pm_stdproc.specs.Procedures.{procedure_numbered}
 use Rattle.pm_stdproc.specs.UnitRows.{ordered}
 use Rattle.pm_machine.specs.Procedures.{is_base_return, parts, words_of_return}
 use Rattle.pm_machine.specs.Rows.{fetched}
 use Rattle.pm_machine.specs.State.{State}
-use Rattle.pm_machine.specs.Written.{Stretch, counted_stretch, left_by_exit, place_on_stack, stretch, touches}
+use Rattle.pm_machine.specs.Written.{Stretch, call_reached, counted_stretch, left_by_exit, place_on_stack, stretch}
+use Rattle.pm_machine.specs.Written.{touches}
 use Rattle.pm_machine.specs.Written.{transfer_written, wanted_at, word_stretch, words_taken}
 
 -- the words that are taken off the stack
@@ -193,21 +192,8 @@ reached_read call r (Ok at) =
     ++ entry_words call at.memory r (attributes at.memory at.place (procedure_called call))
 reached_read call r (Err e) = []
 
-abbrev pub slot_read : Call → ℕ → Parts → Option (Option SegmentPlace) → Result (Option (List ℕ)) ExecError
-    → List Stretch
-slot_read call n c (Some (Some p)) code = reached_read call c.registers (reach_standing c n p)
-slot_read call n c (Some None) (Ok (Some code)) = reached_read call c.registers (reach_loading c n code)
-slot_read call n c (Some None) (Ok None) = []
-slot_read call n c (Some None) (Err e) = []
-slot_read call n c None code = []
-
 abbrev pub call_read : Call → State → List Stretch
-call_read (Cxp n p) s =
-    slot_read (Cxp n p) n (parts s) (slice_get s.places n) (code_needed (Cxp n p) s.places s.rows s.devices)
-call_read (Clp p) s = reached_read (Clp p) s.registers (Ok (here (parts s)))
-call_read (Cgp p) s = reached_read (Cgp p) s.registers (Ok (here (parts s)))
-call_read (Cbp p) s = reached_read (Cbp p) s.registers (Ok (here (parts s)))
-call_read (Cip p) s = reached_read (Cip p) s.registers (Ok (here (parts s)))
+call_read call s = reached_read call s.registers (call_reached call s)
 
 -- five control words, the words of the result, and the old BASE of a base return
 abbrev pub return_read : ℕ → Bool → ℕ → List Stretch

@@ -1,11 +1,13 @@
 -- What a step writes: the stretches of memory that the row of its instruction names, told of the state before it. A row
--- that ends with an error names what it would write, and so does a transfer that moves nothing. What a row only reads,
--- words that it takes off the stack among it, it does not name.
+-- that ends with an error names what it would write, and so does a transfer that moves nothing; but an EXIT that does
+-- not find its procedure and a call that does not find its table name no frame. What a row only reads, words that it
+-- takes off the stack among it, it does not name.
 use Rattle.std.specs.Prelude.{ℕ, zero, suc, ◌+◌, ◌-◌, ◌*◌, ◌/◌, ◌%◌, ◌==◌, ◌&&◌, Bool, max, min, int_lt, nat_lt}
 use Rattle.std.specs.Prelude.{List, [], ◌∷◌, ◌++◌, length, Option, Some, None, Result, Ok, Err, if◌then◌else◌}
 use Rattle.std.specs.Prelude.{slice_get}
 use Rattle.std.specs.List.{list_any}
 use Rattle.pm_words.specs.declared.error.ExecError.{ExecError}
+use Rattle.pm_words.specs.declared.error.ExecError.TheVariants.{NoSegment}
 use Rattle.pm_words.specs.Words.{byte_at, word_at}
 use Rattle.pm_words.specs.Signed.{signed}
 use Rattle.pm_words.specs.Stack.{◌>>=◌}
@@ -169,22 +171,23 @@ reached_written call sp (Ok at) =
     ∷ frame_written call at.loaded sp (attributes at.memory at.place (procedure_called call))
 reached_written call sp (Err e) = []
 
--- a call of the segment of slot n, which may have a place
-abbrev pub slot_written : Call → ℕ → Parts → Option (Option SegmentPlace) → Result (Option (List ℕ)) ExecError
-    → List Stretch
-slot_written call n c (Some (Some p)) code = reached_written call c.registers.sp (reach_standing c n p)
-slot_written call n c (Some None) (Ok (Some code)) = reached_written call c.registers.sp (reach_loading c n code)
-slot_written call n c (Some None) (Ok None) = []
-slot_written call n c (Some None) (Err e) = []
-slot_written call n c None code = []
+-- the segment that a call of slot n reaches: one that has a place stands there, of another the code is loaded
+abbrev pub slot_reached : ℕ → Parts → Option (Option SegmentPlace) → Result (Option (List ℕ)) ExecError
+    → Result Reached ExecError
+slot_reached n c (Some (Some p)) code = reach_standing c n p
+slot_reached n c (Some None) (Ok (Some code)) = reach_loading c n code
+slot_reached n c (Some None) (Ok None) = Err NoSegment
+slot_reached n c (Some None) (Err e) = Err e
+slot_reached n c None code = Err NoSegment
+
+-- the segment that a call reaches
+abbrev pub call_reached : Call → State → Result Reached ExecError
+call_reached (Cxp n p) s =
+    slot_reached n (parts s) (slice_get s.places n) (code_needed (Cxp n p) s.places s.rows s.devices)
+call_reached call s = Ok (here (parts s))
 
 abbrev pub call_written : Call → State → List Stretch
-call_written (Cxp n p) s =
-    slot_written (Cxp n p) n (parts s) (slice_get s.places n) (code_needed (Cxp n p) s.places s.rows s.devices)
-call_written (Clp p) s = reached_written (Clp p) s.registers.sp (Ok (here (parts s)))
-call_written (Cgp p) s = reached_written (Cgp p) s.registers.sp (Ok (here (parts s)))
-call_written (Cbp p) s = reached_written (Cbp p) s.registers.sp (Ok (here (parts s)))
-call_written (Cip p) s = reached_written (Cip p) s.registers.sp (Ok (here (parts s)))
+call_written call s = reached_written call s.registers.sp (call_reached call s)
 
 -- the words of a result go below the SP that the frame keeps
 abbrev pub return_written : ℕ → List ℕ → ℕ → List Stretch

@@ -1,6 +1,6 @@
 -- What a step writes, computed part by part.
-use Rattle.std.proofs.Common.{◌≡◌, ℕ, ◌+◌, ◌-◌, ◌/◌, ◌%◌, ◌<◌, ◌≤◌, true, List, [], ◌∷◌, length}
-use Rattle.std.proofs.Common.{Some, None, Ok, Err, refl, arith, rules, add-one}
+use Rattle.std.proofs.Common.{◌≡◌, ℕ, ◌+◌, ◌/◌, ◌%◌, ◌<◌, ◌≤◌, true, List, [], length}
+use Rattle.std.proofs.Common.{Option, Some, None, Result, Ok, Err, refl, arith, rules, add-one}
 use Rattle.std.specs.Prelude.{◌||◌}
 use Rattle.std.proofs.lemmas.List.{get_or_past, take-append-drop}
 use Rattle.pm_words.specs.declared.error.ExecError.{ExecError}
@@ -9,12 +9,12 @@ use Rattle.pm_words.specs.Words.{IsMemory, bytes_of, overwritten, with_bytes, wo
 use Rattle.pm_words.proofs.Pairs.{words_of-bytes_of}
 use Rattle.pm_families.specs.declared.families.Call.{Call}
 use Rattle.pm_calls.specs.declared.exits.Wanted.{Wanted}
-use Rattle.pm_calls.specs.Calls.{procedure_called}
+use Rattle.pm_calls.specs.Calls.{Reached}
 use Rattle.pm_calls.specs.Exits.{frame_up, last_frame, least_below, met}
-use Rattle.pm_calls.specs.Tables.{attributes}
 use Rattle.pm_calls.proofs.WalkLaws.{Passes, least_is, least_none, stops, stops-not}
-use Rattle.pm_machine.specs.Written.{frame_written, ips_written, stretch, touches}
+use Rattle.pm_machine.specs.Written.{Stretch, ips_written, reached_written, stretch, touches}
 use Rattle.pm_access.specs.declared.stretches.Bytes.{Bytes}
+use Rattle.pm_access.specs.Reached.{Seen, reached_seen}
 use Rattle.pm_access.specs.Writing.{frame_and_code, meets}
 
 -- no word stands above the memory
@@ -31,10 +31,14 @@ no_code m a =
     let whole : overwritten (bytes_of m) a [] ≡ bytes_of m = search (rules, take-append-drop) in
     rw whole (words_of-bytes_of m)
 
--- a call in a segment that stands
-pub frame_standing : (call : Call) (sp place : ℕ) (m : List ℕ) → frame_and_code call sp m [] place
-    ≡ stretch (sp - 0) 0 ∷ frame_written call 0 sp (attributes m place (procedure_called call))
-frame_standing call sp place m = rw (no_code m (sp - 0)) refl
+-- what a call writes, by what is seen of the segment that it reaches
+abbrev pub seen_written : Call → ℕ → Option Seen → List Stretch
+seen_written call sp (Some at) = frame_and_code call sp at
+seen_written call sp None = []
+
+pub written_seen : (call : Call) (sp : ℕ) (r : Result Reached ExecError) → reached_written call sp r ≡ seen_written call sp (reached_seen r)
+written_seen call sp (Ok at) = refl
+written_seen call sp (Err e) = refl
 
 -- ---- EXIT
 

@@ -1,2 +1,3 @@
+pub mod Reached
 pub mod Reading
 pub mod Writing

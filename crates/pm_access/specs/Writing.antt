@@ -1,33 +1,25 @@
 -- Whether what a step writes has one of the bytes that are asked about.
-use Rattle.std.specs.Prelude.{ℕ, ◌-◌, Bool, List, ◌∷◌, length, Result, Ok}
+use Rattle.std.specs.Prelude.{ℕ, ◌-◌, Bool, List, ◌∷◌, Result, Ok}
 use Rattle.std.specs.List.{list_any}
 use Rattle.pm_words.specs.declared.error.ExecError.{ExecError}
-use Rattle.pm_words.specs.Words.{with_bytes}
 use Rattle.pm_words.specs.Stack.{◌>>=◌}
 use Rattle.pm_families.specs.declared.families.Call.{Call}
-use Rattle.pm_calls.specs.declared.exits.Wanted.{Wanted}
 use Rattle.pm_calls.specs.Calls.{procedure_called}
 use Rattle.pm_calls.specs.Tables.{attributes}
 use Rattle.pm_stdproc.specs.UnitRows.{ordered}
 use Rattle.pm_machine.specs.Written.{Stretch, frame_written, stretch, touches}
 use Rattle.pm_access.specs.declared.stretches.Bytes.{Bytes}
-use Rattle.pm_access.specs.declared.written_exits.Named.{Named}
+use Rattle.pm_access.specs.Reached.{Seen}
 
 -- one of these stretches has one of the bytes
 abbrev pub meets : Bytes → List Stretch → Bool
 meets bytes stretches = list_any (touches bytes.address bytes.count) stretches
 
--- a call in the segment whose highest word is at a place: the code that is loaded for it, which ends at SP, and its
--- frame
-abbrev pub frame_and_code : Call → ℕ → List ℕ → List ℕ → ℕ → List Stretch
-frame_and_code call sp m code place =
-    stretch (sp - length code) (length code)
-    ∷ frame_written call (length code) sp
-    (attributes (with_bytes m (sp - length code) code) place (procedure_called call))
-
--- the procedure that an EXIT names
-abbrev pub wanted_by : Named → Wanted
-wanted_by named = record { segment = named.segment; procedure = named.procedure }
+-- a call in a segment: the code that is loaded for it, which ends at SP, and its frame
+abbrev pub frame_and_code : Call → ℕ → Seen → List Stretch
+frame_and_code call sp at =
+    stretch (sp - at.loaded) at.loaded
+    ∷ frame_written call at.loaded sp (attributes at.memory at.place (procedure_called call))
 
 -- the place and the count of a transfer
 abbrev pub transfer_of : List ℕ → ℕ → Result (ℕ × ℕ) ExecError

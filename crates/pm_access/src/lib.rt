@@ -1,6 +1,9 @@
 //! What the next step of a machine writes and reads of its memory, by the row of its instruction.
 #![tactic(auto)]
 
+mod loaded;
+mod loaded_words;
+mod reached;
 mod read;
 mod read_calls;
 mod read_exits;

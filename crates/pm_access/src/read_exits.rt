@@ -5,8 +5,8 @@ ghost use Rattle.pm_machine.specs.ReadStretches.{asked_read, exit_leads, exit_re
 ghost use Rattle.pm_machine.specs.Written.{stretch};
 ghost use Rattle.pm_access.specs.Writing.{meets};
 
-use crate::stretches::{Bytes, meets, word_at, word_in};
-use crate::written_exits::{Named, left_by_exit};
+use crate::stretches::{Bytes, meets, word_at};
+use crate::written_exits::{left_by_exit, wanted_at};
 use pm_machine::Machine;
 use pm_words::Memory;
 
@@ -66,12 +66,7 @@ pub(crate) fn exit_leads(bytes: Bytes, machine: &Machine) -> bool
     if exit_read(bytes, registers.jtab) || asked_read(bytes, registers.seg, registers.jtab) {
         return true;
     }
-    let top = usize::from(registers.sp);
-    let named = Named {
-        segment: word_in(memory, top + 2),
-        procedure: word_in(memory, top),
-    };
-    match left_by_exit(machine, named) {
+    match left_by_exit(machine, wanted_at(memory, registers.sp)) {
         Ok(frames) => frames_read(bytes, memory, registers.mp, frames),
         Err(_) => false,
     }

@@ -1,7 +1,6 @@
 //! What the standard procedures read.
 
 ghost use Rattle.std.specs.Prelude.{◌≡◌, ◌∷◌, [], ◌++◌};
-ghost use Rattle.pm_words.specs.Signed.{signed};
 ghost use Rattle.pm_effects.specs.Effects.{standard_effect};
 ghost use Rattle.pm_stdproc.specs.Procedures.{procedure_numbered};
 ghost use Rattle.pm_machine.specs.ReadStretches.{memory_leads, procedure_leads, scan_stretch};

@@ -2,7 +2,7 @@
 
 ghost use Rattle.std.specs.Prelude.{◌≡◌, ◌≤◌, ◌∷◌, []};
 ghost use Rattle.pm_words.specs.Words.{word_at};
-ghost use Rattle.pm_effects.specs.Effects.{effect_of, words};
+ghost use Rattle.pm_effects.specs.Effects.{effect_of};
 ghost use Rattle.pm_machine.specs.Written.{compare_written, place_on_stack, pushes, pushes_words, stretch};
 ghost use Rattle.pm_machine.specs.Written.{words_of, words_taken};
 ghost use Rattle.pm_machine.specs.ReadStretches.{taken_if};
@@ -54,15 +54,6 @@ pub(crate) fn place_on_stack(memory: &Memory, sp: usize) -> u16
     ensures place { result ≡ place_on_stack memory.now.words sp }
 {
     word_in(memory, sp + 2).wrapping_add(word_in(memory, sp))
-}
-
-/// So many words are taken off the stack, and so many left there.
-pub(crate) fn words(takes: u16, leaves: u16) -> Effect
-    ensures effect { result ≡ words takes leaves }
-{
-    let (top, below) = (Share::Words(takes), Share::Words(0));
-    let leaves = Share::Words(leaves);
-    Effect { top, below, leaves }
 }
 
 // How many words a share has that begins at an address of the stack.

@@ -138,7 +138,9 @@ fn operation_written(bytes: Bytes, what: Operation, machine: &Machine) -> bool
     }
 }
 
-/// Whether the instruction at IPC writes one of so many bytes from an address on.
+/// Whether the instruction at IPC writes one of so many bytes from an address on. A row that ends with an error writes
+/// what it would write if it went on; but an EXIT that does not find its procedure and a call that does not find its
+/// table write no frame.
 #[tactic(auto, unfolding(pm_machine::specs::Written::written, pm_machine::specs::Rows::fetched))]
 pub fn writes(machine: &Machine, address: u16, count: u32) -> bool
     ensures writes { result ≡ writes address count machine.now.state }

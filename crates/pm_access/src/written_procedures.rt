@@ -3,13 +3,13 @@
 ghost use Rattle.std.specs.Prelude.{◌≡◌};
 ghost use Rattle.pm_stdproc.specs.Loads.{slot_code};
 ghost use Rattle.pm_stdproc.specs.Procedures.{procedure_numbered};
-ghost use Rattle.pm_words.specs.Words.{word_at};
 ghost use Rattle.pm_machine.specs.Written.{counted_stretch, kept_written, memory_written, procedure_written};
 ghost use Rattle.pm_machine.specs.Written.{units_written};
 ghost use Rattle.pm_access.specs.Writing.{meets, transfer_of};
 
-use crate::stretches::{Bytes, meets, place_on_stack, pushes_words, word_in, words};
+use crate::stretches::{Bytes, meets, place_on_stack, pushes_words, word_in};
 use crate::written_exits::exit_written;
+use pm_effects::words;
 use pm_machine::Machine;
 use pm_stdproc::{OnMemory, OnUnits, Procedure, procedure_of};
 use pm_words::stack::pop;

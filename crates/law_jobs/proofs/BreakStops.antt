@@ -14,7 +14,7 @@ use Rattle.pm_debug.specs.declared.breaks.Breakpoint.{Breakpoint}
 use Rattle.pm_debug.specs.declared.breaks.Spot.{Spot}
 use Rattle.pm_debug.specs.declared.breaks.Spot.TheVariants.{Code, Reads, Writes}
 use Rattle.pm_debug.specs.declared.refusal.DebugRefusal.TheVariants.{Full, NotSet}
-use Rattle.pm_debug.specs.Breaks.{breakpoint, can_be_asked, can_stand, holds, instead, is_at_break, is_met, is_same, is_same_place, is_set, is_that}
+use Rattle.pm_debug.specs.Breaks.{breakpoint, bytes_from, can_be_asked, can_stand, holds, instead, is_at_break, is_met, is_same, is_same_place, is_set, is_that}
 use Rattle.pm_debug.specs.Breaks.{stands_at, stops_here, with_break, without_break, word_is}
 use Rattle.pm_debug.specs.Session.{Session}
 use Rattle.pm_session.specs.Answers.{after_command, with_breaks}
@@ -89,12 +89,12 @@ module _ (t : State) where
   met_same (Reads a n) (Writes b k) is = absurd (cc)
   met_same (Reads a n) (Reads b k) is =
       let parts = and_of (a == b) (n == k) is in
-      ap (λ c. reads c (2 * n) t) (eqb-true a b parts.0) ∙ ap (λ l. reads b (2 * l) t) (eqb-true n k parts.1)
+      ap (λ c. reads c (bytes_from c n) t) (eqb-true a b parts.0) ∙ ap (λ l. reads b (bytes_from b l) t) (eqb-true n k parts.1)
   met_same (Writes a n) (Code y) is = absurd (cc)
   met_same (Writes a n) (Reads b k) is = absurd (cc)
   met_same (Writes a n) (Writes b k) is =
       let parts = and_of (a == b) (n == k) is in
-      ap (λ c. writes c (2 * n) t) (eqb-true a b parts.0) ∙ ap (λ l. writes b (2 * l) t) (eqb-true n k parts.1)
+      ap (λ c. writes c (bytes_from c n) t) (eqb-true a b parts.0) ∙ ap (λ l. writes b (bytes_from b l) t) (eqb-true n k parts.1)
 
   -- where it is not met, those elsewhere are all that stop a run
   not_met : (x : Spot) (xs : List Breakpoint) → is_met x t ≡ false → is_at_break (elsewhere x xs) t ≡ is_at_break xs t

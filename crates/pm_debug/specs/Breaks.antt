@@ -1,6 +1,6 @@
 -- Breakpoints: a run stops before a step at a place in the code, or before one that writes or reads certain words.
 -- Some have a condition.
-use Rattle.std.specs.Prelude.{ℕ, ◌*◌, ◌==◌, ◌&&◌, not, Bool, false, true, List, [], ◌∷◌, ◌++◌, length, map}
+use Rattle.std.specs.Prelude.{ℕ, ◌*◌, ◌-◌, min, ◌==◌, ◌&&◌, not, Bool, false, true, List, [], ◌∷◌, ◌++◌, length, map}
 use Rattle.std.specs.Prelude.{filter, Option, Some, None, Result, Ok, Err, if◌then◌else◌, nat_lt}
 use Rattle.std.specs.List.{list_any}
 use Rattle.pm_words.specs.Words.{word_at}
@@ -85,11 +85,15 @@ is_that b (Some here) = is_same_place b here
 abbrev pub stands_at : CodePlace → State → Bool
 stands_at b s = is_that b (place_in_code s)
 
+-- the bytes of so many words from an address on; the memory ends with that at 65,535
+abbrev pub bytes_from : ℕ → ℕ → ℕ
+bytes_from address n = min (2 * n) (65536 - address)
+
 -- a machine that stands here meets this place, or the step that it makes next writes, or reads, one of these words
 abbrev pub is_met_from : Option CodePlace → Spot → State → Bool
 is_met_from here (Code place) s = is_that place here
-is_met_from here (Writes address n) s = writes address (2 * n) s
-is_met_from here (Reads address n) s = reads address (2 * n) s
+is_met_from here (Writes address n) s = writes address (bytes_from address n) s
+is_met_from here (Reads address n) s = reads address (bytes_from address n) s
 
 abbrev pub is_met : Spot → State → Bool
 is_met spot s = is_met_from (place_in_code s) spot s

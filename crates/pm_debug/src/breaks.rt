@@ -2,8 +2,8 @@
 //! Some have a condition.
 
 ghost use Rattle.std.specs.Prelude.{◌≡◌, ◌&&◌, Ok, IfErr, OnOk, OnErr, Err, map};
-ghost use Rattle.pm_debug.specs.Breaks.{can_be_asked, can_stand, holds, instead, is_at_break, is_met_from, is_same};
-ghost use Rattle.pm_debug.specs.Breaks.{is_same_place, is_set, is_that, stands_at, with_break, without_break};
+ghost use Rattle.pm_debug.specs.Breaks.{bytes_from, can_be_asked, can_stand, holds, instead, is_at_break, is_met_from};
+ghost use Rattle.pm_debug.specs.Breaks.{is_same, is_same_place, is_set, is_that, stands_at, with_break, without_break};
 
 use crate::refusal::DebugRefusal;
 use arrayvec::ArrayVec;
@@ -28,19 +28,23 @@ pub struct Condition {
 pub enum Spot {
     /// At a place in the code: it stops a run before a step there.
     Code(CodePlace),
-    /// On words of the memory: it stops a run before a step that writes a byte of one of them.
+    /// On words of the memory: it stops a run before a step that writes a byte of one of them. One that ends with an
+    /// error writes what it would write if it went on; but an EXIT that does not find its procedure and a call that
+    /// does not find its table write no frame.
     Writes {
         /// The address of the first word, which is even.
         address: u16,
-        /// How many words; with none it never stops a run, and no word stands behind 65,535.
+        /// How many words; no word stands behind 65,535. With none it is met by a row that names bytes on both sides.
         words: u16,
     },
     /// On words of the memory: it stops a run before a step that reads a byte of one of them. The instruction's own
-    /// bytes do not count, and one that ends with an error reads what it would read if it went on.
+    /// bytes do not count. One that ends with an error reads what it would read if it went on; but an EXIT that does
+    /// not find its procedure reads no frame, and a call no table without its segment, and no parameters or links
+    /// without its table.
     Reads {
         /// The address of the first word, which is even.
         address: u16,
-        /// How many words; with none it never stops a run, and no word stands behind 65,535.
+        /// How many words; no word stands behind 65,535. With none it is met by a row that names bytes on both sides.
         words: u16,
     },
 }
@@ -199,14 +203,21 @@ fn holds(condition: Option<Condition>, memory: &Memory) -> bool
     }
 }
 
+/// The bytes of so many words from an address on; the memory ends with that at 65,535.
+fn bytes_from(address: u16, words: u16) -> u32
+    ensures bytes { result ≡ bytes_from address words }
+{
+    (2 * u32::from(words)).min(65_536 - u32::from(address))
+}
+
 /// Whether a machine that stands here meets a place, or writes or reads certain words next.
 fn is_met(spot: Spot, here: Option<CodePlace>, machine: &Machine) -> bool
     ensures met { result ≡ is_met_from here spot machine.now.state }
 {
     match spot {
         Spot::Code(place) => is_that(place, here),
-        Spot::Writes { address, words } => writes(machine, address, 2 * u32::from(words)),
-        Spot::Reads { address, words } => reads(machine, address, 2 * u32::from(words)),
+        Spot::Writes { address, words } => writes(machine, address, bytes_from(address, words)),
+        Spot::Reads { address, words } => reads(machine, address, bytes_from(address, words)),
     }
 }
 

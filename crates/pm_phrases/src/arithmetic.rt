@@ -3,8 +3,10 @@
 ghost use Rattle.std.specs.Prelude.{◌≡◌, ◌<◌, IfOk};
 ghost use Rattle.pm_phrases.specs.Arithmetic as texts;
 
-use crate::literals::Beside;
-use crate::operand::{Form, Phrase, Value, standing, text, valued};
+use crate::literals::push_beside;
+use crate::operand::{
+    Form, Phrase, Value, push_operand, room_for, standing, text, valued, written,
+};
 use crate::signs::{binary_sign, binary_strength, relation_sign};
 use crate::spelling::{Marks, Spelling};
 use pm_code::Signed;
@@ -23,7 +25,12 @@ pub(crate) fn infixed(
     requires few { strength < 9 }
     ensures shown { IfOk result (λ p. p ≡ texts.between a.now sign.now strength b.now) }
 {
-    let text = text!(in alloc; "{} {sign} {}", Value(a, strength), Value(b, strength + 1))?;
+    let mut text = String::with_capacity(alloc, room_for(a, b))?;
+    push_operand(&mut text, a, strength)?;
+    text.push(' ')?;
+    text.push_str(sign)?;
+    text.push(' ')?;
+    push_operand(&mut text, b, strength + 1)?;
     Ok(valued(text, strength))
 }
 
@@ -32,8 +39,13 @@ pub(crate) fn infixed(
 fn compared(alloc: Global, a: &Phrase, sign: &'static str, b: &Phrase) -> Result<Phrase, AllocError>
     ensures shown { IfOk result (λ p. p ≡ texts.compared a.now sign.now b.now) }
 {
-    let (first, second) = (Beside(b.form, a, 1), Beside(a.form, b, 2));
-    Ok(valued(text!(in alloc; "{first} {sign} {second}")?, 1))
+    let mut text = String::with_capacity(alloc, room_for(a, b))?;
+    push_beside(&mut text, b.form, a, 1)?;
+    text.push(' ')?;
+    text.push_str(sign)?;
+    text.push(' ')?;
+    push_beside(&mut text, a.form, b, 2)?;
+    Ok(valued(text, 1))
 }
 
 #[tactic(auto, unfolding(crate::specs::Arithmetic::arithmetic_alone))]
@@ -45,16 +57,17 @@ pub(crate) fn arithmetic_alone(
     ensures shown { IfOk result (λ p. p ≡ texts.arithmetic_alone spelling what) }
 {
     match what {
-        Arithmetic::Constant(word) => {
-            let text = text!(in alloc; "{}{}", Signed(word), Marks(spelling))?;
-            let form = match spelling {
-                Spelling::Shortest => Form::Constant(word),
-                _ if word < 32768 => Form::Value(9),
-                _ => Form::Value(4),
-            };
-            Ok(Some(standing(text, form)))
-        }
-        Arithmetic::Nil => Ok(Some(valued(text!(in alloc; "NIL")?, 9))),
+        Arithmetic::Constant(word) => match spelling {
+            Spelling::Shortest => {
+                Ok(Some(standing(written(alloc, Signed(word))?, Form::Constant(word))))
+            }
+            _ => {
+                let text = text!(in alloc; "{}{}", Signed(word), Marks(spelling))?;
+                let strength = if word < 32768 { 9 } else { 4 };
+                Ok(Some(standing(text, Form::Value(strength))))
+            }
+        },
+        Arithmetic::Nil => Ok(Some(valued(String::from_str(alloc, "NIL")?, 9))),
         _ => Ok(None),
     }
 }

@@ -1,13 +1,12 @@
 //! What stands around an operation: its procedure, and operands that are not there.
 
-ghost use Rattle.std.specs.Prelude.{◌≡◌, ◌++◌, IfOk, Some};
+ghost use Rattle.std.specs.Prelude.{◌≡◌, ◌++◌, IfOk, OnOk, string_bytes};
 ghost use Rattle.pm_phrases.specs.Shown as shown;
 ghost use Rattle.pm_phrases.specs.Missing as missing;
 
-use crate::operand::{Arguments, Form, Further, Phrase, Value, standing, text, valued};
+use crate::operand::{Form, Phrase, push_further, push_listed, push_value, standing, text, valued};
 use pm_effects::Share;
 use std::alloc::{AllocError, Global};
-use std::fmt;
 
 /// The procedure around an operation.
 #[derive(Clone, Copy)]
@@ -38,9 +37,9 @@ fn pop(alloc: Global, share: Share) -> Result<Option<Phrase>, AllocError>
 {
     match share {
         Share::Words(0) => Ok(None),
-        Share::Words(1) => Ok(Some(valued(text!(in alloc; "POP")?, 9))),
+        Share::Words(1) => Ok(Some(valued(String::from_str(alloc, "POP")?, 9))),
         Share::Words(n) => Ok(Some(valued(text!(in alloc; "POP*{n}")?, 9))),
-        Share::Set => Ok(Some(standing(text!(in alloc; "POP SET")?, Form::Set(9)))),
+        Share::Set => Ok(Some(standing(String::from_str(alloc, "POP SET")?, Form::Set(9)))),
     }
 }
 
@@ -49,35 +48,49 @@ pub(crate) fn stand_ins(alloc: Global, known: bool, what: Missing) -> Result<Pop
     ensures pops { IfOk result (λ p. missing.listed p ≡ missing.stand_ins known what) }
 {
     if !known {
-        return Ok(Pops::One(valued(text!(in alloc; "?")?, 9)));
+        return Ok(Pops::One(valued(String::from_str(alloc, "?")?, 9)));
     }
     if let (Share::Words(0), Share::Words(0)) = (what.below, what.top) {
         return Ok(Pops::None);
     }
-    let below = pop(alloc, what.below)?;
     let top = pop(alloc, what.top)?;
-    match (below, top) {
+    if let Share::Words(0) = what.below {
+        return Ok(match top {
+            None => Pops::None,
+            Some(p) => Pops::One(p),
+        });
+    }
+    match (pop(alloc, what.below)?, top) {
         (None, None) => Ok(Pops::None),
         (Some(p), None) | (None, Some(p)) => Ok(Pops::One(p)),
         (Some(p), Some(q)) => Ok(Pops::Two(p, q)),
     }
 }
 
-/// Operands behind a name: those that stand for what is missing, and the others.
-#[derive(Clone, Copy)]
-pub(crate) struct AllArguments<'a>(pub &'a Pops, pub &'a [Phrase]);
-
-impl fmt::Display for AllArguments<'_> {
-    ghost output = { λ a. Some (shown.arguments (missing.listed a.0.now ++ a.1.now)) };
-
-    fn fmt<W: fmt::Write>(&self, f: &mut fmt::Formatter<W>) -> fmt::Result {
-        let operands = self.1;
-        match self.0 {
-            Pops::None => write!(f, "{}", Arguments(operands)),
-            Pops::One(p) => write!(f, "({}{})", Value(p, 0), Further(operands)),
-            Pops::Two(p, q) => {
-                write!(f, "({}, {}{})", Value(p, 0), Value(q, 0), Further(operands))
-            }
+/// Adds operands behind a name: those that stand for what is missing, and the others.
+pub(crate) fn push_arguments(
+    out: &mut String,
+    pops: &Pops,
+    operands: &[Phrase],
+) -> Result<(), AllocError>
+    ensures text { OnOk result (string_bytes out.new
+        ≡ string_bytes out.old ++ shown.arguments (missing.listed pops.now ++ operands.now)) }
+{
+    match pops {
+        Pops::None => push_listed(out, operands),
+        Pops::One(p) => {
+            out.push('(')?;
+            push_value(out, p)?;
+            push_further(out, operands)?;
+            out.push(')')
+        }
+        Pops::Two(p, q) => {
+            out.push('(')?;
+            push_value(out, p)?;
+            out.push_str(", ")?;
+            push_value(out, q)?;
+            push_further(out, operands)?;
+            out.push(')')
         }
     }
 }

@@ -4,8 +4,8 @@ ghost use Rattle.std.specs.Prelude.{◌≡◌, ◌++◌, IfOk, Some, option_map}
 ghost use Rattle.pm_phrases.specs.Calls as texts;
 ghost use Rattle.pm_phrases.specs.Missing.{listed};
 
-use crate::around::{AllArguments, Pops};
-use crate::operand::{Phrase, text, valued};
+use crate::around::{Pops, push_arguments};
+use crate::operand::{Phrase, ROOM, text, valued, written};
 use pm_families::{Call, Return};
 use pm_notes::{standard_name, system_name};
 use pm_opcode::Operation;
@@ -34,12 +34,24 @@ impl fmt::Display for CalledName {
     #[tactic(auto, unfolding(crate::specs::Calls::called_text))]
     fn fmt<W: fmt::Write>(&self, f: &mut fmt::Formatter<W>) -> fmt::Result {
         match self.0 {
-            Call::Clp(number) => write!(f, "CLP_{number}"),
-            Call::Cgp(number) => write!(f, "CGP_{number}"),
-            Call::Cbp(number) => write!(f, "CBP_{number}"),
-            Call::Cip(number) => write!(f, "CIP_{number}"),
+            Call::Clp(number) => {
+                f.write_str("CLP_")?;
+                f.write(number)
+            }
+            Call::Cgp(number) => {
+                f.write_str("CGP_")?;
+                f.write(number)
+            }
+            Call::Cbp(number) => {
+                f.write_str("CBP_")?;
+                f.write(number)
+            }
+            Call::Cip(number) => {
+                f.write_str("CIP_")?;
+                f.write(number)
+            }
             Call::Cxp(segment, number) => match external_name(segment, number) {
-                Some(name) => write!(f, "{name}"),
+                Some(name) => f.write_str(name),
                 None => write!(f, "CXP_{segment}_{number}"),
             },
         }
@@ -57,15 +69,18 @@ pub(crate) fn called(
 {
     match what {
         Operation::Call(call) => {
-            let arguments = AllArguments(pops, operands);
-            Ok(Some(valued(text!(in alloc; "{}{arguments}", CalledName(call))?, 9)))
+            let mut text = written(alloc, CalledName(call))?;
+            push_arguments(&mut text, pops, operands)?;
+            Ok(Some(valued(text, 9)))
         }
         Operation::Standard(number) => {
             let Some(name) = standard_name(number) else {
                 return Ok(None);
             };
-            let arguments = AllArguments(pops, operands);
-            Ok(Some(valued(text!(in alloc; "{name}{arguments}")?, 9)))
+            let mut text = String::with_capacity(alloc, ROOM)?;
+            text.push_str(name)?;
+            push_arguments(&mut text, pops, operands)?;
+            Ok(Some(valued(text, 9)))
         }
         _ => Ok(None),
     }
@@ -76,9 +91,9 @@ pub(crate) fn returned(alloc: Global, what: Return) -> Result<Phrase, AllocError
     ensures shown { IfOk result (λ p. p ≡ texts.returned what) }
 {
     match what {
-        Return::Normal(0) => Ok(valued(text!(in alloc; "RETURN")?, 0)),
+        Return::Normal(0) => Ok(valued(String::from_str(alloc, "RETURN")?, 0)),
         Return::Normal(words) => Ok(valued(text!(in alloc; "RETURN {words}")?, 0)),
-        Return::Base(0) => Ok(valued(text!(in alloc; "RETURN FROM BASE")?, 0)),
+        Return::Base(0) => Ok(valued(String::from_str(alloc, "RETURN FROM BASE")?, 0)),
         Return::Base(words) => Ok(valued(text!(in alloc; "RETURN FROM BASE {words}")?, 0)),
     }
 }

@@ -24,10 +24,10 @@ impl fmt::Display for KindName {
     fn fmt<W: fmt::Write>(&self, f: &mut fmt::Formatter<W>) -> fmt::Result {
         let marks = Marks(self.spelling);
         match self.kind {
-            Kind::Real => write!(f, "real"),
-            Kind::String => write!(f, "str"),
-            Kind::Boolean => write!(f, "bool"),
-            Kind::Set => write!(f, "sets"),
+            Kind::Real => f.write_str("real"),
+            Kind::String => f.write_str("str"),
+            Kind::Boolean => f.write_str("bool"),
+            Kind::Set => f.write_str("sets"),
             Kind::Bytes(n) => write!(f, "bytes[{n}{marks}]"),
             Kind::Words(n) => write!(f, "words[{n}{marks}]"),
         }

@@ -2,6 +2,7 @@
 
 ghost use Rattle.std.specs.Prelude.{◌≡◌, ◌∷◌, ◌++◌, IfOk};
 ghost use Rattle.pm_code.specs.Views.{placed_item};
+ghost use Rattle.pm_opcode.specs.Operations.{operation_of};
 ghost use Rattle.pm_phrases.specs.Counts as texts;
 
 use crate::arithmetic::{arithmetic_alone, arithmetic_one, arithmetic_three, arithmetic_two};
@@ -17,7 +18,7 @@ use crate::parts::{
 };
 use crate::pointers::{pointer_one, pointer_two};
 use crate::sets::{set_four, set_one, set_three, set_two};
-use crate::spelling::operation_and_spelling;
+use crate::spelling::spelling_of;
 use crate::variables::{variable_alone, variable_one};
 use pm_code::Item;
 use pm_families::Value;
@@ -29,14 +30,15 @@ fn plain_none(
     alloc: Global,
     around: Around,
     i: &Instr,
+    what: Operation,
     named: &[u8],
 ) -> Result<Option<Phrase>, AllocError>
+    requires what { what ≡ operation_of i.now }
     ensures shown { IfOk result (λ p. p ≡ texts.plain_none around i.now named.now) }
 {
-    let (what, spelling) = operation_and_spelling(i);
     match what {
-        Operation::Arithmetic(what) => arithmetic_alone(alloc, spelling, what),
-        Operation::Variable(what) => variable_alone(alloc, around, spelling, what),
+        Operation::Arithmetic(o) => arithmetic_alone(alloc, spelling_of(i, what), o),
+        Operation::Variable(o) => variable_alone(alloc, around, spelling_of(i, what), o),
         Operation::Literal(what) => literal_alone(alloc, what, named),
         Operation::Return(what) => Ok(Some(returned(alloc, what)?)),
         _ => Ok(None),
@@ -48,15 +50,16 @@ fn plain_one(
     alloc: Global,
     around: Around,
     i: &Instr,
+    what: Operation,
     a: &Phrase,
 ) -> Result<Option<Phrase>, AllocError>
+    requires what { what ≡ operation_of i.now }
     ensures shown { IfOk result (λ p. p ≡ texts.plain_one around i.now a.now) }
 {
-    let (what, spelling) = operation_and_spelling(i);
     match what {
         Operation::Arithmetic(what) => arithmetic_one(alloc, what, a),
-        Operation::Variable(what) => variable_one(alloc, around, spelling, what, a),
-        Operation::Pointer(what) => pointer_one(alloc, spelling, what, a),
+        Operation::Variable(o) => variable_one(alloc, around, spelling_of(i, what), o, a),
+        Operation::Pointer(o) => pointer_one(alloc, spelling_of(i, what), o, a),
         Operation::Value(Value::Byte(what)) => byte_one(alloc, what, a),
         Operation::Value(Value::Field(what)) => field_one(alloc, what, a),
         Operation::Value(Value::Set(what)) => set_one(alloc, what, a),
@@ -65,46 +68,60 @@ fn plain_one(
 }
 
 #[tactic(auto, unfolding(crate::specs::Counts::plain_two))]
-fn plain_two(alloc: Global, i: &Instr, a: &Phrase, b: &Phrase) -> Result<Option<Phrase>, AllocError>
+fn plain_two(
+    alloc: Global,
+    i: &Instr,
+    what: Operation,
+    a: &Phrase,
+    b: &Phrase,
+) -> Result<Option<Phrase>, AllocError>
+    requires what { what ≡ operation_of i.now }
     ensures shown { IfOk result (λ p. p ≡ texts.plain_two i.now a.now b.now) }
 {
-    let (what, spelling) = operation_and_spelling(i);
     match what {
         Operation::Arithmetic(what) => arithmetic_two(alloc, what, a, b),
-        Operation::Pointer(what) => pointer_two(alloc, spelling, what, a, b),
+        Operation::Pointer(o) => pointer_two(alloc, spelling_of(i, what), o, a, b),
         Operation::Value(Value::Byte(what)) => byte_two(alloc, what, a, b),
         Operation::Value(Value::Text(what)) => Ok(Some(text_two(alloc, what, a, b)?)),
         Operation::Value(Value::Field(what)) => field_two(alloc, what, a, b),
         Operation::Value(Value::Set(what)) => set_two(alloc, what, a, b),
         Operation::Value(Value::Compare(r, kind)) => {
-            Ok(Some(compare_two(alloc, spelling, r, kind, a, b)?))
+            Ok(Some(compare_two(alloc, spelling_of(i, what), r, kind, a, b)?))
         }
         _ => Ok(None),
     }
 }
 
-#[tactic(auto, unfolding(crate::specs::Counts::of_none))]
-fn of_none(alloc: Global, around: Around, item: &Item<usize>) -> Result<Option<Phrase>, AllocError>
+#[tactic(auto, unfolding(crate::specs::Counts::of_none, crate::specs::Counts::operation_in))]
+fn of_none(
+    alloc: Global,
+    around: Around,
+    item: &Item<usize>,
+    what: Operation,
+) -> Result<Option<Phrase>, AllocError>
+    requires what { what ≡ texts.operation_in (placed_item item.now) }
     ensures shown { IfOk result (λ p. p ≡ texts.of_none around (placed_item item.now)) }
 {
     match item {
-        Item::Plain(i, named) => plain_none(alloc, around, i, named),
+        Item::Plain(i, named) => plain_none(alloc, around, i, what, named),
         Item::Jump(op, target) => jump_alone(alloc, *op, target),
         _ => Ok(None),
     }
 }
 
-#[tactic(auto, unfolding(crate::specs::Counts::of_one))]
+#[tactic(auto, unfolding(crate::specs::Counts::of_one, crate::specs::Counts::operation_in))]
 fn of_one(
     alloc: Global,
     around: Around,
     item: &Item<usize>,
+    what: Operation,
     a: &Phrase,
 ) -> Result<Option<Phrase>, AllocError>
+    requires what { what ≡ texts.operation_in (placed_item item.now) }
     ensures shown { IfOk result (λ p. p ≡ texts.of_one around (placed_item item.now) a.now) }
 {
     match item {
-        Item::Plain(i, _) => plain_one(alloc, around, i, a),
+        Item::Plain(i, _) => plain_one(alloc, around, i, what, a),
         Item::Jump(op, target) => jump_one(alloc, *op, target, a),
         Item::Case {
             low: least,
@@ -120,17 +137,19 @@ fn of_one(
     }
 }
 
-#[tactic(auto, unfolding(crate::specs::Counts::of_two))]
+#[tactic(auto, unfolding(crate::specs::Counts::of_two, crate::specs::Counts::operation_in))]
 fn of_two(
     alloc: Global,
     item: &Item<usize>,
+    what: Operation,
     a: &Phrase,
     b: &Phrase,
 ) -> Result<Option<Phrase>, AllocError>
+    requires what { what ≡ texts.operation_in (placed_item item.now) }
     ensures shown { IfOk result (λ p. p ≡ texts.of_two (placed_item item.now) a.now b.now) }
 {
     match item {
-        Item::Plain(i, _) => plain_two(alloc, i, a, b),
+        Item::Plain(i, _) => plain_two(alloc, i, what, a, b),
         Item::Jump(op, target) => jump_two(alloc, *op, target, a, b),
         _ => Ok(None),
     }
@@ -147,18 +166,16 @@ pub(crate) fn operation_in(item: &Item<usize>) -> Operation
     }
 }
 
-#[tactic(auto, unfolding(crate::specs::Counts::of_three))]
 fn of_three(
     alloc: Global,
-    item: &Item<usize>,
+    what: Operation,
     a: &Phrase,
     b: &Phrase,
     c: &Phrase,
 ) -> Result<Option<Phrase>, AllocError>
-    ensures shown { IfOk result
-        (λ p. p ≡ texts.of_three (placed_item item.now) a.now b.now c.now) }
+    ensures shown { IfOk result (λ p. p ≡ texts.three_by a.now b.now c.now what) }
 {
-    match operation_in(item) {
+    match what {
         Operation::Arithmetic(what) => arithmetic_three(alloc, what, a, b, c),
         Operation::Value(Value::Byte(what)) => byte_three(alloc, what, a, b, c),
         Operation::Value(Value::Field(what)) => field_three(alloc, what, a, b, c),
@@ -167,81 +184,85 @@ fn of_three(
     }
 }
 
-#[tactic(auto, unfolding(crate::specs::Counts::of_four))]
 fn of_four(
     alloc: Global,
-    item: &Item<usize>,
+    what: Operation,
     a: &Phrase,
     b: &Phrase,
     c: &Phrase,
     d: &Phrase,
 ) -> Result<Option<Phrase>, AllocError>
-    ensures shown { IfOk result
-        (λ p. p ≡ texts.of_four (placed_item item.now) a.now b.now c.now d.now) }
+    ensures shown { IfOk result (λ p. p ≡ texts.four_by a.now b.now c.now d.now what) }
 {
-    match operation_in(item) {
+    match what {
         Operation::Value(Value::Field(what)) => field_four(alloc, what, a, b, c, d),
         Operation::Value(Value::Set(what)) => set_four(alloc, what, a, b, c, d),
         _ => Ok(None),
     }
 }
 
-#[tactic(auto, unfolding(crate::specs::Counts::by_count))]
+#[tactic(auto, unfolding(crate::specs::Counts::by_count, crate::specs::Counts::of_three, crate::specs::Counts::of_four))]
 pub(crate) fn by_count(
     alloc: Global,
     around: Around,
     item: &Item<usize>,
+    what: Operation,
     operands: &[Phrase],
 ) -> Result<Option<Phrase>, AllocError>
+    requires what { what ≡ texts.operation_in (placed_item item.now) }
     ensures shown { IfOk result
         (λ p. p ≡ texts.by_count around (placed_item item.now) operands.now) }
 {
     match operands {
-        [] => of_none(alloc, around, item),
-        [a] => of_one(alloc, around, item, a),
-        [a, b] => of_two(alloc, item, a, b),
-        [a, b, c] => of_three(alloc, item, a, b, c),
-        [a, b, c, d] => of_four(alloc, item, a, b, c, d),
+        [] => of_none(alloc, around, item, what),
+        [a] => of_one(alloc, around, item, what, a),
+        [a, b] => of_two(alloc, item, what, a, b),
+        [a, b, c] => of_three(alloc, what, a, b, c),
+        [a, b, c, d] => of_four(alloc, what, a, b, c, d),
         _ => Ok(None),
     }
 }
 
-#[tactic(auto, unfolding(crate::specs::Counts::by_count))]
+#[tactic(auto, unfolding(crate::specs::Counts::by_count, crate::specs::Counts::of_three, crate::specs::Counts::of_four))]
 pub(crate) fn behind_one(
     alloc: Global,
     around: Around,
     item: &Item<usize>,
+    what: Operation,
     a: &Phrase,
     operands: &[Phrase],
 ) -> Result<Option<Phrase>, AllocError>
+    requires what { what ≡ texts.operation_in (placed_item item.now) }
     ensures shown { IfOk result
         (λ p. p ≡ texts.by_count around (placed_item item.now) (a.now ∷ operands.now)) }
 {
     match operands {
-        [] => of_one(alloc, around, item, a),
-        [b] => of_two(alloc, item, a, b),
-        [b, c] => of_three(alloc, item, a, b, c),
-        [b, c, d] => of_four(alloc, item, a, b, c, d),
+        [] => of_one(alloc, around, item, what, a),
+        [b] => of_two(alloc, item, what, a, b),
+        [b, c] => of_three(alloc, what, a, b, c),
+        [b, c, d] => of_four(alloc, what, a, b, c, d),
         _ => Ok(None),
     }
 }
 
-#[tactic(auto, unfolding(crate::specs::Counts::by_count))]
+#[tactic(auto, unfolding(crate::specs::Counts::by_count, crate::specs::Counts::of_three, crate::specs::Counts::of_four))]
 pub(crate) fn behind_two(
     alloc: Global,
     around: Around,
     item: &Item<usize>,
+    what: Operation,
     a: &Phrase,
     b: &Phrase,
     operands: &[Phrase],
 ) -> Result<Option<Phrase>, AllocError>
+    requires what { what ≡ texts.operation_in (placed_item item.now) }
     ensures shown { IfOk result
         (λ p. p ≡ texts.by_count around (placed_item item.now) (a.now ∷ b.now ∷ operands.now)) }
 {
     match operands {
-        [] => of_two(alloc, item, a, b),
-        [c] => of_three(alloc, item, a, b, c),
-        [c, d] => of_four(alloc, item, a, b, c, d),
+        [] => of_two(alloc, item, what, a, b),
+        [c] => of_three(alloc, what, a, b, c),
+        [c, d] => of_four(alloc, what, a, b, c, d),
         _ => Ok(None),
     }
 }

@@ -1,11 +1,12 @@
 //! What stands in the code.
 
-ghost use Rattle.std.specs.Prelude.{◌≡◌, ◌∷◌, ◌++◌, IfOk, Some, option_map};
+ghost use Rattle.std.specs.Prelude.{◌≡◌, ◌∷◌, ◌++◌, IfOk, OnOk, Some, option_map, string_bytes};
 ghost use Rattle.std.specs.List.{flat_map};
 ghost use Rattle.pm_code.specs.Views.{placed_item};
+ghost use Rattle.pm_phrases.specs.Counts.{operation_in};
 ghost use Rattle.pm_phrases.specs.Literals as texts;
 
-use crate::operand::{Form, Phrase, Value, standing, text};
+use crate::operand::{Form, Phrase, push_operand, standing, written};
 use pm_code::{Item, Quoted};
 use pm_families::Literal;
 use pm_opcode::Operation;
@@ -43,11 +44,11 @@ impl fmt::Display for Apostrophed {
     fn fmt<W: fmt::Write>(&self, f: &mut fmt::Formatter<W>) -> fmt::Result {
         let byte = self.0;
         if is_own(byte) {
-            write!(f, "{}", char::from(byte))
+            f.write_char(char::from(byte))
         } else if byte == b'\'' {
-            write!(f, "''")
+            f.write_str("''")
         } else {
-            write!(f, "{}", Escape(byte))
+            f.write(Escape(byte))
         }
     }
 }
@@ -79,11 +80,11 @@ pub(crate) fn literal_alone(
 {
     match what {
         Literal::String(_) => {
-            let text = text!(in alloc; "{}", Apostrophes(named))?;
+            let text = written(alloc, Apostrophes(named))?;
             Ok(Some(standing(text, Form::Literal)))
         }
         Literal::Characters(_) => {
-            let text = text!(in alloc; "{}", Quoted(named))?;
+            let text = written(alloc, Quoted(named))?;
             Ok(Some(standing(text, Form::Literal)))
         }
         Literal::Words { .. } => Ok(None),
@@ -91,34 +92,40 @@ pub(crate) fn literal_alone(
 }
 
 /// The bytes of the words of LDC.
-pub(crate) fn words_in(alloc: Global, item: &Item<usize>) -> Result<Option<Vec<u8>>, AllocError>
+#[tactic(auto, unfolding(crate::specs::Counts::operation_in))]
+pub(crate) fn words_in(
+    alloc: Global,
+    item: &Item<usize>,
+    what: Operation,
+) -> Result<Option<Vec<u8>>, AllocError>
+    requires what { what ≡ operation_in (placed_item item.now) }
     ensures words { IfOk result
         (λ bytes. option_map (λ bytes. bytes.items) bytes ≡ texts.words_in (placed_item item.now)) }
 {
-    let Item::Plain(instr, named) = item else {
+    let Item::Plain(_, named) = item else {
         return Ok(None);
     };
-    match Operation::of(instr) {
+    match what {
         Operation::Literal(Literal::Words { .. }) => Ok(Some(named.to_vec(alloc)?)),
         _ => Ok(None),
     }
 }
 
-/// An operand beside something of a form, as a character where it is a number beside a byte.
-#[derive(Clone, Copy)]
-pub(crate) struct Beside<'a>(pub Form, pub &'a Phrase, pub u8);
-
-impl fmt::Display for Beside<'_> {
-    ghost output = { λ b. Some (texts.beside b.0 b.1.now b.2) };
-
-    #[tactic(auto, unfolding(crate::specs::Literals::beside))]
-    fn fmt<W: fmt::Write>(&self, f: &mut fmt::Formatter<W>) -> fmt::Result {
-        let operand = self.1;
-        match (self.0, operand.form) {
-            (Form::Byte, Form::Constant(word)) if word < 256 && is_own(word as u8) => {
-                write!(f, "CHR'{}'", char::from(word as u8))
-            }
-            _ => write!(f, "{}", Value(operand, self.2)),
+/// Adds an operand beside something of a form, as a character where it is a number beside a byte.
+#[tactic(auto, unfolding(crate::specs::Literals::beside))]
+pub(crate) fn push_beside(
+    out: &mut String,
+    form: Form,
+    operand: &Phrase,
+    strength: u8,
+) -> Result<(), AllocError>
+    ensures text { OnOk result
+        (string_bytes out.new ≡ string_bytes out.old ++ texts.beside form operand.now strength) }
+{
+    match (form, operand.form) {
+        (Form::Byte, Form::Constant(word)) if word < 256 && is_own(word as u8) => {
+            out.write(format_args!("CHR'{}'", char::from(word as u8)))
         }
+        _ => push_operand(out, operand, strength),
     }
 }

@@ -9,7 +9,7 @@ use std::fmt;
 use std::marker::Model;
 
 /// The room that a text has from the start, in bytes.
-const ROOM: usize = 24;
+pub(crate) const ROOM: usize = 24;
 
 /// A text, with room for what most texts have.
 pub(crate) fn written<D: fmt::Display + Drop>(alloc: Global, value: D) -> Result<String, AllocError>
@@ -18,6 +18,12 @@ pub(crate) fn written<D: fmt::Display + Drop>(alloc: Global, value: D) -> Result
     let mut text = String::with_capacity(alloc, ROOM)?;
     text.write(value)?;
     Ok(text)
+}
+
+/// The room for the texts of two operands and what stands around them.
+pub(crate) fn room_for(a: &Phrase, b: &Phrase) -> usize {
+    ROOM.saturating_add(a.text.len())
+        .saturating_add(b.text.len())
 }
 
 /// A text of what `format_args!` takes.
@@ -126,24 +132,60 @@ impl fmt::Display for Value<'_> {
     #[tactic(auto, unfolding(crate::specs::Shown::value_text))]
     fn fmt<W: fmt::Write>(&self, f: &mut fmt::Formatter<W>) -> fmt::Result {
         let operand = self.0;
-        let text = &operand.text;
+        let text = operand.text.as_str();
         let form = operand.form;
-        let lead = lead_of(form);
         if strength_of(form) < self.1 {
-            write!(f, "({lead}{text})")
-        } else {
-            write!(f, "{lead}{text}")
+            f.write_str("(")?;
+            f.write_str(lead_of(form))?;
+            f.write_str(text)?;
+            return f.write_str(")");
+        }
+        match form {
+            Form::Value(_) | Form::Set(_) | Form::Constant(_) | Form::Byte | Form::Literal => {
+                f.write_str(text)
+            }
+            Form::Variable | Form::Place | Form::Element | Form::Character | Form::Bits => {
+                f.write_str("@")?;
+                f.write_str(text)
+            }
+        }
+    }
+}
+
+/// Adds a text as a value beside something of a strength.
+#[tactic(auto, unfolding(crate::specs::Shown::value_text))]
+pub(crate) fn push_operand(
+    out: &mut String,
+    phrase: &Phrase,
+    strength: u8,
+) -> Result<(), AllocError>
+    ensures text { OnOk result
+        (string_bytes out.new ≡ string_bytes out.old ++ shown.value_text phrase.now strength) }
+{
+    let text = phrase.text.as_str();
+    let form = phrase.form;
+    if strength_of(form) < strength {
+        out.push('(')?;
+        out.push_str(lead_of(form))?;
+        out.push_str(text)?;
+        return out.push(')');
+    }
+    match form {
+        Form::Value(_) | Form::Set(_) | Form::Constant(_) | Form::Byte | Form::Literal => {
+            out.push_str(text)
+        }
+        Form::Variable | Form::Place | Form::Element | Form::Character | Form::Bits => {
+            out.push('@')?;
+            out.push_str(text)
         }
     }
 }
 
 /// Adds a text as a value that stands alone.
-#[tactic(auto, unfolding(crate::specs::Shown::value_text))]
 pub fn push_value(out: &mut String, phrase: &Phrase) -> Result<(), AllocError>
     ensures text { OnOk result (string_bytes out.new ≡ string_bytes out.old ++ shown.value_text phrase.now 0) }
 {
-    out.push_str(lead_of(phrase.form))?;
-    out.push_str(phrase.text.as_str())
+    push_operand(out, phrase, 0)
 }
 
 /// What an operand leads to, which is an address.
@@ -157,8 +199,7 @@ impl fmt::Display for Place<'_> {
     fn fmt<W: fmt::Write>(&self, f: &mut fmt::Formatter<W>) -> fmt::Result {
         let operand = self.0;
         if is_place(operand.form) {
-            let text = &operand.text;
-            write!(f, "{text}")
+            f.write_str(operand.text.as_str())
         } else {
             write!(f, "{}^", Value(operand, 9))
         }
@@ -177,38 +218,35 @@ impl fmt::Display for Stored<'_> {
         let operand = self.0;
         match operand.form {
             Form::Variable => write!(f, "{}^", Value(operand, 9)),
-            _ => write!(f, "{}", Place(operand)),
+            _ => f.write(Place(operand)),
         }
     }
 }
 
-/// Operands, each behind a comma.
-#[derive(Clone, Copy)]
-pub(crate) struct Further<'a>(pub &'a [Phrase]);
-
-impl fmt::Display for Further<'_> {
-    ghost output = { λ a. Some (flat_map shown.further a.0.now) };
-
-    fn fmt<W: fmt::Write>(&self, f: &mut fmt::Formatter<W>) -> fmt::Result {
-        let operands = self.0;
-        for operand in operands {
-            write!(f, ", {}", Value(operand, 0))?;
-        }
-        Ok(())
+/// Adds operands, each behind a comma.
+pub(crate) fn push_further(out: &mut String, operands: &[Phrase]) -> Result<(), AllocError>
+    ensures text { OnOk result
+        (string_bytes out.new ≡ string_bytes out.old ++ flat_map shown.further operands.now) }
+{
+    for operand in operands {
+        out.push_str(", ")?;
+        push_value(out, operand)?;
     }
+    Ok(())
 }
 
-/// Operands behind a name.
-#[derive(Clone, Copy)]
-pub(crate) struct Arguments<'a>(pub &'a [Phrase]);
-
-impl fmt::Display for Arguments<'_> {
-    ghost output = { λ a. Some (shown.arguments a.0.now) };
-
-    fn fmt<W: fmt::Write>(&self, f: &mut fmt::Formatter<W>) -> fmt::Result {
-        match self.0 {
-            [] => Ok(()),
-            [first, more @ ..] => write!(f, "({}{})", Value(first, 0), Further(more)),
+/// Adds operands behind a name.
+pub(crate) fn push_listed(out: &mut String, operands: &[Phrase]) -> Result<(), AllocError>
+    ensures text { OnOk result
+        (string_bytes out.new ≡ string_bytes out.old ++ shown.arguments operands.now) }
+{
+    match operands {
+        [] => Ok(()),
+        [first, more @ ..] => {
+            out.push('(')?;
+            push_value(out, first)?;
+            push_further(out, more)?;
+            out.push(')')
         }
     }
 }

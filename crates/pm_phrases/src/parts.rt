@@ -3,8 +3,8 @@
 ghost use Rattle.std.specs.Prelude.{◌≡◌, IfOk, Some, string_bytes};
 ghost use Rattle.pm_phrases.specs.Parts as texts;
 
-use crate::literals::Beside;
-use crate::operand::{Form, Phrase, Place, Value, standing, text, valued};
+use crate::literals::push_beside;
+use crate::operand::{Form, Phrase, Place, Value, room_for, standing, text, valued};
 use pm_families::{Byte, Field, Text};
 use std::alloc::{AllocError, Global};
 
@@ -13,8 +13,11 @@ use std::alloc::{AllocError, Global};
 fn part_stored(alloc: Global, kind: Form, a: &Phrase, b: &Phrase) -> Result<Phrase, AllocError>
     ensures shown { IfOk result (λ p. p ≡ texts.part_stored kind a.now b.now) }
 {
-    let text = &a.text;
-    Ok(valued(text!(in alloc; "{text} := {}", Beside(kind, b, 0))?, 0))
+    let mut text = String::with_capacity(alloc, room_for(a, b))?;
+    text.push_str(a.text.as_str())?;
+    text.push_str(" := ")?;
+    push_beside(&mut text, kind, b, 0)?;
+    Ok(valued(text, 0))
 }
 
 #[tactic(auto, unfolding(crate::specs::Parts::byte_one))]
@@ -23,8 +26,8 @@ pub(crate) fn byte_one(alloc: Global, what: Byte, a: &Phrase) -> Result<Option<P
 {
     match (what, a.form) {
         (Byte::Load, Form::Character) => {
-            let text = &a.text;
-            Ok(Some(standing(text!(in alloc; "{text}")?, Form::Byte)))
+            let text = String::from_str(alloc, a.text.as_str())?;
+            Ok(Some(standing(text, Form::Byte)))
         }
         _ => Ok(None),
     }
@@ -62,8 +65,9 @@ pub(crate) fn byte_three(
     match what {
         Byte::Load => Ok(None),
         Byte::Store => {
-            let (a, b, c) = (Place(a), Value(b, 0), Beside(Form::Byte, c, 0));
-            Ok(Some(valued(text!(in alloc; "{a}.byte[{b}] := {c}")?, 0)))
+            let mut text = text!(in alloc; "{}.byte[{}] := ", Place(a), Value(b, 0))?;
+            push_beside(&mut text, Form::Byte, c, 0)?;
+            Ok(Some(valued(text, 0)))
         }
     }
 }
@@ -99,8 +103,8 @@ pub(crate) fn field_one(
 {
     match (what, a.form) {
         (Field::Load, Form::Bits) => {
-            let text = &a.text;
-            Ok(Some(valued(text!(in alloc; "{text}")?, 9)))
+            let text = String::from_str(alloc, a.text.as_str())?;
+            Ok(Some(valued(text, 9)))
         }
         _ => Ok(None),
     }

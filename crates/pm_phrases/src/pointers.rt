@@ -3,7 +3,9 @@
 ghost use Rattle.std.specs.Prelude.{◌≡◌, IfOk, Some};
 ghost use Rattle.pm_phrases.specs.Pointers as texts;
 
-use crate::operand::{Form, Phrase, Place, Stored, Value, standing, text, valued};
+use crate::operand::{
+    Form, Phrase, Place, Stored, Value, push_value, standing, text, valued, written,
+};
 use crate::spelling::{Marks, Spelling};
 use pm_families::Pointer;
 use std::alloc::{AllocError, Global};
@@ -25,7 +27,7 @@ fn loaded(alloc: Global, spelling: Spelling, number: u16, a: &Phrase) -> Result<
     ensures shown { IfOk result (λ p. p ≡ texts.loaded spelling number a.now) }
 {
     if is_unnumbered(spelling, a.form, number) {
-        Ok(valued(text!(in alloc; "{}", Place(a))?, 9))
+        Ok(valued(written(alloc, Place(a))?, 9))
     } else {
         let text = text!(in alloc; "{}.{number}{}", Place(a), Marks(spelling))?;
         Ok(valued(text, 9))
@@ -103,7 +105,9 @@ pub(crate) fn pointer_two(
     match what {
         Pointer::Index(n) => Ok(Some(indexed(alloc, spelling, n, a, b)?)),
         Pointer::Store => {
-            let text = text!(in alloc; "{} := {}", Stored(a), Value(b, 0))?;
+            let mut text = written(alloc, Stored(a))?;
+            text.push_str(" := ")?;
+            push_value(&mut text, b)?;
             Ok(Some(valued(text, 0)))
         }
         Pointer::StoreWords(n) => {

@@ -117,11 +117,11 @@ impl fmt::Display for Counted<'_> {
         let (words, count) = (self.0, self.1);
         match (&words.words, words.form, count.form) {
             (Some(bytes), _, Form::Constant(n)) if n >= 2 && bytes.len() / 2 == usize::from(n) => {
-                write!(f, "{}", SetConstant(bytes, n))
+                f.write(SetConstant(bytes, n))
             }
             (None, Form::Constant(word), Form::Constant(1)) => {
                 let bytes = word.to_le_bytes();
-                write!(f, "{}", SetConstant(&bytes, 1))
+                f.write(SetConstant(&bytes, 1))
             }
             _ => write!(f, "SET({}, {})", Value(words, 0), Value(count, 0)),
         }
@@ -139,8 +139,8 @@ impl fmt::Display for SetText<'_> {
     fn fmt<W: fmt::Write>(&self, f: &mut fmt::Formatter<W>) -> fmt::Result {
         let set = self.0;
         match set.form {
-            Form::Constant(0) => write!(f, "[]"),
-            _ => write!(f, "{}", Value(set, self.1)),
+            Form::Constant(0) => f.write_str("[]"),
+            _ => f.write(Value(set, self.1)),
         }
     }
 }

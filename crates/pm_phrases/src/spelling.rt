@@ -1,7 +1,6 @@
 //! How an instruction is spelled, beside its shortest spelling.
 
 ghost use Rattle.std.specs.Prelude.{◌≡◌, Some};
-ghost use Rattle.pm_opcode.specs.Operations.{operation_of};
 ghost use Rattle.pm_phrases.specs.Spelled as spelled;
 
 use pm_families::{Arithmetic, Pointer, Scope, Variable};
@@ -29,8 +28,8 @@ impl fmt::Display for Marks {
     fn fmt<W: fmt::Write>(&self, f: &mut fmt::Formatter<W>) -> fmt::Result {
         match self.0 {
             Spelling::Shortest => Ok(()),
-            Spelling::Longer => write!(f, "!"),
-            Spelling::Longest => write!(f, "!!"),
+            Spelling::Longer => f.write_str("!"),
+            Spelling::Longest => f.write_str("!!"),
         }
     }
 }
@@ -50,7 +49,7 @@ fn fits_opcode(what: Operation) -> bool
 
 /// How an instruction is spelled that is this operation.
 #[tactic(auto, unfolding(crate::specs::Spelled::spelling_of, crate::specs::Spelled::has_shorter))]
-fn spelling_of(i: &Instr, what: Operation) -> Spelling
+pub(crate) fn spelling_of(i: &Instr, what: Operation) -> Spelling
     ensures spelling { result ≡ spelled.spelling_of i.now what }
 {
     let shorter = implied_number(i.op).is_none() && fits_opcode(what);
@@ -59,13 +58,4 @@ fn spelling_of(i: &Instr, what: Operation) -> Spelling
         (true, true) => Spelling::Longest,
         _ => Spelling::Longer,
     }
-}
-
-/// What an instruction does, and how it is spelled.
-pub(crate) fn operation_and_spelling(i: &Instr) -> (Operation, Spelling)
-    ensures operation { result.0 ≡ operation_of i.now }
-    ensures spelling { result.1 ≡ spelled.spelling_of i.now (operation_of i.now) }
-{
-    let what = Operation::of(i);
-    (what, spelling_of(i, what))
 }

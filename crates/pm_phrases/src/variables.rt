@@ -4,7 +4,7 @@ ghost use Rattle.std.specs.Prelude.{◌≡◌, IfOk, Some};
 ghost use Rattle.pm_phrases.specs.Variables as texts;
 
 use crate::around::Around;
-use crate::operand::{Form, Phrase, Value, standing, text, valued};
+use crate::operand::{Form, Phrase, push_value, standing, valued, written};
 use crate::spelling::{Marks, Spelling};
 use pm_families::{Scope, Variable};
 use std::alloc::{AllocError, Global};
@@ -34,12 +34,23 @@ impl fmt::Display for Named {
         let Named(around, scope, number, spelling) = *self;
         let marks = Marks(spelling);
         match scope {
-            Scope::Global => write!(f, "global{number}{marks}"),
-            Scope::Local => {
-                let word = local_word(around, number);
-                write!(f, "{word}{number}{marks}")
+            Scope::Global => {
+                f.write_str("global")?;
+                f.write(number)?;
+                f.write(marks)
             }
-            Scope::Intermediate(links) => write!(f, "up{links}_{number}{marks}"),
+            Scope::Local => {
+                f.write_str(local_word(around, number))?;
+                f.write(number)?;
+                f.write(marks)
+            }
+            Scope::Intermediate(links) => {
+                f.write_str("up")?;
+                f.write(links)?;
+                f.write_str("_")?;
+                f.write(number)?;
+                f.write(marks)
+            }
         }
     }
 }
@@ -56,11 +67,11 @@ pub(crate) fn variable_alone(
     match what {
         Variable::Address(scope, number) => {
             let name = Named(around, scope, number, spelling);
-            Ok(Some(standing(text!(in alloc; "{name}")?, Form::Variable)))
+            Ok(Some(standing(written(alloc, name)?, Form::Variable)))
         }
         Variable::Load(scope, number) => {
             let name = Named(around, scope, number, spelling);
-            Ok(Some(valued(text!(in alloc; "{name}")?, 9)))
+            Ok(Some(valued(written(alloc, name)?, 9)))
         }
         Variable::Store(_, _) => Ok(None),
     }
@@ -79,7 +90,10 @@ pub(crate) fn variable_one(
     match what {
         Variable::Store(scope, number) => {
             let name = Named(around, scope, number, spelling);
-            Ok(Some(valued(text!(in alloc; "{name} := {}", Value(a, 0))?, 0)))
+            let mut text = written(alloc, name)?;
+            text.push_str(" := ")?;
+            push_value(&mut text, a)?;
+            Ok(Some(valued(text, 0)))
         }
         _ => Ok(None),
     }

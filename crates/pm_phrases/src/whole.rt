@@ -2,15 +2,17 @@
 
 ghost use Rattle.std.specs.Prelude.{◌≡◌, ◌++◌, IfOk};
 ghost use Rattle.pm_code.specs.Views.{placed_item};
+ghost use Rattle.pm_phrases.specs.Counts as counts;
 ghost use Rattle.pm_phrases.specs.Missing.{listed};
 ghost use Rattle.pm_phrases.specs.Phrases as texts;
 
-use crate::around::{AllArguments, Around, Missing, Pops, stand_ins};
+use crate::around::{Around, Missing, Pops, push_arguments, stand_ins};
 use crate::calls::called;
 use crate::counts::{behind_one, behind_two, by_count, operation_in};
 use crate::literals::words_in;
-use crate::operand::{Form, Phrase, text};
+use crate::operand::{Form, Phrase, ROOM};
 use pm_code::Item;
+use pm_opcode::Operation;
 use std::alloc::{AllocError, Global};
 
 #[tactic(auto, unfolding(crate::specs::Phrases::template))]
@@ -18,18 +20,20 @@ fn template(
     alloc: Global,
     around: Around,
     item: &Item<usize>,
-    arguments: &AllArguments<'_>,
+    what: Operation,
+    pops: &Pops,
+    operands: &[Phrase],
 ) -> Result<Option<Phrase>, AllocError>
+    requires what { what ≡ counts.operation_in (placed_item item.now) }
     ensures shown { IfOk result
-        (λ p. p ≡ texts.template around (placed_item item.now) (listed arguments.now.0.now ++ arguments.now.1.now)) }
+        (λ p. p ≡ texts.template around (placed_item item.now) (listed pops.now ++ operands.now)) }
 {
-    let AllArguments(pops, operands) = *arguments;
-    match called(alloc, operation_in(item), pops, operands)? {
+    match called(alloc, what, pops, operands)? {
         Some(call) => Ok(Some(call)),
         None => match pops {
-            Pops::None => by_count(alloc, around, item, operands),
-            Pops::One(p) => behind_one(alloc, around, item, p, operands),
-            Pops::Two(p, q) => behind_two(alloc, around, item, p, q, operands),
+            Pops::None => by_count(alloc, around, item, what, operands),
+            Pops::One(p) => behind_one(alloc, around, item, what, p, operands),
+            Pops::Two(p, q) => behind_two(alloc, around, item, what, p, q, operands),
         },
     }
 }
@@ -49,14 +53,19 @@ pub fn phrase(
         (λ p. p ≡ texts.phrase_of around (placed_item item.now) known missing operands.now) }
 {
     let pops = stand_ins(alloc, known, missing)?;
-    let arguments = AllArguments(&pops, operands);
-    match template(alloc, around, item, &arguments)? {
+    let what = operation_in(item);
+    match template(alloc, around, item, what, &pops, operands)? {
         Some(phrase) => Ok(phrase),
         None => {
+            let mut text = String::with_capacity(alloc, ROOM)?;
+            text.push('{')?;
+            text.write(item)?;
+            text.push('}')?;
+            push_arguments(&mut text, &pops, operands)?;
             Ok(Phrase {
-                text: text!(in alloc; "{{{item}}}{arguments}")?,
+                text,
                 form: Form::Value(9),
-                words: words_in(alloc, item)?,
+                words: words_in(alloc, item, what)?,
             })
         }
     }

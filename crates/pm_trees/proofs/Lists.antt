@@ -1,5 +1,5 @@
 -- Lists whose last item is the innermost one.
-use Rattle.std.proofs.Common.{◌≡◌, ◌<◌, ℕ, true, false, List, [], ◌∷◌, ◌++◌, arith, length, refl, reverse}
+use Rattle.std.proofs.Common.{◌≡◌, ℕ, true, false, List, [], ◌∷◌, ◌++◌, refl, reverse}
 use Rattle.std.proofs.lemmas.List.{reverse-append}
 use Rattle.pm_trees.specs.declared.block.Block.{Block}
 use Rattle.pm_trees.specs.declared.statement.Statement.{Statement}

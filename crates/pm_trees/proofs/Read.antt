@@ -1,5 +1,5 @@
 -- Blocks are read back to their statements.
-use Rattle.std.proofs.Common.{◌≡◌, ◌<◌, ℕ, Bool, true, false, not, List, [], ◌∷◌, ◌++◌, Some, append_assoc, arith, map, refl, sym, ap, ◌∙◌}
+use Rattle.std.proofs.Common.{◌≡◌, ℕ, Bool, true, false, not, List, [], ◌∷◌, ◌++◌, Some, append_assoc, arith, map, refl, sym, ap, ◌∙◌}
 use Rattle.std.specs.Prelude.{◌==◌, ◌&&◌, nat_le, nat_lt, if◌then◌else◌, option_map}
 use Rattle.std.proofs.lemmas.Bool.{and_parts}
 use Rattle.std.proofs.lemmas.Bool.Decides.{nat_tests}
@@ -19,7 +19,7 @@ use Rattle.pm_trees.specs.Blocks.{end_line, end_lines, ends_case, ends_here, end
 use Rattle.pm_trees.specs.Blocks.{is_case, is_case_to, is_empty, is_if, is_repeat_from, is_while_from, leaves_case, line_of}
 use Rattle.pm_trees.specs.Blocks.{lines_from, open_after, open_around, open_at, open_behind, repeat_lines}
 use Rattle.pm_trees.specs.Blocks.{value_word, with_repeat, word_by, word_of}
-use Rattle.pm_trees.specs.Reading.{Bracket, Reading, decided, ended, entered, expanded, closed, left, opened, read, said, statement_of, turned}
+use Rattle.pm_trees.specs.Reading.{Bracket, Reading, decided, ended, entered, expanded, closed, left, opened, read, said, turned}
 use Rattle.pm_trees.specs.Reading.Bracket.{ACase, AWhile, ARepeat, AnElse, AnIf}
 
 abbrev bracket : Kind → Bracket

@@ -1,6 +1,6 @@
 -- Statements in blocks.
 use Rattle.std.specs.Prelude.{ℕ, Bool, true, false, not, ◌==◌, ◌&&◌, nat_le, nat_lt, if◌then◌else◌}
-use Rattle.std.specs.Prelude.{List, [], ◌∷◌, ◌++◌, drop, Option, Some, None}
+use Rattle.std.specs.Prelude.{List, [], ◌∷◌, ◌++◌, Option, Some, None}
 use Rattle.pm_trees.specs.declared.backs.Loops.{Loops}
 use Rattle.pm_trees.specs.declared.block.Block.{Block}
 use Rattle.pm_trees.specs.declared.block.Kind.{Kind}

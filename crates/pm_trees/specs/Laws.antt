@@ -1,7 +1,6 @@
 -- What statements are.
 use Rattle.std.specs.Prelude.{◌≡◌, true, ℕ, zero, suc, false, List, [], ◌∷◌, ◌++◌, map, replicate, if◌then◌else◌}
-use Rattle.std.specs.Prelude.{not, ◌==◌, Option, Some, None}
-use Rattle.std.specs.List.{filter}
+use Rattle.std.specs.Prelude.{Option, Some, None}
 use Rattle.pm_code.specs.Item.{Item}
 use Rattle.pm_code.specs.Program.{Procedure}
 use Rattle.pm_effects.specs.declared.effect.Share.{Share}
@@ -11,7 +10,6 @@ use Rattle.pm_trees.specs.declared.part.Leaves.{Leaves}
 use Rattle.pm_trees.specs.declared.part.Leaves.TheVariants as leaves
 use Rattle.pm_trees.specs.declared.part.Takes.{Takes}
 use Rattle.pm_trees.specs.Parts.{Known, Part, is_reached, procedure_parts}
-use Rattle.pm_trees.specs.Piles.{Pile}
 use Rattle.pm_trees.specs.Trees.{Forest, is_none, none_missing, parts_of, statements}
 use Rattle.pm_trees.specs.Trees.Forest.{Bare, Tree}
 

@@ -5,13 +5,17 @@ use Rattle.std.specs.Prelude.{option_map, slice_index_or}
 use Rattle.pm_families.specs.declared.families.Arithmetic.TheVariants as arithmetic
 use Rattle.pm_families.specs.declared.families.Call.{Call}
 use Rattle.pm_families.specs.declared.families.Call.TheVariants as call
+use Rattle.pm_families.specs.declared.families.Condition.{Condition}
 use Rattle.pm_opcode.specs.declared.instr.Instr.{Instr}
 use Rattle.pm_opcode.specs.declared.operation.Operation.{Operation}
 use Rattle.pm_opcode.specs.declared.operation.Operation.TheVariants as operation
 use Rattle.pm_opcode.specs.Operations.{operation_of}
 use Rattle.pm_opcode.specs.Standing.{bare}
-use Rattle.pm_code.specs.Item.{Item, case_opcode, size}
+use Rattle.pm_code.specs.Item.{Item, Target, case_opcode, size}
 use Rattle.pm_code.specs.Item.Item.{Plain, Jump, Case, OneByte}
+use Rattle.pm_code.specs.Item.Target.{To, Through}
+use Rattle.pm_code.specs.declared.item.Target as told
+use Rattle.pm_code.specs.declared.item.Target.TheVariants as targets
 use Rattle.pm_code.specs.Program.{Procedure, is_among}
 use Rattle.pm_code.specs.Shown.{named_places}
 use Rattle.pm_effects.specs.declared.effect.Share.{Share}
@@ -19,7 +23,10 @@ use Rattle.pm_effects.specs.declared.effect.Share.TheVariants as share
 use Rattle.pm_effects.specs.declared.effect.Effect.{Effect}
 use Rattle.pm_effects.specs.Effects.{words}
 use Rattle.pm_effects.specs.History.{instruction_effect}
+use Rattle.pm_phrases.specs.Jumps.{condition_of}
 use Rattle.pm_trees.specs.declared.items.Layout.{Layout}
+use Rattle.pm_trees.specs.declared.left.Role.{Role}
+use Rattle.pm_trees.specs.declared.left.Role.TheVariants as role
 use Rattle.pm_trees.specs.declared.part.Callee.{Callee}
 use Rattle.pm_trees.specs.declared.part.Leaves.{Leaves}
 use Rattle.pm_trees.specs.declared.part.Leaves.TheVariants as leaves
@@ -62,12 +69,38 @@ item_instruction (Jump op target) = Some (bare op)
 item_instruction (Case low high otherwise places) = Some (bare case_opcode)
 item_instruction (OneByte b) = None
 
+-- ---- what an operation is
+
+-- a call, the check of input and output, a jump, or something else
+abbrev pub operation_role : Operation → Role
+operation_role (operation.Call c) = role.Call
+operation_role (operation.Standard n) = if n == 0 then role.Check else role.Call
+operation_role _ = role.Other
+
+-- where it leads, as the code has it
+abbrev pub target_told : Target ℕ → told.Target ℕ
+target_told (To place) = targets.To place
+target_told (Through k) = targets.Through k
+
+abbrev pub jump_role : Option Condition → told.Target ℕ → Role
+jump_role None target = role.Other
+jump_role (Some c) target = role.Jump c target
+
+-- of an item whose instruction does this
+abbrev pub role_by : Operation → Item ℕ → Role
+role_by what (Plain i named) = operation_role what
+role_by what (Jump op target) = jump_role (condition_of op) (target_told target)
+role_by what (Case low high otherwise places) = role.Case
+role_by what (OneByte b) = role.Other
+
 -- ---- parts
 
--- A part of code: an item and its place, what it takes and what it leaves, and whether that is known.
+-- A part of code: an item and its place, what its operation is, what it takes and what it leaves, and whether that is
+-- known.
 pub record Part : Type 0 where
   pub item : Item ℕ
   pub place : Place
+  pub role : Role
   pub takes : Takes
   pub leaves : Leaves
   pub known : Bool
@@ -118,12 +151,18 @@ abbrev pub moves_of : Known → Option Instr → Moves
 moves_of k None = moves_by operation.Unimplemented None
 moves_of k (Some i) = moves_by (operation_of i) (effect_by k (operation_of i) i)
 
-abbrev pub part_with : Item ℕ → Place → Moves → Part
-part_with item place m =
-    record { item = item; place = place; takes = m.takes; leaves = m.leaves; known = m.known }
+abbrev pub part_with : Item ℕ → Place → Role → Moves → Part
+part_with item place role m =
+    record { item = item; place = place; role = role; takes = m.takes; leaves = m.leaves; known = m.known }
+
+-- of an item with this instruction
+abbrev pub role_with : Option Instr → Item ℕ → Role
+role_with None item = role_by operation.Unimplemented item
+role_with (Some i) item = role_by (operation_of i) item
 
 abbrev pub part_of : Known → Item ℕ → Place → Part
-part_of k item place = part_with item place (moves_of k (item_instruction item))
+part_of k item place =
+    part_with item place (role_with (item_instruction item) item) (moves_of k (item_instruction item))
 
 -- a place, where these have a label and the exit code begins at one
 abbrev pub place_at : List ℕ → ℕ → ℕ → Place

@@ -1,19 +1,14 @@
 -- Trees as phrases, and how they grow.
-use Rattle.std.specs.Prelude.{◌≡◌, ◌/◌, ℕ, zero, suc, min, Bool, true, false, not, List, [], ◌∷◌, ◌++◌, reverse}
+use Rattle.std.specs.Prelude.{◌≡◌, ℕ, List, [], ◌∷◌, ◌++◌, reverse}
 use Rattle.std.specs.Prelude.{take, drop}
-use Rattle.std.specs.Prelude.{◌||◌, ◌&&◌, if◌then◌else◌, codes}
-use Rattle.pm_code.specs.Program.{Procedure, code_end}
-use Rattle.pm_code.specs.Shown.{label_text, padded}
+use Rattle.std.specs.Prelude.{◌||◌, if◌then◌else◌}
 use Rattle.pm_phrases.specs.declared.around.Around.{Around}
 use Rattle.pm_phrases.specs.declared.around.Missing.{Missing}
 use Rattle.pm_phrases.specs.Phrases.{phrase_of}
-use Rattle.pm_phrases.specs.Shown.{Shown, value_text}
+use Rattle.pm_phrases.specs.Shown.{Shown}
 use Rattle.pm_trees.specs.declared.left.Left.{Left}
-use Rattle.pm_trees.specs.declared.left.Role.{Role}
-use Rattle.pm_trees.specs.declared.left.Role.TheVariants as role
 use Rattle.pm_trees.specs.declared.part.Leaves.{Leaves}
-use Rattle.pm_trees.specs.declared.part.Place.{Place}
-use Rattle.pm_trees.specs.Parts.{Known, Part, is_reached, labelled_places, place_at, procedure_parts}
+use Rattle.pm_trees.specs.Parts.{Part, is_reached}
 use Rattle.pm_trees.specs.Trees.{Count, Forest, is_full, leaves_nothing, left_by, none_missing, statements}
 use Rattle.pm_trees.specs.Trees.{takes_count}
 use Rattle.pm_trees.specs.Trees.Forest.{Bare, Tree}

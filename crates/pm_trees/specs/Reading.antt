@@ -1,5 +1,5 @@
 -- Lines in blocks, read back by their brackets alone.
-use Rattle.std.specs.Prelude.{◌≡◌, ℕ, List, [], ◌∷◌, Option, Some, None, option_map}
+use Rattle.std.specs.Prelude.{ℕ, List, [], ◌∷◌, Option, Some, None, option_map}
 use Rattle.pm_trees.specs.declared.line.Line.{Line}
 use Rattle.pm_trees.specs.declared.line.Word.{Word}
 use Rattle.pm_trees.specs.declared.line.Word.TheVariants as word

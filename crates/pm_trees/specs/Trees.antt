@@ -1,22 +1,10 @@
 -- Code as statements: each a tree of which the nodes are parts of the code.
 use Rattle.std.specs.Prelude.{ℕ, zero, suc, ◌+◌, ◌-◌, Bool, true, false, not, List, [], ◌∷◌, ◌++◌, drop, ◌==◌, ◌||◌}
-use Rattle.std.specs.Prelude.{◌&&◌, nat_le, nat_lt, if◌then◌else◌, Option, Some, None}
-use Rattle.pm_opcode.specs.declared.operation.Operation.{Operation}
-use Rattle.pm_opcode.specs.declared.operation.Operation.TheVariants as operation
-use Rattle.pm_opcode.specs.Operations.{operation_of}
-use Rattle.pm_code.specs.Item.{Item, Target}
-use Rattle.pm_code.specs.Item.Item.{Plain, Jump, Case}
-use Rattle.pm_code.specs.Item.Target.{To, Through}
-use Rattle.pm_code.specs.declared.item.Target as told
-use Rattle.pm_code.specs.declared.item.Target.TheVariants as targets
-use Rattle.pm_families.specs.declared.families.Condition.{Condition}
+use Rattle.std.specs.Prelude.{◌&&◌, nat_le, nat_lt, if◌then◌else◌}
 use Rattle.pm_effects.specs.declared.effect.Share.{Share}
 use Rattle.pm_effects.specs.declared.effect.Share.TheVariants as share
 use Rattle.pm_phrases.specs.declared.around.Missing.{Missing}
-use Rattle.pm_phrases.specs.Jumps.{condition_of}
 use Rattle.pm_trees.specs.declared.left.Left.{Left}
-use Rattle.pm_trees.specs.declared.left.Role.{Role}
-use Rattle.pm_trees.specs.declared.left.Role.TheVariants as role
 use Rattle.pm_trees.specs.declared.part.Leaves.{Leaves}
 use Rattle.pm_trees.specs.declared.part.Leaves.TheVariants as leaves
 use Rattle.pm_trees.specs.declared.part.Place.{Place}
@@ -76,34 +64,13 @@ abbrev pub first_place : Place → List Left → Place
 first_place place [] = place
 first_place place (l ∷ ls) = first_place l.place ls
 
--- a call, the check of input and output, a jump, or something else
-abbrev pub operation_role : Operation → Role
-operation_role (operation.Call c) = role.Call
-operation_role (operation.Standard n) = if n == 0 then role.Check else role.Call
-operation_role _ = role.Other
-
--- where it leads, as the code has it
-abbrev pub target_told : Target ℕ → told.Target ℕ
-target_told (To place) = targets.To place
-target_told (Through k) = targets.Through k
-
-abbrev pub jump_role : Option Condition → told.Target ℕ → Role
-jump_role None target = role.Other
-jump_role (Some c) target = role.Jump c target
-
-abbrev pub role_of : Item ℕ → Role
-role_of (Plain i named) = operation_role (operation_of i)
-role_of (Jump op target) = jump_role (condition_of op) (target_told target)
-role_of (Case low high otherwise places) = role.Case
-role_of _ = role.Other
-
 -- a part behind its operands
 unfoldable pub left_by : Part → List Left → Left
 left_by p operands = record {
   leaves = p.leaves;
   place = first_place p.place operands;
   parts = capped (suc (parts_left operands));
-  role = role_of p.item;
+  role = p.role;
 }
 
 abbrev pub lefts_of : Forest → List Left

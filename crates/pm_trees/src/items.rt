@@ -2,13 +2,16 @@
 
 ghost use Rattle.std.specs.Prelude.{◌≡◌, Some};
 ghost use Rattle.pm_code.specs.Views.{placed_item};
+ghost use Rattle.pm_opcode.specs.Operations.{operation_of};
 ghost use Rattle.pm_trees.specs.Parts as parts;
 
+use crate::left::Role;
 use crate::part::{Callee, Leaves, Part, Place, Takes};
-use pm_code::{CASE_JUMP, Item};
-use pm_effects::{Effect, Share, instruction_effect};
-use pm_families::{Arithmetic, Call};
+use pm_code::{CASE_JUMP, Item, Target};
+use pm_effects::{Effect, Share, effect_of, instruction_effect};
+use pm_families::{Arithmetic, Call, Condition};
 use pm_opcode::{Instr, Operation};
+use pm_phrases::condition_of;
 use std::marker::Model;
 
 /// How statements stand.
@@ -72,11 +75,15 @@ fn call_effect(known: &Known<'_>, what: Call) -> Option<Effect>
 
 /// What an instruction takes and leaves, where that is known.
 fn effect_by(known: &Known<'_>, what: Operation, instr: &Instr) -> Option<Effect>
+    requires what { what ≡ operation_of instr.now }
     ensures value { result ≡ parts.effect_by known.now what instr.now }
 {
     match what {
         Operation::Call(what) => call_effect(known, what),
-        _ => instruction_effect(instr),
+        _ => match effect_of(what) {
+            Some(effect) => Some(effect),
+            None => instruction_effect(instr),
+        },
     }
 }
 
@@ -135,6 +142,40 @@ fn is_known(what: Operation, effect: Option<Effect>) -> bool
     }
 }
 
+/// What an operation is.
+fn operation_role(what: Operation) -> Role
+    ensures value { result ≡ parts.operation_role what }
+{
+    match what {
+        Operation::Standard(0) => Role::Check,
+        Operation::Call(_) | Operation::Standard(_) => Role::Call,
+        _ => Role::Other,
+    }
+}
+
+/// What a jump is.
+fn jump_role(condition: Option<Condition>, target: Target<usize>) -> Role
+    ensures role { result ≡ parts.jump_role condition target }
+{
+    match condition {
+        Some(condition) => Role::Jump(condition, target),
+        None => Role::Other,
+    }
+}
+
+/// What the operation of an item is, whose instruction does this.
+fn role_by(what: Operation, item: &Item<usize>) -> Role
+    ensures value { result ≡ parts.role_by what (placed_item item.now) }
+{
+    match item {
+        Item::Plain(_, _) => operation_role(what),
+        Item::Jump(op, Target::To(place)) => jump_role(condition_of(*op), Target::To(*place)),
+        Item::Jump(op, Target::Through(k)) => jump_role(condition_of(*op), Target::Through(*k)),
+        Item::Case { .. } => Role::Case,
+        Item::OneByte(_) => Role::Other,
+    }
+}
+
 /// An instruction as a part.
 fn instruction_part<'a>(
     known: &Known<'_>,
@@ -142,13 +183,15 @@ fn instruction_part<'a>(
     place: Place,
     instr: &Instr,
 ) -> Part<'a>
-    ensures part { result ≡ parts.part_with (placed_item item.now) place (parts.moves_of known.now (Some instr.now)) }
+    ensures part { result ≡ parts.part_with (placed_item item.now) place
+        (parts.role_by (operation_of instr.now) (placed_item item.now)) (parts.moves_of known.now (Some instr.now)) }
 {
     let what = Operation::of(instr);
     let effect = effect_by(known, what, instr);
     Part {
         item,
         place,
+        role: role_by(what, item),
         takes: takes_of(effect),
         leaves: leaves_by(what, effect),
         known: is_known(what, effect),
@@ -166,6 +209,7 @@ pub fn part_of<'a>(known: &Known<'_>, item: &'a Item<usize>, place: Place) -> Pa
         Item::OneByte(_) => Part {
             item,
             place,
+            role: Role::Other,
             takes: takes_of(None),
             leaves: Leaves::Words(0),
             known: true,

@@ -1,15 +1,12 @@
 //! What is seen of a tree that something may take.
 
 ghost use Rattle.std.specs.Prelude.{◌≡◌, reverse};
-ghost use Rattle.pm_code.specs.Views.{placed_item};
 ghost use Rattle.pm_trees.specs.Parts.{is_reached};
 ghost use Rattle.pm_trees.specs.Trees as trees;
 
 use crate::part::{Leaves, Part, Place};
-use pm_code::{Item, Target};
+use pm_code::Target;
 use pm_families::Condition;
-use pm_opcode::Operation;
-use pm_phrases::condition_of;
 
 /// What the operation of a tree is.
 #[derive(Clone, Copy, Drop)]
@@ -75,40 +72,6 @@ fn first_place(place: Place, operands: &[Left]) -> Place
     }
 }
 
-/// What an operation is.
-fn operation_role(what: Operation) -> Role
-    ensures value { result ≡ trees.operation_role what }
-{
-    match what {
-        Operation::Standard(0) => Role::Check,
-        Operation::Call(_) | Operation::Standard(_) => Role::Call,
-        _ => Role::Other,
-    }
-}
-
-/// What a jump is.
-fn jump_role(condition: Option<Condition>, target: Target<usize>) -> Role
-    ensures role { result ≡ trees.jump_role condition target }
-{
-    match condition {
-        Some(condition) => Role::Jump(condition, target),
-        None => Role::Other,
-    }
-}
-
-/// What the operation of an item is.
-fn role_of(item: &Item<usize>) -> Role
-    ensures value { result ≡ trees.role_of (placed_item item.now) }
-{
-    match item {
-        Item::Plain(instr, _) => operation_role(Operation::of(instr)),
-        Item::Jump(op, Target::To(place)) => jump_role(condition_of(*op), Target::To(*place)),
-        Item::Jump(op, Target::Through(k)) => jump_role(condition_of(*op), Target::Through(*k)),
-        Item::Case { .. } => Role::Case,
-        Item::OneByte(_) => Role::Other,
-    }
-}
-
 /// What is seen of a part behind its operands.
 #[tactic(auto, unfolding(crate::specs::Trees::left_by))]
 pub(crate) fn left_by(part: &Part<'_>, operands: &[Left]) -> Left
@@ -118,7 +81,7 @@ pub(crate) fn left_by(part: &Part<'_>, operands: &[Left]) -> Left
         leaves: part.leaves,
         place: first_place(part.place, operands),
         parts: capped(1 + u16::from(parts_left(operands))),
-        role: role_of(part.item),
+        role: part.role,
     }
 }
 

@@ -1,5 +1,6 @@
 //! Parts of statements.
 
+use crate::left::Role;
 use pm_code::Item;
 use pm_effects::Share;
 use std::marker::Model;
@@ -51,6 +52,8 @@ pub struct Part<'a> {
     pub item: &'a Item<usize>,
     /// Where it stands.
     pub place: Place,
+    /// What its operation is.
+    pub role: Role,
     /// What it takes off the stack.
     pub takes: Takes,
     /// What it leaves there.
@@ -68,6 +71,7 @@ impl<'a> Model for Part<'a> {
     ghost view = { λ p. record {
       item = placed_item p.item.now;
       place = p.place;
+      role = p.role;
       takes = p.takes;
       leaves = p.leaves;
       known = p.known;

@@ -1,6 +1,6 @@
 //! Trees as their phrases, and what is seen of each.
 
-ghost use Rattle.std.specs.Prelude.{◌≡◌, ◌-◌, drop, length, OnOk};
+ghost use Rattle.std.specs.Prelude.{◌≡◌, ◌-◌, drop, length, IfOk, OnOk};
 ghost use Rattle.pm_trees.specs.Piles as texts;
 
 use crate::left::Left;
@@ -44,6 +44,16 @@ impl Pile {
             lefts: Vec::new(alloc),
             phrases: Vec::new(alloc),
         }
+    }
+
+    /// No trees, with room for so many.
+    pub(crate) fn with_room(alloc: Global, trees: usize) -> Result<Pile, AllocError>
+        ensures none { IfOk result (λ pile. pile ≡ texts.no_trees) }
+    {
+        Ok(Pile {
+            lefts: Vec::with_capacity(alloc, trees)?,
+            phrases: Vec::with_capacity(alloc, trees)?,
+        })
     }
 
     /// Puts other trees behind these.

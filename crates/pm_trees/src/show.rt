@@ -80,7 +80,7 @@ fn try_blocks(alloc: Global, statements: &[Statement]) -> Result<Tried, AllocErr
 {
     let limit = code_end(statements);
     let backs = Backs::of(alloc, statements)?;
-    let mut lines = Vec::new(alloc);
+    let mut lines = Vec::with_capacity(alloc, statements.len())?;
     let mut nest = Vec::new(alloc);
     let mut so_far = true;
     for statement in statements {

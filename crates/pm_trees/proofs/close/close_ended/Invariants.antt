@@ -1,6 +1,4 @@
-use Rattle.std.proofs.Common.{◌≡◌, ◌++◌, length, reverse}
-use Rattle.std.specs.Prelude.{◌&&◌}
-use Rattle.pm_trees.specs.Blocks.{end_here, end_lines, open_at}
+use Rattle.std.proofs.Common.{length, reverse}
 use Rattle.pm_trees.proofs.Closing.{Closing}
 use Rattle.pm_trees.proofs.close.close_ended.Given as goal
 

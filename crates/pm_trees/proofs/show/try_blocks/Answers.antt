@@ -5,7 +5,7 @@ use Rattle.pm_trees.specs.declared.backs.Loops.{Loops}
 use Rattle.pm_trees.specs.declared.statement.Leads.TheVariants as leads
 use Rattle.pm_trees.specs.declared.statement.Statement.{Statement}
 use Rattle.pm_trees.specs.Blocks.{end_here, end_lines, is_empty, open_after, open_at, statement_lines}
-use Rattle.pm_trees.proofs.Growing.{growing_done, growing_none, growing_step}
+use Rattle.pm_trees.proofs.Growing.{growing_done, growing_step}
 use Rattle.pm_trees.proofs.show.try_blocks.Goals as goal
 
 -- what stands where a list of them ends

@@ -1,17 +1,18 @@
 -- The labels of statements in blocks, one after another.
 use Rattle.std.proofs.Common.{◌≡◌, ◌≤◌, ℕ, Bool, false, List, [], ◌∷◌, ◌++◌, append_assoc, drop, length, map, refl, sym, ap, ◌∙◌}
 use Rattle.std.specs.Prelude.{◌||◌}
-use Rattle.std.proofs.lemmas.List.{append-nil, drop_all}
+use Rattle.std.proofs.lemmas.List.{drop_all}
 use Rattle.pm_code.specs.Item.{Item}
 use Rattle.pm_code.specs.Program.{Procedure, code_end, is_among}
 use Rattle.pm_phrases.specs.Shown.{Shown}
 use Rattle.pm_trees.specs.declared.left.Left.{Left}
 use Rattle.pm_trees.specs.declared.line.Line.{Line}
+use Rattle.pm_trees.specs.declared.line.Word.{Word}
 use Rattle.pm_trees.specs.Parts.{place_at}
 use Rattle.pm_statements.specs.BlockLabels.{case_places, first_places, line_places, relabelled, shown_places, table_places}
-use Rattle.pm_statements.specs.BlockLines.{block_lines, statements_at}
+use Rattle.pm_statements.specs.BlockLines.{block_lines, calls_at, statements_at}
 use Rattle.pm_statements.specs.Bodies.{blocks_text}
-use Rattle.pm_statements.specs.Marks.{Marks, has}
+use Rattle.pm_statements.specs.Marks.{AreMarked, Marks, has}
 use Rattle.pm_statements.specs.Texts.{place_lines}
 use Rattle.pm_statements.proofs.Marked.{among_joined, or_assoc, or_false}
 
@@ -48,18 +49,13 @@ pub lines_done : (xs : List Line) (ls : List Left) (p : ℕ) (now whole : Bool) 
 unfolding line_places
 lines_done xs ls p now whole a e = sym (or_false now) ∙ sym (ap (λ l. now || is_among (line_places l ls) p) a) ∙ e
 
--- one statement more
-pub lefts_step : (f : Left → Left) (l : Left) (ls now list new whole : List Left) → now ≡ l ∷ ls → new ≡ list ++ f l ∷ []
-    → list ++ map f now ≡ whole → new ++ map f ls ≡ whole
-lefts_step f l ls now list new whole a e h =
-    ap (λ x. x ++ map f ls) e ∙ append_assoc list (f l ∷ []) (map f ls) ∙ ap (λ x. list ++ map f x) (sym a) ∙ h
-
-pub lefts_done : (f : Left → Left) (ls : List Left) (i : ℕ) (list whole : List Left) → length ls ≤ i
-    → list ++ map f (drop i ls) ≡ whole → list ≡ whole
-lefts_done f ls i list whole high h = sym (append-nil list) ∙ sym (ap (λ x. list ++ map f x) (drop_all i ls high)) ∙ h
+-- labels make no call and no end of one
+pub calls_labelled : (labelled : ℕ → Bool) (w : Word) (ls : List Left) → calls_at w ls ≡ calls_at w (map (relabelled labelled) ls)
+calls_labelled labelled w [] = refl
+calls_labelled labelled w (l ∷ ls) = refl
 
 -- marks say labels
-pub labels_known : (marks : List Bool) (used : List ℕ) (ls : List Left) → Marks marks used
+pub labels_known : (marks : Marks) (used : List ℕ) (ls : List Left) → AreMarked marks used
     → map (relabelled (has marks)) ls ≡ map (relabelled (is_among used)) ls
 labels_known marks used [] h = refl
 labels_known marks used (l ∷ ls) h =
@@ -72,13 +68,15 @@ labels_known marks used (l ∷ ls) h =
     ∙ ap (λ x. relabelled (is_among used) l ∷ x) (labels_known marks used ls h)
 
 -- the lines of blocks, and behind them those of where the code ends
-pub text_known : (q : Procedure) (xs : List Line) (ls shown : List Left) (ss : List Shown) (marks : List Bool) (old middle new : List ℕ)
-    → Marks marks (shown_places q xs ls) → shown ≡ map (relabelled (has marks)) ls
-    → middle ≡ old ++ block_lines 0 false xs shown ss
-    → new ≡ middle ++ place_lines (place_at (shown_places q xs ls) q.exit (code_end q)) → new ≡ old ++ blocks_text q xs ls ss
-text_known q xs ls shown ss marks old middle new h a e f =
+pub text_known : (q : Procedure) (xs : List Line) (ls : List Left) (ss : List Shown) (marks : Marks) (end : ℕ) (old middle new : List ℕ)
+    → AreMarked marks (shown_places q xs ls) → end ≡ code_end q
+    → middle ≡ old ++ block_lines 0 false xs (map (relabelled (has marks)) ls) ss
+    → new ≡ middle ++ place_lines (place_at (shown_places q xs ls) q.exit end) → new ≡ old ++ blocks_text q xs ls ss
+text_known q xs ls ss marks end old middle new h a e f =
+    let shown : List Left = map (relabelled (has marks)) ls in
     f
+    ∙ ap (λ (n : ℕ). middle ++ place_lines (place_at (shown_places q xs ls) q.exit n)) a
     ∙ ap (λ t. t ++ place_lines (place_at (shown_places q xs ls) q.exit (code_end q))) e
     ∙ append_assoc old (block_lines 0 false xs shown ss) (place_lines (place_at (shown_places q xs ls) q.exit (code_end q)))
     ∙ ap (λ l. old ++ (block_lines 0 false xs l ss ++ place_lines (place_at (shown_places q xs ls) q.exit (code_end q))))
-    (a ∙ labels_known marks (shown_places q xs ls) ls h)
+    (labels_known marks (shown_places q xs ls) ls h)

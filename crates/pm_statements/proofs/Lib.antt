@@ -2,6 +2,7 @@ pub mod Around
 pub mod Blanks
 pub mod Spanned
 pub mod Listed
+pub mod Offsets
 pub mod Marked
 pub mod Called
 pub mod Computed

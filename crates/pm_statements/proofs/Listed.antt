@@ -44,18 +44,28 @@ parts_done k used exit at items front e = ap (λ is. front ++ parts k used exit 
 pub text_joined : (old middle new first second : List ℕ) → middle ≡ old ++ first → new ≡ middle ++ second → new ≡ old ++ (first ++ second)
 text_joined old middle new first second e f = f ∙ ap (λ t. t ++ second) e ∙ append_assoc old first second
 
--- two blanks more, and behind the last ones
-pub blanks_step : (end counter : ℕ) (out new whole : List ℕ) → counter < end → new ≡ out ++ 32 ∷ 32 ∷ []
-    → out ++ two_each (end - counter) ≡ whole → new ++ two_each (end - (counter + 1)) ≡ whole
-blanks_step end counter out new whole low n i =
-    let more : end - counter ≡ suc (end - (counter + 1)) = omega (arith, low) in
-    let rest : List ℕ = two_each (end - (counter + 1)) in
-    ap (λ t. t ++ rest) n
-    ∙ append_assoc out (32 ∷ 32 ∷ []) rest
+-- the blanks of eight levels more, of one level more, and behind the last ones
+pub eight_step : (rest : ℕ) (out new whole : List ℕ) → 8 ≤ rest → new ≡ out ++ two_each 8
+    → out ++ two_each rest ≡ whole → new ++ two_each (rest - 8) ≡ whole
+eight_step rest out new whole high n i =
+    let more : rest ≡ suc (suc (suc (suc (suc (suc (suc (suc (rest - 8)))))))) = omega (arith, high) in
+    let behind : List ℕ = two_each (rest - 8) in
+    ap (λ t. t ++ behind) n
+    ∙ append_assoc out (two_each 8) behind
     ∙ ap (λ (k : ℕ). out ++ two_each k) (sym more)
     ∙ i
 
-pub blanks_done : (end counter : ℕ) (out whole : List ℕ) → end ≤ counter → out ++ two_each (end - counter) ≡ whole → out ≡ whole
-blanks_done end counter out whole high i =
-    let none : end - counter ≡ 0 = omega (arith, high) in
+pub blanks_step : (rest : ℕ) (out new whole : List ℕ) → 0 < rest → new ≡ out ++ 32 ∷ 32 ∷ []
+    → out ++ two_each rest ≡ whole → new ++ two_each (rest - 1) ≡ whole
+blanks_step rest out new whole high n i =
+    let more : rest ≡ suc (rest - 1) = omega (arith, high) in
+    let behind : List ℕ = two_each (rest - 1) in
+    ap (λ t. t ++ behind) n
+    ∙ append_assoc out (32 ∷ 32 ∷ []) behind
+    ∙ ap (λ (k : ℕ). out ++ two_each k) (sym more)
+    ∙ i
+
+pub blanks_done : (rest : ℕ) (out whole : List ℕ) → rest ≤ 0 → out ++ two_each rest ≡ whole → out ≡ whole
+blanks_done rest out whole low i =
+    let none : rest ≡ 0 = omega (arith, low) in
     sym (append-nil out) ∙ ap (λ (k : ℕ). out ++ two_each k) (sym none) ∙ i

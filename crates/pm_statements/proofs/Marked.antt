@@ -1,12 +1,12 @@
 -- Marked places, one after another.
 use Rattle.std.proofs.Common.{◌≡◌, ◌≤◌, ◌<◌, ℕ, zero, suc, Bool, true, false, List, [], ◌∷◌, ◌++◌, drop, length, map, set, replicate, refl, sym, ap, ◌∙◌, arith}
-use Rattle.std.specs.Prelude.{◌==◌, ◌||◌}
-use Rattle.std.proofs.lemmas.List.{drop_all, get_or-set_other, get_or-set_same}
+use Rattle.std.specs.Prelude.{◌-◌, ◌==◌, ◌||◌, ◌&&◌, nat_le, nat_lt, if◌then◌else◌, slice_index_or}
+use Rattle.std.proofs.lemmas.List.{drop_all, get_or-set_other, get_or-set_same, length-set}
 use Rattle.std.proofs.lemmas.Bool.Decides.{nat_tests}
 use Rattle.pm_code.specs.Item.{Item}
 use Rattle.pm_code.specs.Program.{is_among, item_places}
 use Rattle.pm_code.specs.Shown.{named_places}
-use Rattle.pm_statements.specs.Marks.{Marks, has}
+use Rattle.pm_statements.specs.Marks.{AreMarked, Marks, has, has_flag}
 use Rattle.pm_trees.specs.Parts.{place_at}
 
 pub or_false : (b : Bool) → (b || false) ≡ b
@@ -22,28 +22,108 @@ or_turned true true c = refl
 or_turned true false c = refl
 or_turned false b c = refl
 
-none_marked : (n p : ℕ) → has (replicate n false) p ≡ false
-none_marked zero p = refl
-none_marked (suc n) zero = refl
-none_marked (suc n) (suc p) = none_marked n p
-
-pub has_more : (marks : List Bool) (n p : ℕ) → has (marks ++ replicate n false) p ≡ has marks p
-has_more [] n p = none_marked n p
-has_more (m ∷ marks) n zero = refl
-has_more (m ∷ marks) n (suc p) = has_more marks n p
-
-pub has_set : (marks : List Bool) (place p : ℕ) → place < length marks → has (set marks place true) p ≡ ((place == p) || has marks p)
-has_set marks place p low = by (place == p) refl
-  where
-    by : (b : Bool) → (place == p) ≡ b → has (set marks place true) p ≡ (b || has marks p)
-    by true e =
-        let same : p ≡ place = grind (arith, nat_tests, e) in
-        ap (λ (q : ℕ). has (set marks place true) q) same ∙ get_or-set_same marks place true false low
-    by false e = get_or-set_other marks place p true false (λ q. absurd (grind (arith, nat_tests, e, q)))
-
 pub among_joined : (xs ys : List ℕ) (p : ℕ) → is_among (xs ++ ys) p ≡ (is_among xs p || is_among ys p)
 among_joined [] ys p = refl
 among_joined (x ∷ xs) ys p = ap (λ b. (x == p) || b) (among_joined xs ys p) ∙ sym (or_assoc (x == p) (is_among xs p) (is_among ys p))
+
+-- ---- flags
+
+none_set : (n k : ℕ) → slice_index_or (replicate n false) k false ≡ false
+none_set zero k = refl
+none_set (suc n) zero = refl
+none_set (suc n) (suc k) = none_set n k
+
+-- no flag is set, and no other place is told
+pub none_marked : (m : Marks) (n p : ℕ) → m.flags ≡ replicate n false → m.others ≡ [] → has m p ≡ false
+unfolding has
+none_marked m n p e f = by (has_flag m p)
+  where
+    by : (b : Bool) → (if b then slice_index_or m.flags (p - m.start) false else is_among m.others p) ≡ false
+    by true = ap (λ l. slice_index_or l (p - m.start) false) e ∙ none_set n (p - m.start)
+    by false = ap (λ l. is_among l p) f
+
+one_set : (flags : List Bool) (k q : ℕ) → k < length flags
+    → slice_index_or (set flags k true) q false ≡ ((k == q) || slice_index_or flags q false)
+one_set flags k q low = by (k == q) refl
+  where
+    by : (b : Bool) → (k == q) ≡ b → slice_index_or (set flags k true) q false ≡ (b || slice_index_or flags q false)
+    by true e =
+        let same : q ≡ k = grind (arith, nat_tests, e) in
+        ap (λ (x : ℕ). slice_index_or (set flags k true) x false) same ∙ get_or-set_same flags k true false low
+    by false e = get_or-set_other flags k q true false (λ x. absurd (grind (arith, nat_tests, e, x)))
+
+same_offset : (s a b : ℕ) → s ≤ a → s ≤ b → ((a - s) == (b - s)) ≡ (a == b)
+same_offset s a b h i = by (a == b) refl
+  where
+    by : (c : Bool) → (a == b) ≡ c → ((a - s) == (b - s)) ≡ c
+    by true e = grind (arith, nat_tests, e)
+    by false e = grind (arith, nat_tests, e, h, i)
+
+flag_low : (m : Marks) (p : ℕ) → has_flag m p ≡ true → m.start ≤ p
+flag_low m p e = grind (arith, nat_tests, e)
+
+flag_there : (m : Marks) (p : ℕ) → m.start ≤ p → p - m.start < length m.flags → has_flag m p ≡ true
+flag_there m p low within = grind (arith, nat_tests, low, within)
+
+-- a place with a flag is not one without
+different : (m : Marks) (p q : ℕ) → has_flag m p ≡ false → has_flag m q ≡ true → (p == q) ≡ false
+different m p q e f = by (p == q) refl
+  where
+    by : (b : Bool) → (p == q) ≡ b → b ≡ false
+    by true g =
+        let same : p ≡ q = grind (arith, nat_tests, g) in
+        sym f ∙ sym (ap (has_flag m) same) ∙ e
+    by false g = refl
+
+apart : (m : Marks) (p q : ℕ) → has_flag m p ≡ true → has_flag m q ≡ false → (p == q) ≡ false
+apart m p q e f = by (p == q) refl
+  where
+    by : (b : Bool) → (p == q) ≡ b → b ≡ false
+    by true g =
+        let same : p ≡ q = grind (arith, nat_tests, g) in
+        sym e ∙ ap (has_flag m) same ∙ f
+    by false g = refl
+
+-- the flag of one place more
+pub flag_set : (m : Marks) (place p : ℕ) → m.start ≤ place → place - m.start < length m.flags
+    → has (record { start = m.start; flags = set m.flags (place - m.start) true; others = m.others }) p ≡ ((place == p) || has m p)
+unfolding has
+flag_set m place p low within =
+    ap (λ (n : ℕ). if nat_le m.start p && nat_lt (p - m.start) n
+    then slice_index_or (set m.flags (place - m.start) true) (p - m.start) false else is_among m.others p)
+    (length-set m.flags (place - m.start) true)
+    ∙ by (has_flag m p) refl
+  where
+    by : (b : Bool) → has_flag m p ≡ b
+        → (if b then slice_index_or (set m.flags (place - m.start) true) (p - m.start) false else is_among m.others p)
+        ≡ ((place == p) || (if b then slice_index_or m.flags (p - m.start) false else is_among m.others p))
+    by true e =
+        let same : ((place - m.start) == (p - m.start)) ≡ (place == p) = same_offset m.start place p low (flag_low m p e) in
+        one_set m.flags (place - m.start) (p - m.start) within
+        ∙ ap (λ (x : Bool). x || slice_index_or m.flags (p - m.start) false) same
+    by false e =
+        let other : (place == p) ≡ false = apart m place p (flag_there m place low within) e in
+        sym (ap (λ (x : Bool). x || is_among m.others p) other)
+
+one_behind : (a b : Bool) → (a || (b || false)) ≡ (b || a)
+one_behind true true = refl
+one_behind true false = refl
+one_behind false true = refl
+one_behind false false = refl
+
+-- one place more that has no flag
+pub other_added : (m : Marks) (place p : ℕ) → has_flag m place ≡ false
+    → has (record { start = m.start; flags = m.flags; others = m.others ++ place ∷ [] }) p ≡ ((place == p) || has m p)
+unfolding has
+other_added m place p none = by (has_flag m p) refl
+  where
+    by : (b : Bool) → has_flag m p ≡ b
+        → (if b then slice_index_or m.flags (p - m.start) false else is_among (m.others ++ place ∷ []) p)
+        ≡ ((place == p) || (if b then slice_index_or m.flags (p - m.start) false else is_among m.others p))
+    by true e =
+        let other : (place == p) ≡ false = different m place p none e in
+        sym (ap (λ (x : Bool). x || slice_index_or m.flags (p - m.start) false) other)
+    by false e = among_joined m.others (place ∷ []) p ∙ one_behind (is_among m.others p) (place == p)
 
 -- one place more
 pub place_step : (place p : ℕ) (places : List ℕ) (new old : Bool) → new ≡ ((place == p) || old)
@@ -62,6 +142,17 @@ pub joined_places : (xs ys : List ℕ) (p : ℕ) (new middle old : Bool) → mid
     → new ≡ (old || is_among (xs ++ ys) p)
 joined_places xs ys p new middle old e f =
     f ∙ ap (λ b. b || is_among ys p) e ∙ or_assoc old (is_among xs p) (is_among ys p) ∙ ap (λ b. old || b) (sym (among_joined xs ys p))
+
+-- places, and behind them others, where none was marked before
+pub two_marked : (xs ys : List ℕ) (p : ℕ) (none first second : Bool) → none ≡ false → first ≡ (none || is_among xs p)
+    → second ≡ (first || is_among ys p) → second ≡ is_among (xs ++ ys) p
+two_marked xs ys p none first second a b c =
+    joined_places xs ys p second first none b c ∙ ap (λ (x : Bool). x || is_among (xs ++ ys) p) a
+
+pub three_marked : (xs ys zs : List ℕ) (p : ℕ) (none first second third : Bool) → none ≡ false → first ≡ (none || is_among xs p)
+    → second ≡ (first || is_among ys p) → third ≡ (second || is_among zs p) → third ≡ is_among (xs ++ (ys ++ zs)) p
+three_marked xs ys zs p none first second third a b c d =
+    two_marked xs (ys ++ zs) p none first third a b (joined_places ys zs p third second first c d)
 
 pub one_place : (place p : ℕ) (new old : Bool) → new ≡ ((place == p) || old) → new ≡ (old || is_among (place ∷ []) p)
 one_place place p new old e = e ∙ by (place == p) old
@@ -82,6 +173,6 @@ pub items_done : {A : Type 0} → (f : A → Item ℕ) (items : List A) (i p : �
 items_done f items i p now whole high e =
     sym (or_false now) ∙ sym (ap (λ l. now || is_among (named_places (map f l)) p) (drop_all i items high)) ∙ e
 
-pub place_known : (marks : List Bool) (used : List ℕ) (exit at : ℕ) → Marks marks used
+pub place_known : (marks : Marks) (used : List ℕ) (exit at : ℕ) → AreMarked marks used
     → record { offset = at; has_label = has marks at; is_exit = exit == at } ≡ place_at used exit at
 place_known marks used exit at h = ap (λ (b : Bool). record { offset = at; has_label = b; is_exit = exit == at }) (h at)

@@ -1,5 +1,5 @@
 -- What procedures take and leave.
-use Rattle.std.specs.Prelude.{ℕ, ◌/◌, List, [], ◌∷◌, ◌==◌, nat_le, if◌then◌else◌, Option, Some, None}
+use Rattle.std.specs.Prelude.{ℕ, ◌/◌, Bool, List, [], ◌∷◌, ◌==◌, ◌||◌, nat_le, if◌then◌else◌, Option, Some, None}
 use Rattle.std.specs.Map.{lookup}
 use Rattle.pm_families.specs.declared.families.Return.TheVariants as return
 use Rattle.pm_opcode.specs.declared.operation.Operation.{Operation}
@@ -58,6 +58,10 @@ abbrev pub operation_returns : Operation → Option ℕ
 operation_returns (operation.Return (return.Normal n)) = Some n
 operation_returns (operation.Return (return.Base n)) = Some n
 operation_returns _ = None
+
+-- the opcodes of RNP and RBP; no other one returns
+abbrev pub is_return_opcode : ℕ → Bool
+is_return_opcode op = (op == 173) || (op == 193)
 
 abbrev pub words_returned : Item ℕ → Option ℕ
 words_returned (Plain i named) = operation_returns (operation_of i)

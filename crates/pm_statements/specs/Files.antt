@@ -1,12 +1,13 @@
 -- The text of a code file as statements.
 use Rattle.std.specs.Prelude.{◌≡◌, ℕ, zero, suc, ◌+◌, ◌==◌, List, [], ◌∷◌, ◌++◌, nat_le, Option, Some, None}
-use Rattle.std.specs.Prelude.{◌*◌, codes, string_bytes, if◌then◌else◌, IfSome}
+use Rattle.std.specs.Prelude.{◌*◌, codes, length, string_bytes, if◌then◌else◌, IfSome}
 use Rattle.std.specs.Fmt.{decimal, signed_decimal}
 use Rattle.std.specs.List.{AllByRecursion}
 use Rattle.pm_codefile.specs.Dictionary.{segment_in}
 use Rattle.pm_codefile.specs.Segments.{attributes_in, procedures_in}
 use Rattle.pm_codefile.specs.declared.table.Attributes.{Attributes}
 use Rattle.pm_disasm.specs.Split.{procedure_of}
+use Rattle.pm_code.specs.declared.program.Procedure as declared
 use Rattle.pm_code.specs.Program.{Procedure}
 use Rattle.pm_code.specs.Shown.{label_text}
 use Rattle.pm_code.specs.Views.{procedure_seen}
@@ -57,9 +58,23 @@ slots_callees file n (suc count) = slot_callees n (segment_in file n) ++ slots_c
 unfoldable pub file_callees : List ℕ → List (Option Callee)
 file_callees file = slots_callees file 0 16
 
--- a table's procedure in this segment, if it is kept
+-- what the returns of a procedure leave
+abbrev pub returns_in : Procedure → Returns
+returns_in p = returns_from no_return p.items
+
+-- a table's procedure in this segment with what its returns leave, if it is kept
 abbrev pub IsKept : List ℕ → SizedTable → Type 0
-IsKept segment s = IfSome s.procedure (λ p. procedure_seen p ≡ procedure_of segment s.table)
+IsKept segment s = IfSome s.procedure (λ p. (procedure_seen p ≡ procedure_of segment s.table)
+    × (s.returns ≡ returns_in (procedure_seen p)))
+
+-- how many items a procedure has, if there is one
+abbrev pub count_of : Option declared.Procedure → ℕ
+count_of None = 0
+count_of (Some p) = length p.items.items
+
+-- how many items a table's procedure has, if it is kept
+abbrev pub items_kept : SizedTable → ℕ
+items_kept s = count_of s.procedure
 
 -- what a table's procedure takes and leaves in this segment, and the procedure, if it is kept
 abbrev pub IsSizedTable : List ℕ → SizedTable → Type 0
@@ -91,9 +106,6 @@ abbrev pub entry_lines : ℕ → List ℕ → List ℕ
 entry_lines k [] = []
 entry_lines k (place ∷ places) =
     (10 ∷ 94 ∷ (decimal k ++ (32 ∷ label_text place))) ++ entry_lines (k + 1) places
-
-abbrev pub returns_in : Procedure → Returns
-returns_in p = returns_from no_return p.items
 
 -- a procedure with code: that line, and behind it those of its jump table and of its statements
 abbrev pub code_text : Known → Attributes → Procedure → List ℕ

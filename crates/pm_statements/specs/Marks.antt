@@ -1,11 +1,22 @@
 -- Which places are marked.
-use Rattle.std.specs.Prelude.{◌≡◌, ℕ, Bool, false, List, slice_index_or}
+use Rattle.std.specs.Prelude.{◌≡◌, ℕ, ◌-◌, Bool, false, ◌&&◌, nat_le, nat_lt, if◌then◌else◌, List, length}
+use Rattle.std.specs.Prelude.{slice_index_or}
 use Rattle.pm_code.specs.Program.{is_among}
 
--- a place behind the last mark is not marked
-abbrev pub has : List Bool → ℕ → Bool
-has marks place = slice_index_or marks place false
+-- A flag for each place from a start on; and the places that are marked and have no flag.
+pub record Marks : Type 0 where
+  pub start : ℕ
+  pub flags : List Bool
+  pub others : List ℕ
+
+abbrev pub has_flag : Marks → ℕ → Bool
+has_flag m place = nat_le m.start place && nat_lt (place - m.start) (length m.flags)
+
+-- whether a place is marked
+unfoldable pub has : Marks → ℕ → Bool
+has m place =
+    if has_flag m place then slice_index_or m.flags (place - m.start) false else is_among m.others place
 
 -- Exactly these places are marked.
-abbrev pub Marks : List Bool → List ℕ → Type 0
-Marks marks places = (p : ℕ) → has marks p ≡ is_among places p
+abbrev pub AreMarked : Marks → List ℕ → Type 0
+AreMarked m places = (p : ℕ) → has m p ≡ is_among places p

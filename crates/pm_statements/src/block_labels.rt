@@ -4,19 +4,19 @@ ghost use Rattle.std.specs.Prelude.{◌≡◌, ◌||◌, ℕ, map, IfOk, OnOk};
 ghost use Rattle.pm_code.specs.Program.{is_among};
 ghost use Rattle.pm_code.specs.Views.{placed_item, procedure_seen};
 ghost use Rattle.pm_statements.specs.BlockLabels as labels;
-ghost use Rattle.pm_statements.specs.Marks.{Marks, has};
+ghost use Rattle.pm_statements.specs.Marks.{AreMarked, has};
 
 use crate::block_lines::behind_word;
-use crate::marks::{mark_item, mark_places, mark_target};
+use crate::marks::{Marks, mark_item, mark_places, mark_target};
 use pm_code::{Item, Procedure};
 use pm_trees::{Left, Line, Place, Role, Word};
 use std::alloc::{AllocError, Global};
 
 /// Marks the places that an item names, if it is a jump by a value.
 #[tactic(auto, using(crate::proofs::Marked::or_false))]
-fn mark_case(marks: &mut Vec<bool>, item: &Item<usize>) -> Result<(), AllocError>
-    ensures has { OnOk result ((p : ℕ) → has marks.new.items p
-        ≡ (has marks.old.items p || is_among (labels.case_places (placed_item item.now)) p)) }
+fn mark_case(marks: &mut Marks, item: &Item<usize>) -> Result<(), AllocError>
+    ensures has { OnOk result ((p : ℕ) → has marks.new p
+        ≡ (has marks.old p || is_among (labels.case_places (placed_item item.now)) p)) }
 {
     match item {
         Item::Case { .. } => mark_item(marks, item),
@@ -26,9 +26,9 @@ fn mark_case(marks: &mut Vec<bool>, item: &Item<usize>) -> Result<(), AllocError
 
 /// Marks the places that items name that are jumps by a value.
 #[tactic(auto, using(crate::proofs::BlockLabelled::tables_done))]
-fn mark_tables(marks: &mut Vec<bool>, items: &[Item<usize>]) -> Result<(), AllocError>
-    ensures has { OnOk result ((p : ℕ) → has marks.new.items p
-        ≡ (has marks.old.items p || is_among (labels.table_places (map placed_item items.now)) p)) }
+fn mark_tables(marks: &mut Marks, items: &[Item<usize>]) -> Result<(), AllocError>
+    ensures has { OnOk result ((p : ℕ) → has marks.new p
+        ≡ (has marks.old p || is_among (labels.table_places (map placed_item items.now)) p)) }
 {
     for item in items {
         mark_case(marks, item)?;
@@ -36,35 +36,26 @@ fn mark_tables(marks: &mut Vec<bool>, items: &[Item<usize>]) -> Result<(), Alloc
     Ok(())
 }
 
-/// Marks the place that a statement of a word names.
+/// Marks the place that the first of some statements names, if there is one, by its word.
 #[tactic(auto, using(crate::proofs::Marked::or_false))]
-fn mark_jump(marks: &mut Vec<bool>, word: Word, role: Role) -> Result<(), AllocError>
-    ensures has { OnOk result ((p : ℕ) → has marks.new.items p
-        ≡ (has marks.old.items p || is_among (labels.jump_places word role) p)) }
+fn mark_first(marks: &mut Marks, word: Word, lefts: &[Left]) -> Result<(), AllocError>
+    ensures has { OnOk result ((p : ℕ) → has marks.new p
+        ≡ (has marks.old p || is_among (labels.first_places word lefts.now) p)) }
 {
-    match (word, role) {
+    let Some((left, _)) = lefts.split_first() else {
+        return Ok(());
+    };
+    match (word, left.role) {
         (Word::Plain(_), Role::Jump(_, target)) => mark_target(marks, target),
         _ => Ok(()),
     }
 }
 
-/// Marks the place that the first of some statements names, if there is one, by its word.
-#[tactic(auto, using(crate::proofs::Marked::or_false))]
-fn mark_first(marks: &mut Vec<bool>, word: Word, lefts: &[Left]) -> Result<(), AllocError>
-    ensures has { OnOk result ((p : ℕ) → has marks.new.items p
-        ≡ (has marks.old.items p || is_among (labels.first_places word lefts.now) p)) }
-{
-    match lefts.split_first() {
-        Some((left, _)) => mark_jump(marks, word, left.role),
-        None => Ok(()),
-    }
-}
-
 /// Marks the places that lines name, each of a word, with their statements.
 #[tactic(auto, using(crate::proofs::BlockLabelled::lines_done))]
-fn mark_lines(marks: &mut Vec<bool>, lines: &[Line], lefts: &[Left]) -> Result<(), AllocError>
-    ensures has { OnOk result ((p : ℕ) → has marks.new.items p
-        ≡ (has marks.old.items p || is_among (labels.line_places lines.now lefts.now) p)) }
+fn mark_lines(marks: &mut Marks, lines: &[Line], lefts: &[Left]) -> Result<(), AllocError>
+    ensures has { OnOk result ((p : ℕ) → has marks.new p
+        ≡ (has marks.old p || is_among (labels.line_places lines.now lefts.now) p)) }
 {
     let mut statements = lefts;
     for line in lines {
@@ -74,18 +65,19 @@ fn mark_lines(marks: &mut Vec<bool>, lines: &[Line], lefts: &[Left]) -> Result<(
     Ok(())
 }
 
-/// Of each place of a procedure in blocks whether its text names it.
-#[tactic(auto, using(crate::proofs::Marked::joined_places))]
+/// The places of a procedure in blocks that its text names. Each place from its start to an end has a flag.
+#[tactic(auto, using(crate::proofs::Marked::three_marked))]
 pub(crate) fn shown_labels(
     alloc: Global,
     procedure: &Procedure,
+    end: usize,
     lines: &[Line],
     lefts: &[Left],
-) -> Result<Vec<bool>, AllocError>
-    ensures marks { IfOk result (λ marks. Marks marks.items
+) -> Result<Marks, AllocError>
+    ensures marks { IfOk result (λ marks. AreMarked marks
         (labels.shown_places (procedure_seen procedure.now) lines.now lefts.now)) }
 {
-    let mut marks = Vec::new(alloc);
+    let mut marks = Marks::none(alloc, procedure.start, end)?;
     mark_tables(&mut marks, &procedure.items)?;
     mark_places(&mut marks, &procedure.entries)?;
     mark_lines(&mut marks, lines, lefts)?;
@@ -93,7 +85,7 @@ pub(crate) fn shown_labels(
 }
 
 /// A statement, where these places have labels.
-fn relabelled(marks: &[bool], left: &Left) -> Left
+pub(crate) fn relabelled(marks: &Marks, left: &Left) -> Left
     ensures left { result ≡ labels.relabelled (has marks.now) left.now }
 {
     let place = left.place;
@@ -101,26 +93,10 @@ fn relabelled(marks: &[bool], left: &Left) -> Left
         leaves: left.leaves,
         place: Place {
             offset: place.offset,
-            has_label: marks.get(place.offset).copied().unwrap_or(false),
+            has_label: marks.has(place.offset),
             is_exit: place.is_exit,
         },
         parts: left.parts,
         role: left.role,
     }
-}
-
-/// Statements, where these places have labels.
-#[tactic(auto, using(crate::proofs::BlockLabelled::lefts_done))]
-pub(crate) fn all_relabelled(
-    alloc: Global,
-    marks: &[bool],
-    lefts: &[Left],
-) -> Result<Vec<Left>, AllocError>
-    ensures lefts { IfOk result (λ ls. ls.items ≡ map (labels.relabelled (has marks.now)) lefts.now) }
-{
-    let mut list = Vec::new(alloc);
-    for left in lefts {
-        list.push(relabelled(marks, left))?;
-    }
-    Ok(list)
 }

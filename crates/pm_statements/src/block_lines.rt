@@ -1,11 +1,15 @@
 //! Statements in blocks as lines.
 
-ghost use Rattle.std.specs.Prelude.{◌≡◌, ◌++◌, drop, false, string_bytes, OnOk};
+ghost use Rattle.std.specs.Prelude.{◌≡◌, ◌++◌, drop, false, map, string_bytes, OnOk};
+ghost use Rattle.pm_statements.specs.BlockLabels as labels;
 ghost use Rattle.pm_statements.specs.BlockLines as texts;
+ghost use Rattle.pm_statements.specs.Marks.{has};
 
+use crate::block_labels::relabelled;
 use crate::conditions::push_condition;
 use crate::leading::behind_first;
 use crate::lines::{is_call, is_check, push_beside, push_blanks, push_front, push_own};
+use crate::marks::Marks;
 use pm_phrases::{Phrase, Value};
 use pm_trees::{Left, Line, Role, Word};
 use std::alloc::{AllocError, Global};
@@ -84,18 +88,19 @@ fn push_worded(
     push_word(alloc, out, word, left, phrase)
 }
 
-/// Adds the first of some statements, if there is one.
+/// Adds the first of some statements, if there is one, where these places have labels.
 fn push_first(
     alloc: Global,
     out: &mut String,
     depth: usize,
     behind_call: bool,
     word: Word,
+    marks: &Marks,
     lefts: &[Left],
     phrases: &[Phrase],
 ) -> Result<(), AllocError>
-    ensures text { OnOk result (string_bytes out.new
-        ≡ string_bytes out.old ++ texts.first_line depth behind_call word lefts.now phrases.now) }
+    ensures text { OnOk result (string_bytes out.new ≡ string_bytes out.old ++ texts.first_line depth behind_call word
+        (map (labels.relabelled (has marks.now)) lefts.now) phrases.now) }
 {
     let Some((left, _)) = lefts.split_first() else {
         return Ok(());
@@ -103,7 +108,8 @@ fn push_first(
     let Some((phrase, _)) = phrases.split_first() else {
         return Ok(());
     };
-    push_worded(alloc, out, depth, behind_call, word, left, phrase)
+    let shown = relabelled(marks, left);
+    push_worded(alloc, out, depth, behind_call, word, &shown, phrase)
 }
 
 /// What stands in a line of no statement.
@@ -117,18 +123,19 @@ fn extra_text(word: Word) -> &'static str
     }
 }
 
-/// Adds a line that stands for no statement, or the first of some statements.
+/// Adds a line that stands for no statement, or the first of some statements, where these places have labels.
 fn push_block_line(
     alloc: Global,
     out: &mut String,
     depth: usize,
     behind_call: bool,
     word: Word,
+    marks: &Marks,
     lefts: &[Left],
     phrases: &[Phrase],
 ) -> Result<(), AllocError>
-    ensures text { OnOk result (string_bytes out.new
-        ≡ string_bytes out.old ++ texts.block_line depth behind_call word lefts.now phrases.now) }
+    ensures text { OnOk result (string_bytes out.new ≡ string_bytes out.old ++ texts.block_line depth behind_call word
+        (map (labels.relabelled (has marks.now)) lefts.now) phrases.now) }
 {
     if word.is_extra() {
         out.push_str("\n      ")?;
@@ -136,7 +143,7 @@ fn push_block_line(
         out.push_str(extra_text(word))?;
         return Ok(());
     }
-    push_first(alloc, out, depth, behind_call, word, lefts, phrases)
+    push_first(alloc, out, depth, behind_call, word, marks, lefts, phrases)
 }
 
 /// Whether a line is a call.
@@ -160,16 +167,17 @@ pub(crate) fn behind_word<T>(word: Word, list: &[T]) -> &[T]
     }
 }
 
-/// Adds lines, each of a word, and their statements.
+/// Adds lines, each of a word, and their statements, where these places have labels.
 pub(crate) fn push_block_lines(
     alloc: Global,
     out: &mut String,
     lines: &[Line],
+    marks: &Marks,
     lefts: &[Left],
     phrases: &[Phrase],
 ) -> Result<(), AllocError>
-    ensures text { OnOk result (string_bytes out.new
-        ≡ string_bytes out.old ++ texts.block_lines 0 false lines.now lefts.now phrases.now) }
+    ensures text { OnOk result (string_bytes out.new ≡ string_bytes out.old ++ texts.block_lines 0 false lines.now
+        (map (labels.relabelled (has marks.now)) lefts.now) phrases.now) }
 {
     let mut depth = 0;
     let mut behind_call = false;
@@ -178,7 +186,7 @@ pub(crate) fn push_block_lines(
     for line in lines {
         let word = line.word;
         let own = word.depth_at(depth);
-        push_block_line(alloc, out, own, behind_call, word, statements, texts)?;
+        push_block_line(alloc, out, own, behind_call, word, marks, statements, texts)?;
         let Some(more) = word.depth_behind(depth) else {
             return Err(AllocError);
         };

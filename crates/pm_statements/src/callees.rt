@@ -9,6 +9,12 @@ use pm_families::Return;
 use pm_opcode::Operation;
 use pm_trees::Callee;
 
+/// The opcode of a return from a procedure.
+const RNP: u8 = 173;
+
+/// The opcode of a return from a base procedure.
+const RBP: u8 = 193;
+
 /// A procedure that takes and leaves so many words.
 fn sized(parameters: u8, results: u8) -> Callee
     ensures sized { result ≡ callees.sized parameters results }
@@ -49,12 +55,16 @@ pub(crate) enum Returns {
 }
 
 /// How many words an item leaves, if it is a return.
+#[tactic(auto, using(crate::proofs::Called::no_words))]
 fn words_returned(item: &Item<usize>) -> Option<u8>
     ensures words { result ≡ callees.words_returned (placed_item item.now) }
 {
     let Item::Plain(instr, _) = item else {
         return None;
     };
+    if instr.op != RNP && instr.op != RBP {
+        return None;
+    }
     match Operation::of(instr) {
         Operation::Return(Return::Normal(words)) => Some(words),
         Operation::Return(Return::Base(words)) => Some(words),
@@ -62,10 +72,13 @@ fn words_returned(item: &Item<usize>) -> Option<u8>
     }
 }
 
-/// One return more, of so many words.
-fn with_return(returns: Returns, words: u8) -> Returns
-    ensures returns { result ≡ callees.with_return returns words }
+/// One item more.
+fn joined(returns: Returns, words: Option<u8>) -> Returns
+    ensures returns { result ≡ callees.joined returns words }
 {
+    let Some(words) = words else {
+        return returns;
+    };
     match returns {
         Returns::NoReturn => Returns::Of(words),
         Returns::Of(before) => {
@@ -76,16 +89,6 @@ fn with_return(returns: Returns, words: u8) -> Returns
             }
         }
         Returns::Different => Returns::Different,
-    }
-}
-
-/// One item more.
-fn joined(returns: Returns, words: Option<u8>) -> Returns
-    ensures returns { result ≡ callees.joined returns words }
-{
-    match words {
-        None => returns,
-        Some(words) => with_return(returns, words),
     }
 }
 
@@ -100,17 +103,23 @@ pub(crate) fn returns_of(items: &[Item<usize>]) -> Returns
     returns
 }
 
+/// What a procedure takes and leaves, by the words of its parameters and what its returns leave.
+pub(crate) fn callee_by(words: u16, returns: Returns) -> Option<Callee>
+    ensures callee { result ≡ callees.callee_by words returns }
+{
+    if words > 255 {
+        return None;
+    }
+    match returns {
+        Returns::Of(results) => Some(sized(words as u8, results)),
+        Returns::NoReturn | Returns::Different => None,
+    }
+}
+
 /// What a procedure takes and leaves, by its own code: the words of its parameters, of which there are fewer than 256,
 /// and what each of its returns leaves. None where that is not one number.
 pub fn callee_of(procedure: &Procedure) -> Option<Callee>
     ensures callee { result ≡ callees.callee_of (procedure_seen procedure.now) }
 {
-    let words = procedure.parameters / 2;
-    if words > 255 {
-        return None;
-    }
-    match returns_of(&procedure.items) {
-        Returns::Of(results) => Some(sized(words as u8, results)),
-        Returns::NoReturn | Returns::Different => None,
-    }
+    callee_by(procedure.parameters / 2, returns_of(&procedure.items))
 }

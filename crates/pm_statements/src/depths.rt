@@ -1,13 +1,14 @@
 //! How deep the code of a procedure stands.
 
 ghost use Rattle.std.specs.Prelude.{◌≡◌, ◌++◌, replicate, IfOk, OnOk};
+ghost use Rattle.pm_code.specs.Program.{code_end};
 ghost use Rattle.pm_code.specs.Views.{placed_item, procedure_seen};
 ghost use Rattle.pm_statements.specs.Depths as depths;
 ghost use Rattle.pm_statements.specs.Bodies as bodies;
 
 use crate::procedure::behind;
 use crate::spans::{close_ended, open_span};
-use pm_code::{Item, JUMP, Procedure, Target, items_end};
+use pm_code::{Item, JUMP, Procedure, Target};
 use std::alloc::{AllocError, Global};
 use std::marker::Model;
 
@@ -75,13 +76,11 @@ fn add_loop(loops: &mut Vec<usize>, start: usize, at: usize, end: usize, place: 
 
 /// For each byte of a procedure's code where the loop ends that begins there, 0 where none does.
 #[tactic(auto, unfolding(crate::specs::Depths::loops_from))]
-fn loops_of(alloc: Global, procedure: &Procedure) -> Result<Depths, AllocError>
+fn loops_of(alloc: Global, procedure: &Procedure, end: usize) -> Result<Depths, AllocError>
+    requires end { end ≡ code_end (procedure_seen procedure.now) }
     ensures loops { IfOk result (λ ls. ls ≡ depths.loops (procedure_seen procedure.now)) }
 {
     let start = procedure.start;
-    let Some(end) = items_end(start, &procedure.items) else {
-        return Err(AllocError);
-    };
     let mut loops = Vec::new(alloc);
     loops.resize(end.saturating_sub(start), 0)?;
     let mut at = start;
@@ -108,10 +107,11 @@ fn push_depth(depths: &mut Vec<usize>, count: usize, depth: usize) -> Result<(),
 
 /// How deep each byte of a procedure's code stands.
 #[tactic(auto, unfolding(crate::specs::Depths::depths))]
-fn list_of(alloc: Global, procedure: &Procedure) -> Result<Vec<usize>, AllocError>
+fn list_of(alloc: Global, procedure: &Procedure, end: usize) -> Result<Vec<usize>, AllocError>
+    requires end { end ≡ code_end (procedure_seen procedure.now) }
     ensures depths { IfOk result (λ ds. ds.items ≡ depths.depths (procedure_seen procedure.now)) }
 {
-    let loops = loops_of(alloc, procedure)?;
+    let loops = loops_of(alloc, procedure, end)?;
     let mut depths = Vec::new(alloc);
     let mut ends = Vec::new(alloc);
     let mut forward = None;
@@ -134,11 +134,13 @@ pub(crate) fn depths_if(
     alloc: Global,
     wanted: bool,
     procedure: &Procedure,
+    end: usize,
 ) -> Result<Depths, AllocError>
+    requires end { end ≡ code_end (procedure_seen procedure.now) }
     ensures depths { IfOk result (λ ds. ds ≡ bodies.depths_if wanted (procedure_seen procedure.now)) }
 {
     let list = if wanted {
-        list_of(alloc, procedure)?
+        list_of(alloc, procedure, end)?
     } else {
         Vec::new(alloc)
     };

@@ -1,6 +1,7 @@
 //! Statements as lines.
 
 ghost use Rattle.std.specs.Prelude.{◌≡◌, ◌∷◌, ◌++◌, false, string_bytes, OnOk};
+ghost use Rattle.pm_code.specs.Shown.{padded};
 ghost use Rattle.pm_phrases.specs.Shown.{value_text};
 ghost use Rattle.pm_statements.specs.Texts as texts;
 
@@ -13,6 +14,9 @@ use std::fmt::Write;
 
 /// The deepest level that has blanks.
 const DEEPEST: usize = 30;
+
+/// The blanks of eight levels.
+const EIGHT_LEVELS: &str = "                ";
 
 /// Adds the lines of a label and of the exit code, each behind a line feed.
 pub(crate) fn push_place_lines(out: &mut String, place: Place) -> Result<(), AllocError>
@@ -67,20 +71,46 @@ pub(crate) fn is_check(left: &Left) -> bool
 pub(crate) fn push_blanks(out: &mut String, depth: usize) -> Result<(), AllocError>
     ensures text { OnOk result (string_bytes out.new ≡ string_bytes out.old ++ texts.blanks depth) }
 {
-    for _ in 0..depth.min(DEEPEST) {
-        out.push_str("  ")?;
+    let mut rest = depth.min(DEEPEST);
+    while rest > 0 {
+        if rest >= 8 {
+            out.push_str(EIGHT_LEVELS)?;
+            rest -= 8;
+        } else {
+            out.push_str("  ")?;
+            rest -= 1;
+        }
     }
     Ok(())
 }
 
+/// Adds an offset in at least five digits.
+fn push_offset(out: &mut String, offset: usize) -> Result<(), AllocError>
+    ensures text { OnOk result (string_bytes out.new ≡ string_bytes out.old ++ padded 5 offset) }
+{
+    if offset > 99_999 {
+        return out.write(FiveDigits(offset));
+    }
+    let tens = offset / 10;
+    let hundreds = tens / 10;
+    let thousands = hundreds / 10;
+    out.push(char::from(48 + (thousands / 10) as u8))?;
+    out.push(char::from(48 + (thousands % 10) as u8))?;
+    out.push(char::from(48 + (hundreds % 10) as u8))?;
+    out.push(char::from(48 + (tens % 10) as u8))?;
+    out.push(char::from(48 + (offset % 10) as u8))?;
+    Ok(())
+}
+
 /// Adds what stands before the blanks of a statement: the lines of its place, and its offset.
+#[tactic(auto, using(pm_code::proofs::Digits::padded_written))]
 pub(crate) fn push_front(out: &mut String, place: Place) -> Result<(), AllocError>
     ensures text { OnOk result (string_bytes out.new ≡ string_bytes out.old ++ texts.front place) }
 {
     push_place_lines(out, place)?;
-    let offset = FiveDigits(place.offset);
-    write!(out, "\n{offset} ")?;
-    Ok(())
+    out.push('\n')?;
+    push_offset(out, place.offset)?;
+    out.push(' ')
 }
 
 /// Adds a statement, behind a line feed or on the line of the call before it.

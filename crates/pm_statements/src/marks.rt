@@ -1,44 +1,93 @@
 //! The places of a procedure that have a label.
 
-ghost use Rattle.std.specs.Prelude.{◌≡◌, ◌<◌, ◌==◌, ◌||◌, ℕ, length, map, IfOk, OnOk};
+ghost use Rattle.std.specs.Prelude.{◌≡◌, ◌-◌, ◌≤◌, ◌<◌, ◌==◌, ◌||◌, ℕ, false, length, map, IfOk, OnOk};
+ghost use Rattle.std.specs.Bool.{OnTrue};
 ghost use Rattle.pm_code.specs.Program.{is_among, item_places, target_places};
 ghost use Rattle.pm_code.specs.Shown.{named_places};
 ghost use Rattle.pm_code.specs.Views.{placed_item, placed_target, procedure_seen};
 ghost use Rattle.pm_trees.specs.Parts.{labelled_places};
-ghost use Rattle.pm_statements.specs.Marks.{Marks, has};
+ghost use Rattle.pm_statements.specs.Marks.{AreMarked, has, has_flag};
 
 use pm_code::{Item, Procedure, Target};
 use std::alloc::{AllocError, Global};
+use std::marker::Model;
 
-/// Makes room for the mark of a place.
-#[tactic(auto, using(crate::proofs::Marked::has_more))]
-fn make_room(marks: &mut Vec<bool>, place: usize) -> Result<(), AllocError>
-    ensures has { OnOk result ((p : ℕ) → has marks.new.items p ≡ has marks.old.items p) }
-    ensures room { OnOk result (place < length marks.new.items) }
-{
-    let Some(size) = place.checked_add(1) else {
-        return Err(AllocError);
-    };
-    if marks.len() < size {
-        marks.resize(size, false)?;
+/// Which places are marked. Each place of a procedure's code has a flag; any other is told by a list.
+#[derive(Drop)]
+pub struct Marks {
+    /// The place of the first flag.
+    start: usize,
+    /// The flags.
+    flags: Vec<bool>,
+    /// The places that are marked and have no flag.
+    others: Vec<usize>,
+}
+
+impl Model for Marks {
+    ghost use Rattle.pm_statements.specs.Marks as marks;
+
+    ghost Value = { marks.Marks };
+
+    ghost view = { λ m. record { start = m.start; flags = m.flags.items; others = m.others.items } };
+}
+
+impl Marks {
+    /// No marks, with flags for the places from a start to an end.
+    #[tactic(auto, using(crate::proofs::Marked::none_marked))]
+    pub(crate) fn none(alloc: Global, start: usize, end: usize) -> Result<Marks, AllocError>
+        ensures none { IfOk result (λ m. (p : ℕ) → has m p ≡ false) }
+    {
+        let Some(count) = end.saturating_sub(start).checked_add(1) else {
+            return Err(AllocError);
+        };
+        let mut flags = Vec::new(alloc);
+        flags.resize(count, false)?;
+        let others = Vec::new(alloc);
+        Ok(Marks {
+            start,
+            flags,
+            others,
+        })
     }
-    Ok(())
+
+    /// Whether a place has a flag.
+    fn has_flag(&self, place: usize) -> bool
+        ensures value { result ≡ has_flag self.now place }
+        ensures low { OnTrue result (self.now.start ≤ place) }
+        ensures within { OnTrue result (place - self.now.start < length self.now.flags) }
+    {
+        place >= self.start && place - self.start < self.flags.len()
+    }
+
+    /// Whether a place is marked.
+    #[tactic(auto, unfolding(crate::specs::Marks::has))]
+    pub(crate) fn has(&self, place: usize) -> bool
+        ensures value { result ≡ has self.now place }
+    {
+        if self.has_flag(place) {
+            return self.flags[place - self.start];
+        }
+        self.others.contains(&place)
+    }
 }
 
 /// Marks a place.
-#[tactic(auto, using(crate::proofs::Marked::has_set))]
-fn mark(marks: &mut Vec<bool>, place: usize) -> Result<(), AllocError>
-    ensures has { OnOk result ((p : ℕ) → has marks.new.items p ≡ ((place == p) || has marks.old.items p)) }
+#[tactic(auto, unfolding(crate::specs::Marks::has), using(crate::proofs::Marked::flag_set, crate::proofs::Marked::other_added))]
+fn mark(marks: &mut Marks, place: usize) -> Result<(), AllocError>
+    ensures has { OnOk result ((p : ℕ) → has marks.new p ≡ ((place == p) || has marks.old p)) }
 {
-    make_room(marks, place)?;
-    marks[place] = true;
+    if marks.has_flag(place) {
+        marks.flags[place - marks.start] = true;
+        return Ok(());
+    }
+    marks.others.push(place)?;
     Ok(())
 }
 
 /// Marks places.
 #[tactic(auto, using(crate::proofs::Marked::places_done))]
-pub(crate) fn mark_places(marks: &mut Vec<bool>, places: &[usize]) -> Result<(), AllocError>
-    ensures has { OnOk result ((p : ℕ) → has marks.new.items p ≡ (has marks.old.items p || is_among places.now p)) }
+pub(crate) fn mark_places(marks: &mut Marks, places: &[usize]) -> Result<(), AllocError>
+    ensures has { OnOk result ((p : ℕ) → has marks.new p ≡ (has marks.old p || is_among places.now p)) }
 {
     for place in places {
         mark(marks, *place)?;
@@ -48,9 +97,9 @@ pub(crate) fn mark_places(marks: &mut Vec<bool>, places: &[usize]) -> Result<(),
 
 /// Marks the place that a jump leads to by a label.
 #[tactic(auto, using(crate::proofs::Marked::one_place, crate::proofs::Marked::or_false))]
-pub(crate) fn mark_target(marks: &mut Vec<bool>, target: Target<usize>) -> Result<(), AllocError>
-    ensures has { OnOk result ((p : ℕ) → has marks.new.items p
-        ≡ (has marks.old.items p || is_among (target_places (placed_target target)) p)) }
+pub(crate) fn mark_target(marks: &mut Marks, target: Target<usize>) -> Result<(), AllocError>
+    ensures has { OnOk result ((p : ℕ) → has marks.new p
+        ≡ (has marks.old p || is_among (target_places (placed_target target)) p)) }
 {
     match target {
         Target::To(place) => mark(marks, place),
@@ -60,9 +109,9 @@ pub(crate) fn mark_target(marks: &mut Vec<bool>, target: Target<usize>) -> Resul
 
 /// Marks the places that an item names.
 #[tactic(auto, using(crate::proofs::Marked::joined_places, crate::proofs::Marked::or_false))]
-pub(crate) fn mark_item(marks: &mut Vec<bool>, item: &Item<usize>) -> Result<(), AllocError>
-    ensures has { OnOk result ((p : ℕ) → has marks.new.items p
-        ≡ (has marks.old.items p || is_among (item_places (placed_item item.now)) p)) }
+pub(crate) fn mark_item(marks: &mut Marks, item: &Item<usize>) -> Result<(), AllocError>
+    ensures has { OnOk result ((p : ℕ) → has marks.new p
+        ≡ (has marks.old p || is_among (item_places (placed_item item.now)) p)) }
 {
     match item {
         Item::Jump(_, target) => mark_target(marks, *target),
@@ -80,9 +129,9 @@ pub(crate) fn mark_item(marks: &mut Vec<bool>, item: &Item<usize>) -> Result<(),
 
 /// Marks the places that items name.
 #[tactic(auto, using(crate::proofs::Marked::items_done))]
-fn mark_items(marks: &mut Vec<bool>, items: &[Item<usize>]) -> Result<(), AllocError>
-    ensures has { OnOk result ((p : ℕ) → has marks.new.items p
-        ≡ (has marks.old.items p || is_among (named_places (map placed_item items.now)) p)) }
+fn mark_items(marks: &mut Marks, items: &[Item<usize>]) -> Result<(), AllocError>
+    ensures has { OnOk result ((p : ℕ) → has marks.new p
+        ≡ (has marks.old p || is_among (named_places (map placed_item items.now)) p)) }
 {
     for item in items {
         mark_item(marks, item)?;
@@ -90,12 +139,16 @@ fn mark_items(marks: &mut Vec<bool>, items: &[Item<usize>]) -> Result<(), AllocE
     Ok(())
 }
 
-/// Of each place of a procedure whether it has a label.
-#[tactic(auto, using(crate::proofs::Marked::joined_places))]
-pub(crate) fn labels_of(alloc: Global, procedure: &Procedure) -> Result<Vec<bool>, AllocError>
-    ensures marks { IfOk result (λ marks. Marks marks.items (labelled_places (procedure_seen procedure.now))) }
+/// The places of a procedure that have a label. Each place from its start to an end has a flag.
+#[tactic(auto, using(crate::proofs::Marked::two_marked))]
+pub(crate) fn labels_of(
+    alloc: Global,
+    procedure: &Procedure,
+    end: usize,
+) -> Result<Marks, AllocError>
+    ensures marks { IfOk result (λ marks. AreMarked marks (labelled_places (procedure_seen procedure.now))) }
 {
-    let mut marks = Vec::new(alloc);
+    let mut marks = Marks::none(alloc, procedure.start, end)?;
     mark_items(&mut marks, &procedure.items)?;
     mark_places(&mut marks, &procedure.entries)?;
     Ok(marks)

@@ -5,16 +5,16 @@ ghost use Rattle.pm_code.specs.Item.{size};
 ghost use Rattle.pm_code.specs.Program.{code_end};
 ghost use Rattle.pm_code.specs.Views.{placed_item, procedure_seen};
 ghost use Rattle.pm_statements.specs.Bodies as bodies;
-ghost use Rattle.pm_statements.specs.Marks.{Marks};
+ghost use Rattle.pm_statements.specs.Marks.{AreMarked};
 ghost use Rattle.pm_trees.specs.Parts as parts;
 ghost use Rattle.pm_statements.specs.Texts as texts;
 
-use crate::block_labels::{all_relabelled, shown_labels};
+use crate::block_labels::shown_labels;
 use crate::block_lines::push_block_lines;
 use crate::depths::depths_if;
 use crate::leading::stretches;
 use crate::lines::{push_place_lines, push_statements};
-use crate::marks::labels_of;
+use crate::marks::{Marks, labels_of};
 use pm_code::{Item, Procedure, items_end};
 use pm_phrases::{Around, Phrase};
 use pm_trees::{Known, Layout, Left, Line, Part, Pile, Place, blocks, part_of, statements};
@@ -22,12 +22,12 @@ use std::alloc::{AllocError, Global};
 
 /// A place, where these have labels and the exit code begins at one.
 #[tactic(auto, using(crate::proofs::Marked::place_known))]
-fn place_at(labels: &[bool], exit: usize, at: usize) -> Place
-    ensures place { (used : List ℕ) → Marks labels.now used → result ≡ parts.place_at used exit at }
+fn place_at(labels: &Marks, exit: usize, at: usize) -> Place
+    ensures place { (used : List ℕ) → AreMarked labels.now used → result ≡ parts.place_at used exit at }
 {
     Place {
         offset: at,
-        has_label: labels.get(at).copied().unwrap_or(false),
+        has_label: labels.has(at),
         is_exit: exit == at,
     }
 }
@@ -49,15 +49,15 @@ pub(crate) fn behind(at: usize, item: &Item<usize>) -> Result<usize, AllocError>
 fn parts_of<'a>(
     alloc: Global,
     known: &Known<'_>,
-    labels: &[bool],
+    labels: &Marks,
     procedure: &'a Procedure,
 ) -> Result<Vec<Part<'a>>, AllocError>
-    requires labels { Marks labels.now (parts.labelled_places (procedure_seen procedure.now)) }
+    requires labels { AreMarked labels.now (parts.labelled_places (procedure_seen procedure.now)) }
     ensures parts { IfOk result (λ ps. ps.items ≡ parts.procedure_parts known.now (procedure_seen procedure.now)) }
 {
-    let mut parts = Vec::new(alloc);
-    let mut at = procedure.start;
     let items = &procedure.items;
+    let mut parts = Vec::with_capacity(alloc, items.len())?;
+    let mut at = procedure.start;
     for item in items {
         let place = place_at(labels, procedure.exit, at);
         parts.push(part_of(known, item, place))?;
@@ -66,16 +66,12 @@ fn parts_of<'a>(
     Ok(parts)
 }
 
-/// Adds the lines of the place where a procedure's code ends, where these places have labels.
-fn push_end(out: &mut String, labels: &[bool], procedure: &Procedure) -> Result<(), AllocError>
-    ensures text { (used : List ℕ) → Marks labels.now used → OnOk result (string_bytes out.new
-        ≡ string_bytes out.old ++ texts.place_lines (parts.place_at used procedure.now.exit
-        (code_end (procedure_seen procedure.now)))) }
+/// Adds the lines of the place where code ends, where these places have labels and the exit code begins at one.
+fn push_end(out: &mut String, labels: &Marks, exit: usize, end: usize) -> Result<(), AllocError>
+    ensures text { (used : List ℕ) → AreMarked labels.now used → OnOk result (string_bytes out.new
+        ≡ string_bytes out.old ++ texts.place_lines (parts.place_at used exit end)) }
 {
-    let Some(end) = items_end(procedure.start, &procedure.items) else {
-        return Err(AllocError);
-    };
-    push_place_lines(out, place_at(labels, procedure.exit, end))
+    push_place_lines(out, place_at(labels, exit, end))
 }
 
 /// Adds statements by depth, or as they are.
@@ -84,17 +80,19 @@ fn push_flat(
     alloc: Global,
     out: &mut String,
     indented: bool,
-    labels: &[bool],
+    labels: &Marks,
     procedure: &Procedure,
+    end: usize,
     statements: &Pile,
 ) -> Result<(), AllocError>
-    requires labels { Marks labels.now (parts.labelled_places (procedure_seen procedure.now)) }
+    requires end { end ≡ code_end (procedure_seen procedure.now) }
+    requires labels { AreMarked labels.now (parts.labelled_places (procedure_seen procedure.now)) }
     ensures text { OnOk result (string_bytes out.new ≡ string_bytes out.old
         ++ bodies.flat indented (procedure_seen procedure.now) statements.now) }
 {
-    let depths = depths_if(alloc, indented, procedure)?;
+    let depths = depths_if(alloc, indented, procedure, end)?;
     push_statements(out, &depths, statements)?;
-    push_end(out, labels, procedure)
+    push_end(out, labels, procedure.exit, end)
 }
 
 /// Adds statements in these blocks, with those labels that their text names.
@@ -102,17 +100,18 @@ fn push_shown(
     alloc: Global,
     out: &mut String,
     procedure: &Procedure,
+    end: usize,
     lines: &[Line],
     lefts: &[Left],
     phrases: &[Phrase],
 ) -> Result<(), AllocError>
+    requires end { end ≡ code_end (procedure_seen procedure.now) }
     ensures text { OnOk result (string_bytes out.new ≡ string_bytes out.old
         ++ bodies.blocks_text (procedure_seen procedure.now) lines.now lefts.now phrases.now) }
 {
-    let labels = shown_labels(alloc, procedure, lines, lefts)?;
-    let shown = all_relabelled(alloc, &labels, lefts)?;
-    push_block_lines(alloc, out, lines, &shown, phrases)?;
-    push_end(out, &labels, procedure)?;
+    let labels = shown_labels(alloc, procedure, end, lines, lefts)?;
+    push_block_lines(alloc, out, lines, &labels, lefts, phrases)?;
+    push_end(out, &labels, procedure.exit, end)?;
     Ok(())
 }
 
@@ -121,23 +120,22 @@ fn push_shown(
 fn push_blocks(
     alloc: Global,
     out: &mut String,
-    labels: &[bool],
+    labels: &Marks,
     procedure: &Procedure,
+    end: usize,
     statements: &Pile,
 ) -> Result<(), AllocError>
-    requires labels { Marks labels.now (parts.labelled_places (procedure_seen procedure.now)) }
+    requires end { end ≡ code_end (procedure_seen procedure.now) }
+    requires labels { AreMarked labels.now (parts.labelled_places (procedure_seen procedure.now)) }
     ensures text { OnOk result (string_bytes out.new ≡ string_bytes out.old
         ++ bodies.body Layout.Blocks (procedure_seen procedure.now) statements.now) }
 {
-    let Some(end) = items_end(procedure.start, &procedure.items) else {
-        return Err(AllocError);
-    };
     let (lefts, phrases) = (&statements.lefts, &statements.phrases);
     let (start, entries) = (procedure.start, &procedure.entries);
     let stretches = stretches(alloc, start, entries, end, lefts, phrases)?;
     match blocks(alloc, &stretches)? {
-        Some(lines) => push_shown(alloc, out, procedure, &lines, lefts, phrases),
-        None => push_flat(alloc, out, false, labels, procedure, statements),
+        Some(lines) => push_shown(alloc, out, procedure, end, &lines, lefts, phrases),
+        None => push_flat(alloc, out, false, labels, procedure, end, statements),
     }
 }
 
@@ -147,18 +145,20 @@ fn push_body(
     alloc: Global,
     out: &mut String,
     layout: Layout,
-    labels: &[bool],
+    labels: &Marks,
     procedure: &Procedure,
+    end: usize,
     statements: &Pile,
 ) -> Result<(), AllocError>
-    requires labels { Marks labels.now (parts.labelled_places (procedure_seen procedure.now)) }
+    requires end { end ≡ code_end (procedure_seen procedure.now) }
+    requires labels { AreMarked labels.now (parts.labelled_places (procedure_seen procedure.now)) }
     ensures text { OnOk result (string_bytes out.new ≡ string_bytes out.old
         ++ bodies.body layout (procedure_seen procedure.now) statements.now) }
 {
     match layout {
-        Layout::Flat => push_flat(alloc, out, false, labels, procedure, statements),
-        Layout::Indented => push_flat(alloc, out, true, labels, procedure, statements),
-        Layout::Blocks => push_blocks(alloc, out, labels, procedure, statements),
+        Layout::Flat => push_flat(alloc, out, false, labels, procedure, end, statements),
+        Layout::Indented => push_flat(alloc, out, true, labels, procedure, end, statements),
+        Layout::Blocks => push_blocks(alloc, out, labels, procedure, end, statements),
     }
 }
 
@@ -177,8 +177,19 @@ pub fn push_procedure(
     let around = Around {
         parameters: procedure.parameters / 2,
     };
-    let labels = labels_of(alloc, procedure)?;
+    let Some(end) = items_end(procedure.start, &procedure.items) else {
+        return Err(AllocError);
+    };
+    let labels = labels_of(alloc, procedure, end)?;
     let parts = parts_of(alloc, known, &labels, procedure)?;
     let statements = statements(alloc, around, &parts)?;
-    push_body(alloc, out, known.layout, &labels, procedure, &statements)
+    push_body(
+        alloc,
+        out,
+        known.layout,
+        &labels,
+        procedure,
+        end,
+        &statements,
+    )
 }

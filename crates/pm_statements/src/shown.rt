@@ -112,18 +112,19 @@ fn push_entries(out: &mut String, entries: &[usize]) -> Result<(), AllocError>
     Ok(())
 }
 
-/// Adds the text of a procedure with code.
+/// Adds the text of a procedure with code, by what its returns leave.
 fn push_code(
     alloc: Global,
     text: &mut String,
     known: &Known<'_>,
     a: &Attributes,
     procedure: &Procedure,
+    returns: Returns,
 ) -> Result<(), AllocError>
+    requires returns { returns ≡ files.returns_in (procedure_seen procedure.now) }
     ensures text { OnOk result (string_bytes text.new ≡ string_bytes text.old
         ++ files.code_text known.now a.now (procedure_seen procedure.now)) }
 {
-    let returns = returns_of(&procedure.items);
     let header = Header(slot_of(known), *a, returns);
     write!(text, "{header}")?;
     push_entries(text, &procedure.entries)?;
@@ -132,14 +133,17 @@ fn push_code(
     Ok(())
 }
 
-/// The procedure of a table, where it was kept.
-fn kept<'a>(tables: &'a [SizedTable], a: &Attributes) -> Option<&'a Procedure>
+/// The procedure of a table, where it was kept, and what its returns leave.
+fn kept<'a>(tables: &'a [SizedTable], a: &Attributes) -> Option<(&'a Procedure, Returns)>
     ensures procedure { (segment : List ℕ) → AllByRecursion (files.IsSizedTable segment) tables.now
-        → IfSome result (λ p. procedure_seen p.now ≡ procedure_of segment a.now) }
+        → IfSome result (λ p. procedure_seen p.0.now ≡ procedure_of segment a.now) }
+    ensures returns { (segment : List ℕ) → AllByRecursion (files.IsSizedTable segment) tables.now
+        → IfSome result (λ p. p.1 ≡ files.returns_in (procedure_seen p.0.now)) }
 {
     for known in tables {
         if known.table == *a {
-            return known.procedure.as_ref();
+            let procedure = known.procedure.as_ref()?;
+            return Some((procedure, known.returns));
         }
     }
     None
@@ -192,10 +196,11 @@ fn push_table<'a>(
         return Ok(());
     }
     match kept(&sized.tables, a) {
-        Some(procedure) => push_code(alloc, text, known, a, procedure),
+        Some((procedure, returns)) => push_code(alloc, text, known, a, procedure, returns),
         None => {
             let procedure = read_anew(alloc, sized.segment, decoded, a)?;
-            push_code(alloc, text, known, a, &procedure)
+            let returns = returns_of(&procedure.items);
+            push_code(alloc, text, known, a, &procedure, returns)
         }
     }
 }

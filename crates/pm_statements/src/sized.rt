@@ -1,6 +1,6 @@
 //! What the procedures of a code file take and leave.
 
-ghost use Rattle.std.specs.Prelude.{◌≡◌, ◌%◌, ◌∷◌, ◌++◌, ◌≤◌, ℕ, List, Option, None, Some, length, IfOk, IfSome};
+ghost use Rattle.std.specs.Prelude.{◌≡◌, ◌%◌, ◌+◌, ◌∷◌, ◌++◌, ◌≤◌, ℕ, List, Option, None, Some, length, IfOk, IfSome};
 ghost use Rattle.std.specs.Prelude.{OnOk};
 ghost use Rattle.std.specs.List.{AllByRecursion};
 ghost use Rattle.pm_code.specs.Views.{procedure_seen};
@@ -11,20 +11,26 @@ ghost use Rattle.pm_disasm.specs.Offsets.{IsDecoded};
 ghost use Rattle.pm_statements.specs.Files as files;
 ghost use Rattle.pm_trees.specs.declared.part.Callee.{Callee};
 
-use crate::callees::{callee_of, system_callee};
+use crate::callees::{Returns, callee_by, returns_of, system_callee};
 use pm_code::Procedure;
 use pm_codefile::{Attributes, CodeFile, attributes};
 use pm_disasm::{Decoded, code, decode_segment};
 use pm_trees::Callee;
 use std::alloc::{AllocError, Global};
 
-/// A procedure's table, what its procedure takes and leaves, and the procedure, where there was room to keep it.
+/// How many items there is room for, for each byte of a segment.
+const ITEMS_FOR_A_BYTE: usize = 4;
+
+/// A procedure's table, what its procedure takes and leaves, and the procedure, where there was room to keep it, with
+/// what its returns leave.
 #[derive(Drop)]
 pub(crate) struct SizedTable {
     /// The table.
     pub table: Attributes,
     /// What its procedure takes and leaves.
     pub callee: Option<Callee>,
+    /// What the returns of the procedure leave.
+    pub returns: Returns,
     /// The procedure.
     pub procedure: Option<Procedure>,
 }
@@ -69,19 +75,24 @@ fn table_callee<'a>(
         return Ok(SizedTable {
             table: a,
             callee: None,
+            returns: Returns::NoReturn,
             procedure: None,
         });
     }
     let procedure = code(alloc, segment, decoded, &a)?;
+    let returns = returns_of(&procedure.items);
     Ok(SizedTable {
         table: a,
-        callee: callee_of(&procedure),
+        callee: callee_by(procedure.parameters / 2, returns),
+        returns,
         procedure: Some(procedure),
     })
 }
 
 /// How many items a table's procedure has, where it is kept.
-fn items_kept(sized: &SizedTable) -> usize {
+fn items_kept(sized: &SizedTable) -> usize
+    ensures items { result ≡ files.items_kept sized.now }
+{
     match &sized.procedure {
         Some(procedure) => procedure.items.len(),
         None => 0,
@@ -93,6 +104,8 @@ fn within(sized: SizedTable, room: &mut usize) -> SizedTable
     ensures sized { (segment : List ℕ) → files.IsSizedTable segment sized → files.IsSizedTable segment result }
     ensures table { result.table ≡ sized.table }
     ensures callee { result.callee ≡ sized.callee }
+    ensures kept { files.items_kept sized ≤ room.old → result ≡ sized }
+    ensures room { room.new + files.items_kept result ≡ room.old }
 {
     let items = items_kept(&sized);
     if items <= *room {
@@ -102,6 +115,7 @@ fn within(sized: SizedTable, room: &mut usize) -> SizedTable
     SizedTable {
         table: sized.table,
         callee: sized.callee,
+        returns: sized.returns,
         procedure: None,
     }
 }
@@ -133,7 +147,7 @@ fn table_callee_once<'a>(
 }
 
 /// Adds those of a segment, of 256 numbers, and tells its tables. Of their procedures as many are kept as have no more
-/// items than the segment has bytes.
+/// items than four for each byte of the segment: tables may lead to the same code.
 fn add_segment<'a>(
     alloc: Global,
     callees: &mut Vec<Option<Callee>>,
@@ -147,7 +161,7 @@ fn add_segment<'a>(
 {
     let decoded = decode_segment(alloc, segment)?;
     let mut tables = Vec::new(alloc);
-    let mut room = segment.len();
+    let mut room = segment.len().saturating_mul(ITEMS_FOR_A_BYTE);
     callees.push(None)?;
     for done in 0..255 {
         let callee = match attributes(segment, done + 1) {

@@ -21,7 +21,7 @@ loop-line-preserved c = λ p.
     let x : Line = slice_index_or all i nothing in
     let front : drop i all ≡ x ∷ drop (i + 1) all = drop_more all i nothing c.loop-line-test.true in
     line_step x (drop (i + 1) all) (drop i all) c.loop-line.statements.now c.behind_word-statements.result.now p
-    (has c.mark_first.new.marks.items p) (has c.loop-line.marks.items p) front (c.in_ok-mark_first.ensures.has p)
+    (has c.mark_first.new.marks p) (has c.loop-line.marks p) front (c.in_ok-mark_first.ensures.has p)
     c.behind_word-statements.ensures.rest
     ∙ c.loop-line.invariant p
 
@@ -30,7 +30,7 @@ returns c = record {
   has = λ p.
       let i : ℕ = c.loop-line.line-index in
       let all : List Line = c.args.lines.now in
-      lines_done (drop i all) c.loop-line.statements.now p (has c.loop-line.marks.items p)
-      (has c.args.marks.now.items p || is_among (line_places all c.args.lefts.now) p)
+      lines_done (drop i all) c.loop-line.statements.now p (has c.loop-line.marks p)
+      (has c.args.marks.now p || is_among (line_places all c.args.lefts.now) p)
       (drop_all i all c.loop-line-test.false) (c.loop-line.invariant p);
 }

@@ -8,5 +8,5 @@ use Rattle.pm_statements.proofs.block_labels.mark_lines.Given as goal
 -- the places so far and those of the lines that are left are all
 abbrev pub invariant-loop-line : goal.invariant-loop-line
 invariant-loop-line l =
-    (p : ℕ) → (has l.marks.items p || is_among (line_places (drop l.line-index l.lines) l.statements) p)
-    ≡ (has l.fn.marks.items p || is_among (line_places l.lines l.lefts) p)
+    (p : ℕ) → (has l.marks p || is_among (line_places (drop l.line-index l.lines) l.statements) p)
+    ≡ (has l.fn.marks p || is_among (line_places l.lines l.lefts) p)

@@ -9,5 +9,5 @@ use Rattle.pm_statements.proofs.block_labels.mark_tables.Given as goal
 -- the places so far and those of the items that are left are all
 abbrev pub invariant-loop-item : goal.invariant-loop-item
 invariant-loop-item l =
-    (p : ℕ) → (has l.marks.items p || is_among (table_places (map placed_item (drop l.item-index l.items))) p)
-    ≡ (has l.fn.marks.items p || is_among (table_places (map placed_item l.items)) p)
+    (p : ℕ) → (has l.marks p || is_among (table_places (map placed_item (drop l.item-index l.items))) p)
+    ≡ (has l.fn.marks p || is_among (table_places (map placed_item l.items)) p)

@@ -21,7 +21,7 @@ loop-item-preserved c =
     c.in_ok-next.ensures.behind
     (c.add_loop.ensures.loops ∙ ap (λ o. with_loop p.start c.loop-item.at c.in_ok-next.next o c.loop-item.loops.items)
     (c.leads_by_condition-place.ensures.value
-    ∙ ap (λ es. leads_by_condition es (placed_item item)) c.deref-in-loop-item.ensures.value))
+    ∙ ap (λ es. leads_by_condition es (placed_item item)) c.deref.ensures.value))
     ∙ c.loop-item.invariant
 
 pub returns : goal.returns

@@ -7,4 +7,4 @@ use Rattle.pm_statements.proofs.marks.mark_places.Given as goal
 -- the places so far and those that are left are all
 abbrev pub invariant-loop-place : goal.invariant-loop-place
 invariant-loop-place l =
-    (p : ℕ) → (has l.marks.items p || is_among (drop l.place-index l.places) p) ≡ (has l.fn.marks.items p || is_among l.places p)
+    (p : ℕ) → (has l.marks p || is_among (drop l.place-index l.places) p) ≡ (has l.fn.marks p || is_among l.places p)

@@ -8,7 +8,7 @@ use Rattle.pm_statements.proofs.procedure.parts_of.Goals as goal
 pub loop-item-init : goal.loop-item-init
 loop-item-init c =
     let p = procedure_seen c.args.procedure.now in
-    ap (λ l. l ++ parts c.args.known.now (labelled_places p) p.exit p.start p.items) c.new-parts.ensures.items
+    ap (λ l. l ++ parts c.args.known.now (labelled_places p) p.exit p.start p.items) c.in_ok-parts.ensures.items
 
 pub loop-item-preserved : goal.loop-item-preserved
 loop-item-preserved c =

@@ -1,6 +1,4 @@
-use Rattle.std.proofs.Common.{◌++◌, ◌∙◌, ap, arith, string_bytes}
-use Rattle.pm_codefile.specs.Dictionary.{segment_in}
-use Rattle.pm_statements.specs.Files.{slot_text}
+use Rattle.std.proofs.Common.{arith, string_bytes}
 use Rattle.pm_statements.proofs.Filed.{next_text}
 use Rattle.pm_statements.proofs.shown.file.Goals as goal
 

@@ -18,12 +18,13 @@ use Rattle.pm_stdproc.specs.declared.procedures.OnMemory.{OnMemory}
 use Rattle.pm_stdproc.specs.declared.procedures.OnMemory.TheVariants as memory
 use Rattle.pm_stdproc.specs.MemoryRows.{check_io_row, fill_row, filled_with, is_positive, mark_row, memory_row, move_bytes_row, moved, new_row, passed_by}
 use Rattle.pm_stdproc.specs.MemoryRows.{pop_place, push_row, release_row, scan_lies_in_memory, scan_row}
-use Rattle.pm_machine.specs.Written.{counted_stretch, place_on_stack, stretch}
+use Rattle.pm_machine.specs.Written.{Stretch, counted_stretch, place_on_stack, stretch}
 use Rattle.pm_machine.specs.ReadStretches.{memory_leads, scan_stretch}
 use Rattle.law_engine.specs.ReadLaws.{ChangeAlike}
 use Rattle.law_engine.proofs.MoveLaws.{byte_at-below}
 use Rattle.law_engine.proofs.StoreRows.{word_below}
 use Rattle.law_engine.proofs.StoredWords.{popped}
+use Rattle.law_engine.proofs.Stretches.{all_stand}
 use Rattle.law_engine.proofs.WrittenMemory.{place_is}
 use Rattle.law_engine.proofs.ReadSteps.{Agree, Both, RowAlike, RowsAlike, Same, andthen, bind_same, both, bytes_alike, bytes_same, demanded, done, first_same}
 use Rattle.law_engine.proofs.ReadSteps.{load_same, pop_same, pushed_alike, still_same, then_alike, unchanged, word_alike}
@@ -213,7 +214,10 @@ scan_same m n a (pos k) b equal memory other small lies agree =
     rw (bytes_same m n a k a k (first_same a k [] m n agree) memory other (omega arith) (omega arith) room) refl
 scan_same m n a (negsuc k) b equal memory other small lies agree =
     let room : k ≤ a = grind (arith, nat_tests) in
-    rw (bytes_same m n (a - k) (k + 1) (a - k) (k + 1) (first_same (a - k) (k + 1) [] m n agree) memory other (omega arith) (omega arith) (omega
+    let from : a + 1 - (k + 1) ≡ a - k = omega arith in
+    let down = subst (λ (s : Stretch). Agree (s ∷ []) m n) (all_stand (a + 1) (k + 1) (omega (arith, room))) agree in
+    let there = subst (λ (i : ℕ). Agree (stretch i (k + 1) ∷ []) m n) from down in
+    rw (bytes_same m n (a - k) (k + 1) (a - k) (k + 1) (first_same (a - k) (k + 1) [] m n there) memory other (omega arith) (omega arith) (omega
     (arith, room, small))) refl
 
 passed_same : (m n : List ℕ) (a limit b : ℕ) (equal : Bool) → IsMemory m → IsMemory n → a < 65536 → Agree (scan_stretch a (signed limit) ∷ []) m n

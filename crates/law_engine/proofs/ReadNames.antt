@@ -1,5 +1,5 @@
 -- Calls, returns and EXIT that go write the same stretches in both memories.
-use Rattle.std.proofs.Common.{◌≡◌, ◌<◌, ◌≤◌, ℕ, zero, suc, ◌+◌, ◌-◌, ◌*◌, ◌%◌, ◌&&◌, Bool, true, false, nat_le, add-one}
+use Rattle.std.proofs.Common.{◌≡◌, ◌<◌, ◌≤◌, ℕ, zero, suc, ◌+◌, ◌*◌, ◌%◌, ◌&&◌, Bool, true, false, nat_le, add-one}
 use Rattle.std.proofs.Common.{List, [], ◌∷◌, ◌++◌, Option, Some, None, Result, Ok, Err, refl, sym, ap, ◌∙◌, subst, arith}
 use Rattle.std.specs.Prelude.{if◌then◌else◌}
 use Rattle.std.proofs.lemmas.Bool.{and_parts}
@@ -22,7 +22,7 @@ use Rattle.pm_calls.proofs.ReturnLaws.{bound, passed}
 use Rattle.pm_calls.proofs.WalkLaws.{least_is, stops, stops-not}
 use Rattle.pm_stdproc.specs.Procedures.{Reach, exit_row, reach_parts}
 use Rattle.pm_machine.specs.Written.{frame_written, frames_left, frames_written, ips_written, left_by_exit, reached_written, return_written}
-use Rattle.pm_machine.specs.Written.{slot_reached, stretch, wanted_at}
+use Rattle.pm_machine.specs.Written.{slot_reached, stretch, stretch_to, wanted_at}
 use Rattle.pm_machine.specs.ReadStretches.{asked_read, entry_words, exit_read, frames_left_read, frames_read, reached_read, return_read, table_read}
 use Rattle.law_engine.proofs.ExitLaws.{last_is_walk}
 use Rattle.law_engine.proofs.StoreRows.{word_below}
@@ -66,7 +66,7 @@ reached_names c q n call (Ok d) u h agree goes =
     let whole = still_agree (reached_read call c.registers (Ok d)) c.memory d.memory n h.like.memory h.like.alike agree in
     let tables = attributes_alike d.memory h.like.memory d.place p
     (left_agree (table_read d.memory d.place p) (entry_words call d.memory c.registers (attributes d.memory d.place p)) d.memory h.like.memory whole) in
-    rw (h.made, h.like.same) (ap (λ ss. stretch (c.registers.sp - d.loaded) d.loaded ∷ ss)
+    rw (h.made, h.like.same) (ap (λ ss. stretch_to c.registers.sp d.loaded ∷ ss)
     (same_frame call d.loaded c.registers.sp (attributes d.memory d.place p) (attributes h.like.memory d.place p) found.0 found.1 tables))
 
 pub slot_names : (c q : Parts) (n : List ℕ) (call : Call) (k : ℕ) (code : Option (List ℕ)) (slot : Option (Option SegmentPlace)) → IsMemory c.memory

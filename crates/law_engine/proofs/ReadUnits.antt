@@ -1,6 +1,6 @@
 -- Standard procedures on the units in two memories that agree on what they read, and what standard procedures take.
 use Rattle.std.proofs.Common.{◌≡◌, ◌<◌, ◌≤◌, inl, inr, ℕ, ◌+◌, ◌*◌, ◌/◌, ◌%◌, ◌==◌, ◌&&◌, Bool, true, false, nat_lt}
-use Rattle.std.proofs.Common.{List, [], ◌++◌, length, drop, take, Option, Some, None, Result, Ok, Err, refl, ap, arith}
+use Rattle.std.proofs.Common.{List, [], ◌∷◌, ◌++◌, length, drop, take, Option, Some, None, Result, Ok, Err, refl, sym, ap, subst, arith}
 use Rattle.std.specs.Prelude.{if◌then◌else◌}
 use Rattle.std.proofs.lemmas.Bool.{and_parts, cases_Bool}
 use Rattle.std.proofs.lemmas.Bool.Decides.{nat_tests}
@@ -27,13 +27,13 @@ use Rattle.pm_stdproc.specs.declared.rows.Order.{Order}
 use Rattle.pm_stdproc.specs.MemoryRows.{pop_place}
 use Rattle.pm_stdproc.specs.Procedures.{procedure_numbered}
 use Rattle.pm_stdproc.specs.UnitRows.{Served, after_transfer, busy_row, clear_row, ordered, read_row, time_row, units_row, wait_row, write_row}
-use Rattle.pm_machine.specs.Written.{Stretch, transfer_written}
+use Rattle.pm_machine.specs.Written.{Stretch, stretch, transfer_stretch}
 use Rattle.pm_machine.specs.ReadStretches.{taken_if, units_lead}
 use Rattle.law_engine.specs.ReadLaws.{ChangeAlike}
 use Rattle.law_engine.proofs.Bytes.{AreBytes, range_fits}
 use Rattle.law_engine.proofs.StoreRows.{word_below}
 use Rattle.law_engine.proofs.StoredWords.{popped}
-use Rattle.law_engine.proofs.WrittenUnits.{HoldsBytes, order_lies, range_length}
+use Rattle.law_engine.proofs.WrittenUnits.{HoldsBytes, order_lies, order_names, range_length}
 use Rattle.law_engine.proofs.ReadSteps.{Agree, Both, RowAlike, Same, andthen, bind_same, both, bytes_alike, bytes_same, demanded, first_same}
 use Rattle.law_engine.proofs.ReadSteps.{length-with_word, pop_same, pushed_alike, then_alike, unchanged, word_alike_sized}
 use Rattle.law_engine.proofs.ReadRows.{next_same}
@@ -170,25 +170,27 @@ read_row_alike s n memory other holds same =
     of (Err x) u e lies = tt
 
 write_row_alike : (s : Served) (n : List ℕ) → IsMemory s.memory → IsMemory n → Same s.memory n s.registers.sp 12
-    → Agree (transfer_written (ordered s.memory s.registers.sp)) s.memory n → Both (ServedAlike s.memory n) (write_row s) (write_row (served_in s n))
+    → Agree (transfer_stretch s.memory s.registers.sp ∷ []) s.memory n → Both (ServedAlike s.memory n) (write_row s) (write_row (served_in s n))
 unfolding write_row
 write_row_alike s n memory other same agree =
-    of (ordered s.memory s.registers.sp) (ordered n s.registers.sp) (ordered_same s.memory n s.registers.sp same) (order_lies s.memory s.registers.sp) agree
+    of (ordered s.memory s.registers.sp) (ordered n s.registers.sp) (ordered_same s.memory n s.registers.sp same) (order_lies s.memory s.registers.sp)
+    (order_names s.memory s.registers.sp)
   where
     of : (r u : Result Order ExecError) → u ≡ r → ((o : Order) → r ≡ Ok o → o.transfer.address + o.transfer.count ≤ 65536)
-        → Agree (transfer_written r) s.memory n
+        → ((o : Order) → r ≡ Ok o → stretch o.transfer.address o.transfer.count ≡ transfer_stretch s.memory s.registers.sp)
         → Both (ServedAlike s.memory n)
         (or_fails r >>= λ o. Ok (after_transfer s o.sp (unit_written (unit_of o.unit) o.transfer s.memory s.devices)))
         (or_fails u >>= λ o. Ok (after_transfer (served_in s n) o.sp (unit_written (unit_of o.unit) o.transfer n s.devices)))
-    of (Ok o) u e lies h = rw e (record {
+    of (Ok o) u e lies names = rw e (record {
       other = after_transfer (served_in s n) o.sp (unit_written (unit_of o.unit) o.transfer n s.devices);
       made = refl;
       like = after_alike s n o.sp (unit_written (unit_of o.unit) o.transfer s.memory s.devices) (unit_written (unit_of o.unit) o.transfer n s.devices)
           (write_alike (unit_of o.unit) o.transfer s.memory n s.devices
           (bytes_same s.memory n o.transfer.address o.transfer.count o.transfer.address o.transfer.count
-          (first_same o.transfer.address o.transfer.count [] s.memory n h) memory other (omega arith) (omega arith) (lies o refl)));
+          (first_same o.transfer.address o.transfer.count [] s.memory n
+          (subst (λ (z : Stretch). Agree (z ∷ []) s.memory n) (sym (names o refl)) agree)) memory other (omega arith) (omega arith) (lies o refl)));
     })
-    of (Err x) u e lies h = tt
+    of (Err x) u e lies names = tt
 
 time_alike : (s : Served) (n : List ℕ) → IsMemory s.memory → IsMemory n → Same s.memory n s.registers.sp 4
     → Both (ServedAlike s.memory n) (time_row s) (time_row (served_in s n))

@@ -1,6 +1,6 @@
 -- What an instruction writes is told by what it reads: rows and procedures name the same stretches in both memories.
 use Rattle.std.proofs.Common.{◌≡◌, ◌≤◌, ℕ, ◌+◌, ◌*◌, ◌%◌, Bool, true, false, nat_lt}
-use Rattle.std.proofs.Common.{List, [], ◌∷◌, refl, ap, arith}
+use Rattle.std.proofs.Common.{List, [], ◌∷◌, refl, arith}
 use Rattle.std.specs.Prelude.{if◌then◌else◌}
 use Rattle.pm_words.specs.Words.{byte_at, word_at}
 use Rattle.pm_families.specs.declared.families.Arithmetic.{Arithmetic}
@@ -25,11 +25,11 @@ use Rattle.pm_stdproc.specs.declared.procedures.OnUnits.{OnUnits}
 use Rattle.pm_stdproc.specs.declared.procedures.OnUnits.TheVariants as units
 use Rattle.pm_machine.specs.Written.{compare_written, memory_written, place_on_stack, pointer_written, pushes}
 use Rattle.pm_machine.specs.Written.{pushes_words, set_words}
-use Rattle.pm_machine.specs.Written.{stretch, text_length, transfer_written, units_written, value_written}
+use Rattle.pm_machine.specs.Written.{stretch, text_length, units_written, value_written}
 use Rattle.pm_machine.specs.ReadStretches.{pointer_read, source_read, taken, taken_if, text_stretch, value_read}
 use Rattle.law_engine.proofs.ReadSteps.{Agree, Same, first_same, left_agree, rest_agree, word_same}
 use Rattle.law_engine.proofs.ReadMemory.{taken_by_memory}
-use Rattle.law_engine.proofs.ReadUnits.{ordered_same, taken_by_units}
+use Rattle.law_engine.proofs.ReadUnits.{taken_by_units}
 
 -- ---- words that are taken
 
@@ -162,7 +162,8 @@ memory_names memory.Halt m n sp even same = refl
 memory_names memory.FreeMemory m n sp even same = refl
 
 pub units_names : (o : OnUnits) (m n : List ℕ) (sp : ℕ) → sp % 2 ≡ 0 → Same m n sp (2 * taken_by_units o) → units_written o n sp ≡ units_written o m sp
-units_names units.Read m n sp even same = ap (λ o. transfer_written o) (ordered_same m n sp same)
+units_names units.Read m n sp even same =
+    rw (above_top m n sp 12 4 same even refl (omega arith), placed m n sp 12 (sp + 6) same (omega (arith, even)) (omega arith) (omega arith)) refl
 units_names units.Write m n sp even same = refl
 units_names units.Time m n sp even same = rw (at_top m n sp 4 same even (omega arith), above_top m n sp 4 2 same even refl (omega arith)) refl
 units_names units.Busy m n sp even same = refl

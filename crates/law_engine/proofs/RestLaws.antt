@@ -72,6 +72,7 @@ pub record IsWhole (m n : List ℕ) (s loaded : ℕ) (r inner : Registers) (base
   pub source : r.sp + t.parameters ≤ 65504
   pub target : f + 12 + t.parameters ≤ 65504
   pub room : kept_below base ≤ f
+  pub whole : kept_below base + (t.locals + t.parameters + 12) ≤ frame_top loaded r.sp t.parameters
   pub memory : n ≡ with_old_base base (with_frame m f static r t.parameters) f r.base
   pub registers : inner ≡ inside base r s t f
 
@@ -97,6 +98,7 @@ whole_frame m n s loaded static r inner base t h =
         source = fits;
         target = omega (arith, room, low);
         room = omega (arith, room, low);
+        whole = omega (arith, room);
         memory = sym (ap (λ (p : List ℕ × Registers). p.0) both);
         registers = sym (ap (λ (p : List ℕ × Registers). p.1) both);
       },

@@ -1,13 +1,14 @@
 -- Words that no stretch touches.
-use Rattle.std.proofs.Common.{◌≡◌, ◌≢◌, ◌<◌, ◌≤◌, ◌⊎◌, inl, inr, ⊎_elim, ℕ, ◌+◌, ◌*◌, ◌/◌, ◌%◌, ◌&&◌, ◌||◌, Bool, false, nat_lt}
-use Rattle.std.proofs.Common.{List, [], ◌∷◌, Result, Ok, Err, refl, sym, ap, ◌∙◌, arith}
+use Rattle.std.proofs.Common.{◌≡◌, ◌≢◌, ◌<◌, ◌≤◌, ◌⊎◌, inl, inr, ⊎_elim, ℕ, ◌+◌, ◌-◌, ◌*◌, ◌/◌, ◌%◌, ◌&&◌, ◌||◌, Bool, false, nat_lt}
+use Rattle.std.proofs.Common.{List, [], ◌∷◌, Result, Ok, Err, refl, sym, ap, ◌∙◌, subst, arith}
 use Rattle.std.specs.List.{list_any}
+use Rattle.std.proofs.Math.Nat.{min-eq_left}
 use Rattle.std.proofs.lemmas.Bool.{and_cases, cases_lt, ltb-false, or_parts}
 use Rattle.std.proofs.lemmas.List.{get_or-set_other}
 use Rattle.pm_words.specs.Words.{byte_at, with_word, word_at}
 use Rattle.pm_words.specs.Stack.{◌>>=◌}
 use Rattle.pm_words.proofs.Laws.{word_at-bytes}
-use Rattle.pm_machine.specs.Written.{Stretch, stretch, touches}
+use Rattle.pm_machine.specs.Written.{Stretch, stretch, stretch_to, touches}
 
 -- ---- where a stretch does not touch a word
 
@@ -78,6 +79,13 @@ stored_kept m a w = words_kept m (with_word m a w) a 2 (omega arith) (λ x even 
     further : (x : ℕ) → (x + 1 < a) ⊎ (a + 2 ≤ x) → (x + 1 < a) ⊎ (a < x)
     further x (inl low) = inl low
     further x (inr high) = inr (omega (arith, high))
+
+-- all bytes of a stretch that ends before an address stand there
+pub all_stand : (end n : ℕ) → n ≤ end → stretch_to end n ≡ stretch (end - n) n
+all_stand end n room = ap (λ (k : ℕ). stretch (end - n) k) (min-eq_left room)
+
+pub kept_to : (end n : ℕ) (m p : List ℕ) → n ≤ end → Kept (stretch (end - n) n ∷ []) m p → Kept (stretch_to end n ∷ []) m p
+kept_to end n m p room h = subst (λ (s : Stretch). Kept (s ∷ []) m p) (sym (all_stand end n room)) h
 
 -- nothing is written
 pub all_kept : (ss : List Stretch) (m : List ℕ) → Kept ss m m

@@ -20,9 +20,9 @@ use Rattle.pm_calls.specs.Calls.{kept_below, procedure_called, reach_loading, re
 use Rattle.pm_calls.specs.Laws.{IsCode}
 use Rattle.pm_calls.specs.Returns.{returned}
 use Rattle.pm_calls.proofs.ReturnLaws.{bound, has_room, loading_memory, low_before, ok_same, standing_memory}
-use Rattle.pm_machine.specs.Written.{Stretch, frame_stretch, frame_written, reached_written, return_written, slot_reached, stretch}
+use Rattle.pm_machine.specs.Written.{Stretch, frame_stretch, frame_written, reached_written, return_written, slot_reached, stretch, stretch_to}
 use Rattle.law_engine.proofs.RestLaws.{return_leaves, return_made, whole_frame}
-use Rattle.law_engine.proofs.Stretches.{IfMade, Kept, all_kept, both_kept, bytes_kept, made, word_kept, words_kept}
+use Rattle.law_engine.proofs.Stretches.{IfMade, Kept, all_kept, both_kept, bytes_kept, kept_to, made, word_kept, words_kept}
 
 -- ---- words outside a frame, which may stand at an odd address
 
@@ -64,7 +64,7 @@ frame_keeps base m f static r n memory source target room =
 -- what was reached holds the old memory, but for the code
 record HoldsTheRest (c : Parts) (at : Reached) : Type 0 where
   memory : IsMemory at.memory
-  rest : Kept (stretch (c.registers.sp - at.loaded) at.loaded ∷ []) c.memory at.memory
+  rest : Kept (stretch_to c.registers.sp at.loaded ∷ []) c.memory at.memory
 
 at_keeps : (c d : Parts) (call : Call) (at : Reached) → HoldsTheRest c at → called_at c call at ≡ Ok d
     → Kept (reached_written call c.registers.sp (Ok at)) c.memory d.memory
@@ -82,17 +82,22 @@ at_keeps c d call at holds made =
     let target = w.target in
     let new : with_old_base kind (with_frame at.memory f l.0 c.registers t.0.parameters) f c.registers.base ≡ d.memory =
     sym w.memory ∙ ap (λ (p : Parts). p.memory) same in
-    let here : frame_top at.loaded c.registers.sp t.0.parameters - (t.0.locals + t.0.parameters + 12) ≡ f = sym w.place in
+    let above = frame_top at.loaded c.registers.sp t.0.parameters in
+    let size = kept_below kind + (12 + t.0.parameters) in
+    let place : f ≡ above - (t.0.locals + t.0.parameters + 12) = w.place in
+    let whole : kept_below kind + (t.0.locals + t.0.parameters + 12) ≤ above = w.whole in
+    let here : f - kept_below kind ≡ above - t.0.locals - size = omega (arith, place, whole) in
     let top = frame_keeps kind at.memory f l.0 c.registers t.0.parameters holds.memory (omega (arith, source)) (omega (arith, target)) w.room in
+    let framed = with_old_base kind (with_frame at.memory f l.0 c.registers t.0.parameters) f c.registers.base in
     let named : Kept (frame_written call at.loaded c.registers.sp (attributes at.memory at.place (procedure_called call))) at.memory d.memory =
     rw t.1 (subst (λ n. Kept (frame_stretch kind at.loaded c.registers.sp t.0 ∷ []) at.memory n) new
-    (subst (λ g. Kept (stretch (g - kept_below kind) (kept_below kind + (12 + t.0.parameters)) ∷ []) at.memory
-    (with_old_base kind (with_frame at.memory f l.0 c.registers t.0.parameters) f c.registers.base)) (sym here) top)) in
-    both_kept (stretch (c.registers.sp - at.loaded) at.loaded)
+    (kept_to (above - t.0.locals) size at.memory framed (omega (arith, whole))
+    (subst (λ (g : ℕ). Kept (stretch g size ∷ []) at.memory framed) here top))) in
+    both_kept (stretch_to c.registers.sp at.loaded)
     (frame_written call at.loaded c.registers.sp (attributes at.memory at.place (procedure_called call))) c.memory at.memory d.memory holds.rest named
 
 here_holds : (c : Parts) → IsMemory c.memory → HoldsTheRest c (here c)
-here_holds c m = record { memory = m; rest = all_kept (stretch (c.registers.sp - 0) 0 ∷ []) c.memory }
+here_holds c m = record { memory = m; rest = all_kept (stretch_to c.registers.sp 0 ∷ []) c.memory }
 
 standing_holds : (c : Parts) (n : ℕ) (p : SegmentPlace) (at : Reached) → IsMemory c.memory → reach_standing c n p ≡ Ok at → HoldsTheRest c at
 standing_holds c n p at memory h =
@@ -111,8 +116,9 @@ loading_holds c d call n code at memory bytes h made =
     let many : at.loaded ≡ length code = sym (ap (λ (x : Reached). x.loaded) same) in
     record {
       memory = loading_memory c n code at memory bytes low h;
-      rest = bytes_kept c.memory at.memory (c.registers.sp - at.loaded) at.loaded (λ x out. ap (λ k. byte_at k x) is
-          ∙ byte_at-with_bytes_other c.memory code (c.registers.sp - length code) x memory (omega (arith, room, low)) bytes (rw many at out));
+      rest = kept_to c.registers.sp at.loaded c.memory at.memory (omega (arith, room, many))
+          (bytes_kept c.memory at.memory (c.registers.sp - at.loaded) at.loaded (λ x out. ap (λ k. byte_at k x) is
+          ∙ byte_at-with_bytes_other c.memory code (c.registers.sp - length code) x memory (omega (arith, room, low)) bytes (rw many at out)));
     }
 
 -- ---- calls
@@ -187,7 +193,8 @@ returned_keeps c words base memory = of (returned c words base) refl
     of : (e : Result Parts ExecError) → returned c words base ≡ e
         → IfMade (λ (e : Parts). Kept (return_written words c.memory c.registers.mp) c.memory e.memory) e
     of (Ok e) h =
-        let sp = (return_made c e words base h).sp in
-        subst (λ a. Kept (stretch a (2 * words) ∷ []) c.memory e.memory) sp
-        (bytes_kept c.memory e.memory e.registers.sp (2 * words) (λ y far. return_leaves c e words y base memory h far))
+        let is = return_made c e words base h in
+        kept_to (word_at c.memory (c.registers.mp + 10)) (2 * words) c.memory e.memory is.room
+        (subst (λ a. Kept (stretch a (2 * words) ∷ []) c.memory e.memory) is.sp
+        (bytes_kept c.memory e.memory e.registers.sp (2 * words) (λ y far. return_leaves c e words y base memory h far)))
     of (Err e) h = tt

@@ -1,7 +1,7 @@
 -- The standard procedures on memory write what they name.
 use Rattle.std.proofs.Common.{◌≡◌, ◌<◌, ◌≤◌, ◌⊎◌, inl, inr, ℕ, ◌+◌, ◌-◌, ◌*◌, ◌/◌, ◌%◌, ◌==◌, ◌&&◌, nat_le, nat_lt}
 use Rattle.std.proofs.Common.{List, [], ◌∷◌, length, replicate, Result, Ok, Err, sym, ap, ◌∙◌, subst, arith}
-use Rattle.std.proofs.lemmas.Bool.{and_parts, cases_Bool}
+use Rattle.std.proofs.lemmas.Bool.{and_parts, cases_Bool, ltb-false}
 use Rattle.std.proofs.lemmas.Bool.Decides.{nat_tests}
 use Rattle.std.proofs.lemmas.List.{length-replicate}
 use Rattle.std.proofs.lemmas.List.Elements.{All-replicate}
@@ -17,12 +17,12 @@ use Rattle.pm_stdproc.specs.declared.procedures.OnMemory.{OnMemory}
 use Rattle.pm_stdproc.specs.declared.procedures.OnMemory.TheVariants as memory
 use Rattle.pm_stdproc.specs.MemoryRows.{check_io_row, fill_row, filled_with, is_positive, mark_row, memory_row, move_bytes_row, moved, new_row, passed_by}
 use Rattle.pm_stdproc.specs.MemoryRows.{pop_place, push_row, release_row, scan_row}
-use Rattle.pm_machine.specs.Written.{Stretch, counted_stretch, memory_written, place_on_stack, stretch}
+use Rattle.pm_machine.specs.Written.{Stretch, counted_stretch, memory_written, place_on_stack, stretch, stretch_to}
 use Rattle.law_engine.proofs.MoveLaws.{moves_stay_inside}
 use Rattle.law_engine.proofs.StandardEffectLaws.{place_above}
 use Rattle.law_engine.proofs.StoreRows.{word_below}
 use Rattle.law_engine.proofs.StoredWords.{popped}
-use Rattle.law_engine.proofs.Stretches.{IfMade, Kept, all_kept, bytes_kept, made, stored_kept}
+use Rattle.law_engine.proofs.Stretches.{IfMade, Kept, all_kept, bytes_kept, kept_to, made, stored_kept}
 
 -- ---- a word that is stored, and one that is pushed
 
@@ -41,17 +41,19 @@ word_stored m a w n h = elim (cases_Bool (is_even a)) [
 abbrev not_pushed : Result (List ℕ × ℕ) ExecError
 not_pushed = Err StackOverflow
 
-pub word_pushed : (m : List ℕ) (sp np w g : ℕ) (t : List ℕ × ℕ) → sp ≡ g → push m sp np w ≡ Ok t → Kept (stretch (g - 2 * 1) (2 * 1) ∷ []) m t.0
+pub word_pushed : (m : List ℕ) (sp np w g : ℕ) (t : List ℕ × ℕ) → sp ≡ g → push m sp np w ≡ Ok t → Kept (stretch_to g (2 * 1) ∷ []) m t.0
 word_pushed m sp np w g t e h = elim (cases_Bool (nat_lt sp (np + 2))) [
   | inl l ↦ none (rw l at h)
   | inr l ↦
       let b = bound (store m (sp - 2) w) _ t (rw l at h) in
       let same : b.0 ≡ t.0 = ap (λ (q : List ℕ × ℕ). q.0) (ok_same _ t b.2) in
-      subst (λ (k : List ℕ). Kept (stretch (g - 2 * 1) (2 * 1) ∷ []) m k) same
-      (subst (λ (a : ℕ). Kept (stretch (a - 2) 2 ∷ []) m b.0) e (word_stored m (sp - 2) w b.0 b.1))
+      let room : np + 2 ≤ sp = ltb-false sp (np + 2) l in
+      subst (λ (k : List ℕ). Kept (stretch_to g (2 * 1) ∷ []) m k) same
+      (kept_to g (2 * 1) m b.0 (omega (arith, room, e))
+      (subst (λ (a : ℕ). Kept (stretch (a - 2) 2 ∷ []) m b.0) e (word_stored m (sp - 2) w b.0 b.1)))
 ]
   where
-    none : not_pushed ≡ Ok t → Kept (stretch (g - 2 * 1) (2 * 1) ∷ []) m t.0
+    none : not_pushed ≡ Ok t → Kept (stretch_to g (2 * 1) ∷ []) m t.0
     none k = cc
 
 -- ---- places
@@ -149,10 +151,10 @@ fill_keeps m r memory =
     (subst (λ a. Kept (counted_stretch a count.word) m new) place
     (filled_keeps m p.word count.word (ch.word % 256) new memory (omega arith) q))))))
 
-scan_keeps : (m : List ℕ) (r : Registers) → RowKeeps (stretch (r.sp + 2 * 6 - 2 * 1) (2 * 1) ∷ []) m (scan_row m r)
+scan_keeps : (m : List ℕ) (r : Registers) → RowKeeps (stretch_to (r.sp + 2 * 6) (2 * 1) ∷ []) m (scan_row m r)
 unfolding scan_row
 scan_keeps m r =
-    let P = λ (t : List ℕ × Registers). Kept (stretch (r.sp + 2 * 6 - 2 * 1) (2 * 1) ∷ []) m t.0 in
+    let P = λ (t : List ℕ × Registers). Kept (stretch_to (r.sp + 2 * 6) (2 * 1) ∷ []) m t.0 in
     made P (pop m r.sp) _ (λ mask a. made P (pop_place m mask.above) _ (λ place b. made P (pop m place.above) _ (λ ch c.
     made P (pop m ch.above) _ (λ kind d. made P (pop m kind.above) _ (λ limit e.
     made P (passed_by m place.word limit.word (ch.word % 256) (kind.word % 2 == 0)) _ (λ k f.
@@ -164,9 +166,9 @@ scan_keeps m r =
     let limit_up = (popped m kind.above limit e).above in
     word_pushed m limit.above r.np k (r.sp + 2 * 6) new (omega (arith, mask_up, place_up, ch_up, kind_up, limit_up)) q)))))))
 
-push_keeps : (w : ℕ) (m : List ℕ) (r : Registers) → RowKeeps (stretch (r.sp + 2 * 0 - 2 * 1) (2 * 1) ∷ []) m (push_row w m r)
+push_keeps : (w : ℕ) (m : List ℕ) (r : Registers) → RowKeeps (stretch_to (r.sp + 2 * 0) (2 * 1) ∷ []) m (push_row w m r)
 unfolding push_row
-push_keeps w m r = made (λ (t : List ℕ × Registers). Kept (stretch (r.sp + 2 * 0 - 2 * 1) (2 * 1) ∷ []) m t.0) (push m r.sp r.np w) _ (λ new q.
+push_keeps w m r = made (λ (t : List ℕ × Registers). Kept (stretch_to (r.sp + 2 * 0) (2 * 1) ∷ []) m t.0) (push m r.sp r.np w) _ (λ new q.
     word_pushed m r.sp r.np w (r.sp + 2 * 0) new (omega arith) q)
 
 pub memory_keeps : (o : OnMemory) (m : List ℕ) (r : Registers) → IsMemory m → RowKeeps (memory_written o m r.sp) m (memory_row o m r)

@@ -24,13 +24,13 @@ use Rattle.pm_units.specs.declared.ports.Port.TheVariants.{Console, Terminal, Ab
 use Rattle.pm_stdproc.specs.declared.loads.SlotRow.{SlotRow}
 use Rattle.pm_stdproc.specs.Loads.{code_of_row, found_code, length_of, slot_code}
 use Rattle.pm_stdproc.specs.Procedures.{Reach, exit_row, keep_row, reach_parts, unkeep_row}
-use Rattle.pm_machine.specs.Written.{Stretch, frames_written, ip_kept, ips_written, kept_written, left_by_exit, stretch, touches}
+use Rattle.pm_machine.specs.Written.{Stretch, frames_written, ip_kept, ips_written, kept_written, left_by_exit, stretch, stretch_to, touches}
 use Rattle.pm_machine.specs.Written.{wanted_at}
 use Rattle.law_engine.proofs.Bytes.{AreBytes, range_fits}
 use Rattle.law_engine.proofs.ExitLaws.{exit_changes_saved_ips_alone}
 use Rattle.law_engine.proofs.StoreRows.{word_below}
 use Rattle.law_engine.proofs.StoredWords.{popped}
-use Rattle.law_engine.proofs.Stretches.{IfMade, Kept, IsAway, all_kept, away, made}
+use Rattle.law_engine.proofs.Stretches.{IfMade, Kept, IsAway, all_kept, away, kept_to, made}
 use Rattle.law_engine.proofs.WrittenUnits.{HoldsBytes, written_bytes}
 
 -- ---- EXIT
@@ -75,7 +75,7 @@ of_ok P (Err f) x h e = cc
 -- code that ends at an address
 abbrev code_stretches : ℕ → Option (List ℕ) → List Stretch
 code_stretches sp None = []
-code_stretches sp (Some code) = stretch (sp - length code) (length code) ∷ []
+code_stretches sp (Some code) = stretch_to sp (length code) ∷ []
 
 abbrev ReachKeeps : List Stretch → List ℕ → Result Reach ExecError → Type 0
 ReachKeeps ss m row = IfMade (λ (t : Reach). Kept ss m t.memory) row
@@ -101,13 +101,14 @@ exit_keeps s memory =
 -- ---- the segment that is kept
 
 keeps_loading : (c : Parts) (n : ℕ) (code : List ℕ) → IsMemory c.memory → AreBytes code → c.registers.sp ≤ 65504
-    → IfMade (λ (d : Parts). Kept (stretch (c.registers.sp - length code) (length code) ∷ []) c.memory d.memory) (keep_loading c n code)
+    → IfMade (λ (d : Parts). Kept (stretch_to c.registers.sp (length code) ∷ []) c.memory d.memory) (keep_loading c n code)
 unfolding keep_loading
 keeps_loading c n code memory bytes low =
-    made (λ (d : Parts). Kept (stretch (c.registers.sp - length code) (length code) ∷ []) c.memory d.memory) (code_fits c.registers code) _ (λ u h.
+    made (λ (d : Parts). Kept (stretch_to c.registers.sp (length code) ∷ []) c.memory d.memory) (code_fits c.registers code) _ (λ u h.
     let has = has_room c.registers code (Ok u) u (ap (λ r. r >>= λ v. Ok u) h) in
     let room = has.room in
-    written_bytes c.memory code (c.registers.sp - length code) (length code) memory (omega (arith, room, low)) refl bytes)
+    kept_to c.registers.sp (length code) c.memory _ (omega (arith, room))
+    (written_bytes c.memory code (c.registers.sp - length code) (length code) memory (omega (arith, room, low)) refl bytes))
 
 keeps_slot : (c : Parts) (n : ℕ) (code : Option (List ℕ)) (slot : Option (Option SegmentPlace)) → IsMemory c.memory → IsCode code → c.registers.sp ≤ 65504
     → IfMade (λ (d : Parts). Kept (code_stretches c.registers.sp code) c.memory d.memory) (keep_slot c n code slot)
@@ -183,7 +184,7 @@ keep_keeps s memory holds =
     named : (sp above : ℕ) (code : Option (List ℕ)) (m n : List ℕ) → above ≡ sp + 2 → Kept (code_stretches above code) m n
         → Kept (kept_written sp (Ok code)) m n
     named sp above None m n up h = h
-    named sp above (Some code) m n up h = subst (λ a. Kept (stretch (a - length code) (length code) ∷ []) m n) up h
+    named sp above (Some code) m n up h = subst (λ a. Kept (stretch_to a (length code) ∷ []) m n) up h
 
 pub unkeep_keeps : (s : Reach) → ReachKeeps [] s.memory (unkeep_row s)
 unfolding unkeep_row segment_unkept unkeep_standing

@@ -38,7 +38,7 @@ use Rattle.pm_rows.specs.Variables.{store_row, variable_at, variable_row}
 use Rattle.pm_effects.specs.declared.effect.Share.TheVariants as share
 use Rattle.pm_effects.specs.Effects.{arithmetic_effect, compare_effect, literal_effect, set_effect, variable_effect}
 use Rattle.pm_machine.specs.Written.{Stretch, compare_written, pointer_written, pushes, pushes_words, set_words, stretch, text_length, value_written}
-use Rattle.pm_machine.specs.Written.{word_stretch}
+use Rattle.pm_machine.specs.Written.{stretch_to, word_stretch}
 use Rattle.law_engine.specs.Effects.{EndsAt, MovesIf, words_taken}
 use Rattle.law_engine.specs.StackLaws.{WritesWhatItPushes, a_set, so_many}
 use Rattle.law_engine.specs.StoreLaws.{WritesAlone}
@@ -46,7 +46,7 @@ use Rattle.law_engine.proofs.EffectLaws.{effects_are_the_machines}
 use Rattle.law_engine.proofs.StackRows.{stack_rows_write_what_they_push}
 use Rattle.law_engine.proofs.StoreRows.{rows_write_what_they_store, word_below}
 use Rattle.law_engine.proofs.StoredWords.{popped}
-use Rattle.law_engine.proofs.Stretches.{IfMade, Kept, IsAway, away, bytes_kept, made, words_kept}
+use Rattle.law_engine.proofs.Stretches.{IfMade, Kept, IsAway, away, bytes_kept, kept_to, made, words_kept}
 use Rattle.law_engine.proofs.WrittenSets.{HasCount, difference_count, intersection_count, singleton_count, subrange_count, union_count}
 
 -- a row keeps each word that the stretches do not touch
@@ -63,16 +63,18 @@ outside x t g k ends (inr (inr high)) = inr (omega (arith, high, ends))
 
 -- so many words, which end where those ended that the row took
 pushed : (m : List ℕ) (g k : ℕ) (row : Result (List ℕ × ℕ) ExecError) → WritesWhatItPushes m (so_many k) row → EndsAt g (share.Words k) row
-    → RowKeeps (stretch (g - 2 * k) (2 * k) ∷ []) m row
-pushed m g k (Ok t) writes ends = λ x even none. writes x even (outside x t.1 g k ends (away x (g - 2 * k) (2 * k) none))
+    → RowKeeps (stretch_to g (2 * k) ∷ []) m row
+pushed m g k (Ok t) writes ends = kept_to g (2 * k) m t.0 (omega (arith, ends)) (λ x even none.
+    writes x even (outside x t.1 g k ends (away x (g - 2 * k) (2 * k) none)))
 pushed m g k (Err e) writes ends = tt
 
 -- a set of so many words, its count among them
 pushed_set : (m : List ℕ) (g k : ℕ) (row : Result (List ℕ × ℕ) ExecError) → WritesWhatItPushes m a_set row → EndsAt g share.Set row
-    → IfMade (HasCount k) row → RowKeeps (stretch (g - 2 * k) (2 * k) ∷ []) m row
-pushed_set m g k (Ok t) writes ends count = λ x even none.
-    writes x even (subst (λ n. (x < t.1) ⊎ (t.1 + 2 * n ≤ x)) (sym count)
-    (outside x t.1 g k (subst (λ n. t.1 + 2 * n ≡ g) count ends) (away x (g - 2 * k) (2 * k) none)))
+    → IfMade (HasCount k) row → RowKeeps (stretch_to g (2 * k) ∷ []) m row
+pushed_set m g k (Ok t) writes ends count =
+    let stands : t.1 + 2 * k ≡ g = subst (λ n. t.1 + 2 * n ≡ g) count ends in
+    kept_to g (2 * k) m t.0 (omega (arith, stands)) (λ x even none.
+    writes x even (subst (λ n. (x < t.1) ⊎ (t.1 + 2 * n ≤ x)) (sym count) (outside x t.1 g k stands (away x (g - 2 * k) (2 * k) none))))
 pushed_set m g k (Err e) writes ends count = tt
 
 -- a row that stores

@@ -1,6 +1,6 @@
 -- The standard procedures on units write what they name.
 use Rattle.std.proofs.Common.{◌≡◌, ◌<◌, ◌≤◌, ◌⊎◌, inl, inr, ℕ, ◌+◌, ◌-◌, ◌*◌, ◌/◌, ◌%◌, ◌&&◌, Bool, true, false}
-use Rattle.std.proofs.Common.{nat_lt, List, [], ◌∷◌, length, take, drop, slice_range, Option, Some, None, Result, Ok, Err, refl, sym, ◌∙◌}
+use Rattle.std.proofs.Common.{nat_lt, List, [], ◌∷◌, length, take, drop, slice_range, Option, Some, None, Result, Ok, Err, refl, sym, ap, ◌∙◌}
 use Rattle.std.proofs.Common.{subst, arith}
 use Rattle.std.proofs.lemmas.Bool.{and_parts, cases_Bool}
 use Rattle.std.proofs.lemmas.Bool.Decides.{nat_tests}
@@ -23,13 +23,12 @@ use Rattle.pm_stdproc.specs.declared.procedures.OnUnits.TheVariants as units
 use Rattle.pm_stdproc.specs.declared.rows.Order.{Order}
 use Rattle.pm_stdproc.specs.MemoryRows.{pop_place}
 use Rattle.pm_stdproc.specs.UnitRows.{Served, after_transfer, busy_row, clear_row, ordered, read_row, time_row, units_row, wait_row, write_row}
-use Rattle.pm_machine.specs.Written.{Stretch, stretch}
-use Rattle.pm_machine.specs.Written.{transfer_written, units_written}
+use Rattle.pm_machine.specs.Written.{Stretch, place_on_stack, stretch, stretch_to, transfer_stretch, units_written}
 use Rattle.law_engine.proofs.Bytes.{AreBytes, range_fits}
 use Rattle.law_engine.proofs.StoreRows.{word_below}
 use Rattle.law_engine.proofs.StoredWords.{popped}
 use Rattle.law_engine.proofs.Stretches.{IfMade, Kept, all_kept, both_kept, bytes_kept, made, stored_kept}
-use Rattle.law_engine.proofs.WrittenMemory.{word_pushed}
+use Rattle.law_engine.proofs.WrittenMemory.{place_is, word_pushed}
 
 -- ---- bytes that the units have
 
@@ -97,21 +96,44 @@ order_lies m sp o h =
     let same = ok_same _ o lies.1 in
     subst (λ (q : Order). q.transfer.address + q.transfer.count ≤ 65536) same room
 
+-- and are those that the words on the stack name
+pub order_names : (m : List ℕ) (sp : ℕ) (o : Order) → ordered m sp ≡ Ok o → stretch o.transfer.address o.transfer.count ≡ transfer_stretch m sp
+unfolding ordered
+order_names m sp o h =
+    let mode = bound (pop m sp) _ o h in
+    let block = bound (pop m mode.0.above) _ o mode.2 in
+    let count = bound (pop m block.0.above) _ o block.2 in
+    let place = bound (pop_place m count.0.above) _ o count.2 in
+    let unit = bound (pop m place.0.above) _ o place.2 in
+    let lies = passed (lies_in_memory place.0.word count.0.word) InvalidMemory _ o unit.2 in
+    let same = ok_same _ o lies.1 in
+    let first = (popped m sp mode.0 mode.1).above in
+    let second = (popped m mode.0.above block.0 block.1).above in
+    let third = (popped m block.0.above count.0 count.1).above in
+    let fourth : block.0.above ≡ sp + 4 = omega (arith, first, second) in
+    let sixth : count.0.above ≡ sp + 6 = omega (arith, third, fourth) in
+    let many : count.0.word ≡ word_at m (sp + 4) = (popped m block.0.above count.0 count.1).word ∙ ap (λ (a : ℕ). word_at m a) fourth in
+    let there : place.0.word ≡ place_on_stack m (sp + 6) = place_is m count.0.above place.0 place.1 ∙ ap (λ (a : ℕ). place_on_stack m a) sixth in
+    sym (ap (λ (q : Order). stretch q.transfer.address q.transfer.count) same)
+    ∙ ap (λ (a : ℕ). stretch a count.0.word) there
+    ∙ ap (λ (n : ℕ). stretch (place_on_stack m (sp + 6)) n) many
+
 abbrev ServedKeeps : {E : Type 0} → List Stretch → List ℕ → Result Served E → Type 0
 ServedKeeps ss m row = IfMade (λ (t : Served). Kept ss m t.memory) row
 
-transfer_keeps : (s : Served) (order : Result Order ExecError) → IsMemory s.memory → HoldsBytes s.devices
+transfer_keeps : (s : Served) (z : Stretch) (order : Result Order ExecError) → IsMemory s.memory → HoldsBytes s.devices
     → ((o : Order) → order ≡ Ok o → o.transfer.address + o.transfer.count ≤ 65536)
-    → ServedKeeps (transfer_written order) s.memory (or_fails order >>= λ o. (unit_read (unit_of o.unit) o.transfer s.memory s.devices >>= λ t.
+    → ((o : Order) → order ≡ Ok o → stretch o.transfer.address o.transfer.count ≡ z)
+    → ServedKeeps (z ∷ []) s.memory (or_fails order >>= λ o. (unit_read (unit_of o.unit) o.transfer s.memory s.devices >>= λ t.
     Ok (after_transfer s o.sp t)))
-transfer_keeps s (Ok o) memory holds lies =
+transfer_keeps s z (Ok o) memory holds lies names =
     of (unit_read (unit_of o.unit) o.transfer s.memory s.devices) (read_keeps (unit_of o.unit) o.transfer s.memory s.devices memory holds (lies o refl))
   where
     of : (moved : Result Moved Pause) → MovedKeeps o.transfer s.memory moved
-        → ServedKeeps (transfer_written (Ok o)) s.memory (moved >>= λ t. Ok (after_transfer s o.sp t))
-    of (Ok t) h = h
+        → ServedKeeps (z ∷ []) s.memory (moved >>= λ t. Ok (after_transfer s o.sp t))
+    of (Ok t) h = subst (λ (y : Stretch). Kept (y ∷ []) s.memory t.memory) (names o refl) h
     of (Err e) h = tt
-transfer_keeps s (Err e) memory holds lies = tt
+transfer_keeps s z (Err e) memory holds lies names = tt
 
 failing : (ss : List Stretch) (m : List ℕ) (row : Result Served ExecError) → ServedKeeps ss m row → ServedKeeps ss m (or_fails row)
 failing ss m (Ok x) h = h
@@ -150,13 +172,14 @@ write_keeps (Disk k) t m d = to_disk_keeps k (image_at d k) t m d
 pub units_keep : (o : OnUnits) (s : Served) → IsMemory s.memory → HoldsBytes s.devices
     → ServedKeeps (units_written o s.memory s.registers.sp) s.memory (units_row o s)
 unfolding units_row read_row write_row busy_row wait_row clear_row
-units_keep units.Read s memory holds = transfer_keeps s (ordered s.memory s.registers.sp) memory holds (order_lies s.memory s.registers.sp)
+units_keep units.Read s memory holds = transfer_keeps s (transfer_stretch s.memory s.registers.sp) (ordered s.memory s.registers.sp) memory holds
+    (order_lies s.memory s.registers.sp) (order_names s.memory s.registers.sp)
 units_keep units.Write s memory holds = made (λ (t : Served). Kept [] s.memory t.memory) (or_fails (ordered s.memory s.registers.sp)) _ (λ o h.
     write_keeps (unit_of o.unit) o.transfer s.memory s.devices)
 units_keep units.Time s memory holds = failing
     (stretch (word_at s.memory (s.registers.sp + 2)) 2 ∷ stretch (word_at s.memory s.registers.sp) 2 ∷ []) s.memory (time_row s) (time_keeps s)
 units_keep units.Busy s memory holds =
-    let ss = stretch (s.registers.sp + 2 * 1 - 2 * 1) (2 * 1) ∷ [] in
+    let ss = stretch_to (s.registers.sp + 2 * 1) (2 * 1) ∷ [] in
     let P = λ (t : Served). Kept ss s.memory t.memory in
     failing ss s.memory _ (made P (pop s.memory s.registers.sp) _ (λ unit h. made P (push s.memory unit.above s.registers.np 0) _ (λ t q.
     let up = (popped s.memory s.registers.sp unit h).above in

@@ -1,13 +1,10 @@
 -- Whether what a step writes has one of the bytes that are asked about.
-use Rattle.std.specs.Prelude.{ℕ, ◌-◌, Bool, List, ◌∷◌, Result, Ok}
+use Rattle.std.specs.Prelude.{ℕ, Bool, List, ◌∷◌}
 use Rattle.std.specs.List.{list_any}
-use Rattle.pm_words.specs.declared.error.ExecError.{ExecError}
-use Rattle.pm_words.specs.Stack.{◌>>=◌}
 use Rattle.pm_families.specs.declared.families.Call.{Call}
 use Rattle.pm_calls.specs.Calls.{procedure_called}
 use Rattle.pm_calls.specs.Tables.{attributes}
-use Rattle.pm_stdproc.specs.UnitRows.{ordered}
-use Rattle.pm_machine.specs.Written.{Stretch, frame_written, stretch, touches}
+use Rattle.pm_machine.specs.Written.{Stretch, frame_written, stretch_to, touches}
 use Rattle.pm_access.specs.declared.stretches.Bytes.{Bytes}
 use Rattle.pm_access.specs.Reached.{Seen}
 
@@ -18,9 +15,5 @@ meets bytes stretches = list_any (touches bytes.address bytes.count) stretches
 -- a call in a segment: the code that is loaded for it, which ends at SP, and its frame
 abbrev pub frame_and_code : Call → ℕ → Seen → List Stretch
 frame_and_code call sp at =
-    stretch (sp - at.loaded) at.loaded
+    stretch_to sp at.loaded
     ∷ frame_written call at.loaded sp (attributes at.memory at.place (procedure_called call))
-
--- the place and the count of a transfer
-abbrev pub transfer_of : List ℕ → ℕ → Result (ℕ × ℕ) ExecError
-transfer_of m sp = ordered m sp >>= λ o. Ok (o.transfer.address, o.transfer.count)

@@ -107,8 +107,10 @@ fn operation_read(bytes: Bytes, what: Operation, machine: &Machine) -> bool
 
 /// Whether the instruction at IPC reads one of so many bytes from an address on. Its own bytes do not count, be they
 /// its opcode, its operands, words or a table of jumps in the code. A row that ends with an error reads what it would
-/// read if it went on; but an EXIT that does not find its procedure reads no frame, and a call no table without its
-/// segment, and no parameters or links without its table.
+/// read if it went on; but an EXIT that does not find its procedure reads no frame, a call that does not reach its
+/// segment nothing, and one that does not find its table no parameters and no links. An order of sets or of WORDS that
+/// this machine does not have reads what it would compare, a comparison of REAL nothing; STP reads its word also where
+/// all of it changes.
 #[tactic(auto, unfolding(pm_machine::specs::ReadStretches::read, pm_machine::specs::Rows::fetched))]
 pub fn reads(machine: &Machine, address: u16, count: u32) -> bool
     ensures reads { result ≡ reads address count machine.now.state }

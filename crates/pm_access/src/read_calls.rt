@@ -1,6 +1,8 @@
 //! What calls read: the table of the procedure, the parameters, and what finds the static link.
 
-ghost use Rattle.std.specs.Prelude.{◌≡◌};
+ghost use Rattle.std.specs.Prelude.{◌≡◌, pos, ◌+ℤ◌, ◌-ℤ◌};
+ghost use Rattle.pm_words.specs.Words.{word_at};
+ghost use Rattle.pm_calls.specs.Links.{level_of};
 ghost use Rattle.pm_machine.specs.ReadStretches.{call_read, entry_words, inner_read, static_link_read, table_read};
 ghost use Rattle.pm_access.specs.Reached.{loaded_memory, segment_seen};
 ghost use Rattle.pm_access.specs.Reading.{table_and_entry};
@@ -15,16 +17,20 @@ use pm_families::Call;
 use pm_machine::Machine;
 use pm_words::ExecError;
 
+// How many links lead from the frame of the procedure with its table at a place to that around one of this level.
+fn links_up(memory: Loaded<'_>, jtab: u16, level: i8) -> i16
+    ensures links { result ≡ level_of (word_at (loaded_memory memory.entry) jtab) -ℤ level +ℤ pos 1 }
+{
+    let own = ((memory.word(jtab) / 256) as u8).cast_signed();
+    i16::from(own) - i16::from(level) + 1
+}
+
 // The level of the running procedure, and the links up from its frame.
 fn inner_read(bytes: Bytes, memory: Loaded<'_>, registers: Registers, level: i8) -> bool
     ensures read { result ≡ meets bytes (inner_read (loaded_memory memory.entry) registers level) }
 {
-    if meets(bytes, usize::from(registers.jtab), 2) {
-        return true;
-    }
-    let own = ((memory.word(registers.jtab) / 256) as u8).cast_signed();
-    let links = i16::from(own) - i16::from(level) + 1;
-    links_by(bytes, memory, registers.mp, links)
+    let links = links_up(memory, registers.jtab, level);
+    meets(bytes, usize::from(registers.jtab), 2) || links_by(bytes, memory, registers.mp, links)
 }
 
 // What finds the static link of a procedure of this level.

@@ -8,8 +8,8 @@ ghost use Rattle.pm_machine.specs.ReadStretches.{taken_if, units_lead};
 ghost use Rattle.pm_access.specs.Writing.{meets};
 
 use crate::read_exits::exit_leads;
-use crate::stretches::{Bytes, meets, place_on_stack, takes_words, word_in};
-use crate::written_procedures::{is_counted, transfer_of};
+use crate::stretches::{Bytes, meets, meets_to, place_on_stack, takes_words, word_in};
+use crate::written_procedures::{is_counted, is_transferred};
 use pm_machine::Machine;
 use pm_opcode::Operation;
 use pm_stdproc::{OnMemory, OnUnits, Procedure, procedure_of};
@@ -24,7 +24,7 @@ fn is_scanned(bytes: Bytes, place: u16, limit: i16) -> bool
     if limit >= 0 {
         return meets(bytes, start, count);
     }
-    meets(bytes, start.saturating_sub(count - 1), count)
+    meets_to(bytes, start + 1, count)
 }
 
 // A procedure on the memory, beside the words that it takes.
@@ -51,10 +51,7 @@ fn units_lead(bytes: Bytes, what: OnUnits, memory: &Memory, sp: u16) -> bool
     ensures read { result ≡ meets bytes (units_lead what memory.now.words sp) }
 {
     match what {
-        OnUnits::Write => match transfer_of(memory, sp) {
-            Ok((place, count)) => meets(bytes, usize::from(place), usize::from(count)),
-            Err(_) => false,
-        },
+        OnUnits::Write => is_transferred(bytes, memory, sp),
         _ => false,
     }
 }

@@ -4,7 +4,7 @@ ghost use Rattle.std.specs.Prelude.{◌≡◌, ◌≤◌, ◌∷◌, []};
 ghost use Rattle.pm_words.specs.Words.{word_at};
 ghost use Rattle.pm_effects.specs.Effects.{effect_of};
 ghost use Rattle.pm_machine.specs.Written.{compare_written, place_on_stack, pushes, pushes_words, stretch};
-ghost use Rattle.pm_machine.specs.Written.{words_of, words_taken};
+ghost use Rattle.pm_machine.specs.Written.{stretch_to, words_of, words_taken};
 ghost use Rattle.pm_machine.specs.ReadStretches.{taken_if};
 ghost use Rattle.pm_access.specs.Writing.{meets};
 
@@ -34,7 +34,14 @@ pub(crate) fn meets(bytes: Bytes, start: usize, count: usize) -> bool
 {
     let first = usize::from(bytes.address);
     let end = first + bytes.count as usize;
-    count > 0 && start < end && first < start.saturating_add(count)
+    bytes.count > 0 && count > 0 && start < end && first < start.saturating_add(count)
+}
+
+/// Whether one of the bytes is of so many that end before a place, or of as many of them as stand there.
+pub(crate) fn meets_to(bytes: Bytes, end: usize, count: usize) -> bool
+    ensures meets { result ≡ meets bytes (stretch_to end count ∷ []) }
+{
+    meets(bytes, end.saturating_sub(count), count.min(end))
 }
 
 /// The word at an address, of which the lowest bit does not count; 0 above the memory.
@@ -83,7 +90,7 @@ pub(crate) fn pushes(bytes: Bytes, effect: Effect, words: usize, memory: &Memory
     ensures pushes { result ≡ meets bytes (pushes effect words memory.now.words sp) }
 {
     let end = usize::from(sp) + 2 * words_taken(effect, memory, sp);
-    meets(bytes, end.saturating_sub(2 * words), 2 * words)
+    meets_to(bytes, end, 2 * words)
 }
 
 /// Whether one of the bytes is written by a row that puts so many words on the stack as it leaves.

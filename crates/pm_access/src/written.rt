@@ -8,7 +8,7 @@ ghost use Rattle.pm_machine.specs.Written.{word_stretch, writes};
 ghost use Rattle.pm_machine.specs.Procedures.{words_of_return};
 ghost use Rattle.pm_access.specs.Writing.{meets};
 
-use crate::stretches::{Bytes, leaves_words, meets, word_in};
+use crate::stretches::{Bytes, leaves_words, meets, meets_to, word_in};
 use crate::written_calls::call_written;
 use crate::written_procedures::procedure_written;
 use crate::written_values::value_written;
@@ -111,7 +111,7 @@ fn return_written(bytes: Bytes, words: u8, memory: &Memory, mp: u16) -> bool
 {
     let words = 2 * usize::from(words);
     let above = usize::from(word_in(memory, usize::from(mp) + 10));
-    meets(bytes, above.saturating_sub(words), words)
+    meets_to(bytes, above, words)
 }
 
 // What an operation writes.
@@ -139,8 +139,9 @@ fn operation_written(bytes: Bytes, what: Operation, machine: &Machine) -> bool
 }
 
 /// Whether the instruction at IPC writes one of so many bytes from an address on. A row that ends with an error writes
-/// what it would write if it went on; but an EXIT that does not find its procedure and a call that does not find its
-/// table write no frame.
+/// what it would write if it went on; but an EXIT that does not find its procedure writes nothing, nor does a call that
+/// does not reach its segment, and one that does not find its table writes no frame. An order of sets or of WORDS that
+/// this machine does not have writes its result, a comparison of REAL nothing; CHK writes the word that it leaves.
 #[tactic(auto, unfolding(pm_machine::specs::Written::written, pm_machine::specs::Rows::fetched))]
 pub fn writes(machine: &Machine, address: u16, count: u32) -> bool
     ensures writes { result ≡ writes address count machine.now.state }

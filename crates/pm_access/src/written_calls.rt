@@ -6,7 +6,7 @@ ghost use Rattle.pm_access.specs.Reached.{segment_seen};
 ghost use Rattle.pm_access.specs.Writing.{frame_and_code, meets};
 
 use crate::reached::{Segment, call_reached};
-use crate::stretches::{Bytes, meets};
+use crate::stretches::{Bytes, meets_to};
 use pm_calls::{Table, is_base, procedure_called};
 use pm_families::Call;
 use pm_machine::Machine;
@@ -21,10 +21,9 @@ fn is_of_frame(bytes: Bytes, base: bool, loaded: usize, sp: u16, table: Table) -
     } else {
         usize::from(sp) + parameters
     };
-    let size = usize::from(table.locals) + parameters + 12;
+    let end = top.saturating_sub(usize::from(table.locals));
     let below = if base { 2 } else { 0 };
-    let start = top.saturating_sub(size).saturating_sub(below);
-    meets(bytes, start, below + 12 + parameters)
+    meets_to(bytes, end, below + 12 + parameters)
 }
 
 // A call in a segment: the code that is loaded for it and ends at SP, and its frame.
@@ -32,7 +31,7 @@ fn frame_and_code(bytes: Bytes, call: Call, sp: u16, segment: Segment<'_>) -> bo
     ensures written { result ≡ meets bytes (frame_and_code call sp (segment_seen segment.entry)) }
 {
     let loaded = segment.memory.code.len();
-    if meets(bytes, usize::from(sp).saturating_sub(loaded), loaded) {
+    if meets_to(bytes, usize::from(sp), loaded) {
         return true;
     }
     match segment.memory.table(segment.place, procedure_called(call)) {

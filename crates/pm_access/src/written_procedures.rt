@@ -1,19 +1,18 @@
 //! What the standard procedures write.
 
-ghost use Rattle.std.specs.Prelude.{◌≡◌};
+ghost use Rattle.std.specs.Prelude.{◌≡◌, ◌∷◌, []};
 ghost use Rattle.pm_stdproc.specs.Loads.{slot_code};
 ghost use Rattle.pm_stdproc.specs.Procedures.{procedure_numbered};
 ghost use Rattle.pm_machine.specs.Written.{counted_stretch, kept_written, memory_written, procedure_written};
-ghost use Rattle.pm_machine.specs.Written.{units_written};
-ghost use Rattle.pm_access.specs.Writing.{meets, transfer_of};
+ghost use Rattle.pm_machine.specs.Written.{transfer_stretch, units_written};
+ghost use Rattle.pm_access.specs.Writing.{meets};
 
-use crate::stretches::{Bytes, meets, place_on_stack, pushes_words, word_in};
+use crate::stretches::{Bytes, meets, meets_to, place_on_stack, pushes_words, word_in};
 use crate::written_exits::exit_written;
 use pm_effects::words;
 use pm_machine::Machine;
 use pm_stdproc::{OnMemory, OnUnits, Procedure, procedure_of};
-use pm_words::stack::pop;
-use pm_words::{ExecError, Memory};
+use pm_words::Memory;
 
 /// So many bytes from a place on, where the count is above 0 as a signed number.
 pub(crate) fn is_counted(bytes: Bytes, place: u16, count: u16) -> bool
@@ -46,22 +45,13 @@ fn memory_written(bytes: Bytes, what: OnMemory, memory: &Memory, sp: u16) -> boo
     }
 }
 
-/// The place and the count of a transfer.
-#[tactic(auto, unfolding(pm_stdproc::specs::UnitRows::ordered))]
-pub(crate) fn transfer_of(memory: &Memory, sp: u16) -> Result<(u16, u16), ExecError>
-    ensures transfer { result ≡ transfer_of memory.now.words sp }
+/// The place of a transfer, with as many bytes as it counts.
+pub(crate) fn is_transferred(bytes: Bytes, memory: &Memory, sp: u16) -> bool
+    ensures transfer { result ≡ meets bytes (transfer_stretch memory.now.words sp ∷ []) }
 {
-    let mode = pop(memory, sp)?;
-    let block = pop(memory, mode.above)?;
-    let count = pop(memory, block.above)?;
-    let index = pop(memory, count.above)?;
-    let base = pop(memory, index.above)?;
-    let _unit = pop(memory, base.above)?;
-    let place = base.word.wrapping_add(index.word);
-    if u32::from(place) + u32::from(count.word) > 65536 {
-        return Err(ExecError::InvalidMemory);
-    }
-    Ok((place, count.word))
+    let top = usize::from(sp);
+    let count = usize::from(word_in(memory, top + 4));
+    meets(bytes, usize::from(place_on_stack(memory, top + 6)), count)
 }
 
 // A procedure on the units or the clock.
@@ -70,10 +60,7 @@ fn units_written(bytes: Bytes, what: OnUnits, memory: &Memory, sp: u16) -> bool
 {
     let top = usize::from(sp);
     match what {
-        OnUnits::Read => match transfer_of(memory, sp) {
-            Ok((place, count)) => meets(bytes, usize::from(place), usize::from(count)),
-            Err(_) => false,
-        },
+        OnUnits::Read => is_transferred(bytes, memory, sp),
         OnUnits::Time => {
             meets(bytes, usize::from(word_in(memory, top + 2)), 2)
                 || meets(bytes, usize::from(word_in(memory, top)), 2)
@@ -90,7 +77,7 @@ fn kept_written(bytes: Bytes, slot: u16, machine: &Machine) -> bool
 {
     let end = usize::from(machine.registers().sp) + 2;
     match machine.code_wanted(slot) {
-        Ok(Some(code)) => meets(bytes, end.saturating_sub(code.len()), code.len()),
+        Ok(Some(code)) => meets_to(bytes, end, code.len()),
         Ok(None) | Err(_) => false,
     }
 }

@@ -1,7 +1,10 @@
 -- What a step reads: the stretches of memory that the row of its instruction looks at, told of the state before it. The
 -- bytes of the instruction itself do not count, be they its opcode, its operands, words or a table of jumps in the
 -- code. A row that ends with an error names what it would read if it went on; but an EXIT that does not find its
--- procedure names no frame, and a call no table without its segment, and no parameters or links without its table.
+-- procedure names no frame, a call that does not reach its segment, as its code finds no room or stands nowhere, names
+-- nothing, and one that does not find its table no parameters and no links. An order of sets or of WORDS that this
+-- machine does not have (error 11) names what it would compare, a comparison of REAL nothing. STP names its word also
+-- where all of it changes.
 use Rattle.std.specs.Prelude.{ℕ, zero, suc, ◌+◌, ◌-◌, ◌*◌, ◌/◌, ◌%◌, ◌==◌, not, Bool, true, nat_lt, ℤ, pos, negsuc}
 use Rattle.std.specs.Prelude.{◌+ℤ◌, ◌-ℤ◌, int_le}
 use Rattle.std.specs.Prelude.{List, [], ◌∷◌, ◌++◌, Option, Some, None, Result, Ok, Err, if◌then◌else◌}
@@ -51,13 +54,11 @@ use Rattle.pm_stdproc.specs.declared.procedures.OnUnits.TheVariants as units
 use Rattle.pm_stdproc.specs.declared.procedures.Procedure.{Procedure}
 use Rattle.pm_stdproc.specs.declared.procedures.Procedure.TheVariants as procedure
 use Rattle.pm_stdproc.specs.Procedures.{procedure_numbered}
-use Rattle.pm_stdproc.specs.UnitRows.{ordered}
 use Rattle.pm_machine.specs.Procedures.{is_base_return, parts, words_of_return}
 use Rattle.pm_machine.specs.Rows.{fetched}
 use Rattle.pm_machine.specs.State.{State}
 use Rattle.pm_machine.specs.Written.{Stretch, call_reached, counted_stretch, left_by_exit, place_on_stack, stretch}
-use Rattle.pm_machine.specs.Written.{touches}
-use Rattle.pm_machine.specs.Written.{transfer_written, wanted_at, word_stretch, words_taken}
+use Rattle.pm_machine.specs.Written.{stretch_to, touches, transfer_stretch, wanted_at, word_stretch, words_taken}
 
 -- the words that are taken off the stack
 abbrev pub taken : Effect → List ℕ → ℕ → List Stretch
@@ -236,7 +237,7 @@ exit_leads s =
 -- all bytes that a scan may look at, by its limit, which is signed
 abbrev pub scan_stretch : ℕ → ℤ → Stretch
 scan_stretch a (pos n) = stretch a n
-scan_stretch a (negsuc n) = stretch (a - n) (n + 1)
+scan_stretch a (negsuc n) = stretch_to (a + 1) (n + 1)
 
 -- beside the words that are taken
 abbrev pub memory_leads : OnMemory → List ℕ → ℕ → List Stretch
@@ -248,7 +249,7 @@ memory_leads o m sp = []
 
 -- UNITWRITE reads the bytes that it writes to its unit
 abbrev pub units_lead : OnUnits → List ℕ → ℕ → List Stretch
-units_lead units.Write m sp = transfer_written (ordered m sp)
+units_lead units.Write m sp = transfer_stretch m sp ∷ []
 units_lead o m sp = []
 
 abbrev pub procedure_leads : Procedure → State → List Stretch

@@ -1,7 +1,9 @@
 -- What a step writes: the stretches of memory that the row of its instruction names, told of the state before it. A row
--- that ends with an error names what it would write, and so does a transfer that moves nothing; but an EXIT that does
--- not find its procedure and a call that does not find its table name no frame. What a row only reads, words that it
--- takes off the stack among it, it does not name.
+-- that ends with an error names what it would write if it went on, and so does a transfer that moves nothing; but an
+-- EXIT that does not find its procedure names nothing, nor does a call that does not reach its segment, as its code
+-- finds no room or stands nowhere, and one that does not find its table names no frame. An order of sets or of WORDS
+-- that this machine does not have (error 11) names the word of its result, a comparison of REAL nothing; CHK names the
+-- word that it leaves. What a row only reads, words that it takes off the stack among it, it does not name.
 use Rattle.std.specs.Prelude.{ℕ, zero, suc, ◌+◌, ◌-◌, ◌*◌, ◌/◌, ◌%◌, ◌==◌, ◌&&◌, Bool, max, min, int_lt, nat_lt}
 use Rattle.std.specs.Prelude.{List, [], ◌∷◌, ◌++◌, length, Option, Some, None, Result, Ok, Err, if◌then◌else◌}
 use Rattle.std.specs.Prelude.{slice_get}
@@ -53,8 +55,6 @@ use Rattle.pm_stdproc.specs.declared.procedures.Procedure.TheVariants as procedu
 use Rattle.pm_stdproc.specs.Loads.{code_needed, slot_code}
 use Rattle.pm_stdproc.specs.MemoryRows.{is_positive}
 use Rattle.pm_stdproc.specs.Procedures.{procedure_numbered}
-use Rattle.pm_stdproc.specs.UnitRows.{ordered}
-use Rattle.pm_stdproc.specs.declared.rows.Order.{Order}
 use Rattle.pm_machine.specs.Procedures.{parts, words_of_return}
 use Rattle.pm_machine.specs.Rows.{fetched}
 use Rattle.pm_machine.specs.State.{State}
@@ -67,9 +67,13 @@ pub record Stretch : Type 0 where
 abbrev pub stretch : ℕ → ℕ → Stretch
 stretch a n = record { start = a; bytes = n }
 
--- one of the n bytes from an address on belongs to a stretch
+-- n bytes that end before an address, or as many of them as stand there
+abbrev pub stretch_to : ℕ → ℕ → Stretch
+stretch_to end n = stretch (end - n) (min n end)
+
+-- one of the n bytes from an address on belongs to a stretch: none of no bytes
 abbrev pub touches : ℕ → ℕ → Stretch → Bool
-touches a n s = nat_lt 0 s.bytes && (nat_lt s.start (a + n) && nat_lt a (s.start + s.bytes))
+touches a n s = nat_lt 0 n && (nat_lt 0 s.bytes && (nat_lt s.start (a + n) && nat_lt a (s.start + s.bytes)))
 
 -- ---- the stack
 
@@ -84,7 +88,7 @@ words_taken e m sp = words_of e.top m sp + words_of e.below m (sp + 2 * words_of
 
 -- a row that takes words off the stack at SP puts n words there, which end where those ended that it took
 abbrev pub pushes : Effect → ℕ → List ℕ → ℕ → List Stretch
-pushes e n m sp = stretch (sp + 2 * words_taken e m sp - 2 * n) (2 * n) ∷ []
+pushes e n m sp = stretch_to (sp + 2 * words_taken e m sp) (2 * n) ∷ []
 
 -- the words that a row leaves, by the table of effects; of a set that is not told there
 abbrev pub pushes_words : Effect → List ℕ → ℕ → List Stretch
@@ -157,8 +161,7 @@ value_written (value.Compare r k) m sp = compare_written (compare_effect k) m sp
 -- BASE below those of a base call. Its other variables are not written.
 abbrev pub frame_stretch : Bool → ℕ → ℕ → Table → Stretch
 frame_stretch base loaded sp t =
-    stretch (frame_top loaded sp t.parameters - (t.locals + t.parameters + 12) - kept_below base)
-    (kept_below base + (12 + t.parameters))
+    stretch_to (frame_top loaded sp t.parameters - t.locals) (kept_below base + (12 + t.parameters))
 
 abbrev pub frame_written : Call → ℕ → ℕ → Result Table ExecError → List Stretch
 frame_written call loaded sp (Ok t) = frame_stretch (is_base call t.level) loaded sp t ∷ []
@@ -167,7 +170,7 @@ frame_written call loaded sp (Err e) = []
 -- a call in the segment that was reached: its code, where it is loaded, ends at SP
 abbrev pub reached_written : Call → ℕ → Result Reached ExecError → List Stretch
 reached_written call sp (Ok at) =
-    stretch (sp - at.loaded) at.loaded
+    stretch_to sp at.loaded
     ∷ frame_written call at.loaded sp (attributes at.memory at.place (procedure_called call))
 reached_written call sp (Err e) = []
 
@@ -191,7 +194,7 @@ call_written call s = reached_written call s.registers.sp (call_reached call s)
 
 -- the words of a result go below the SP that the frame keeps
 abbrev pub return_written : ℕ → List ℕ → ℕ → List Stretch
-return_written n m mp = stretch (word_at m (mp + 10) - 2 * n) (2 * n) ∷ []
+return_written n m mp = stretch_to (word_at m (mp + 10)) (2 * n) ∷ []
 
 -- ---- EXIT
 
@@ -247,12 +250,11 @@ memory_written memory.Release m sp = []
 memory_written memory.Halt m sp = []
 
 -- the place of a transfer, with as many bytes as it counts
-abbrev pub transfer_written : Result Order ExecError → List Stretch
-transfer_written (Ok o) = stretch o.transfer.address o.transfer.count ∷ []
-transfer_written (Err e) = []
+abbrev pub transfer_stretch : List ℕ → ℕ → Stretch
+transfer_stretch m sp = stretch (place_on_stack m (sp + 6)) (word_at m (sp + 4))
 
 abbrev pub units_written : OnUnits → List ℕ → ℕ → List Stretch
-units_written units.Read m sp = transfer_written (ordered m sp)
+units_written units.Read m sp = transfer_stretch m sp ∷ []
 units_written units.Time m sp = stretch (word_at m (sp + 2)) 2 ∷ stretch (word_at m sp) 2 ∷ []
 units_written units.Busy m sp = pushes_words (words 1 1) m sp
 units_written units.Write m sp = []
@@ -261,7 +263,7 @@ units_written units.Clear m sp = []
 
 -- the code of a segment that is loaded ends at SP, once its number is taken
 abbrev pub kept_written : ℕ → Result (Option (List ℕ)) ExecError → List Stretch
-kept_written sp (Ok (Some code)) = stretch (sp + 2 - length code) (length code) ∷ []
+kept_written sp (Ok (Some code)) = stretch_to (sp + 2) (length code) ∷ []
 kept_written sp (Ok None) = []
 kept_written sp (Err e) = []
 

@@ -29,22 +29,25 @@ pub enum Spot {
     /// At a place in the code: it stops a run before a step there.
     Code(CodePlace),
     /// On words of the memory: it stops a run before a step that writes a byte of one of them. One that ends with an
-    /// error writes what it would write if it went on; but an EXIT that does not find its procedure and a call that
-    /// does not find its table write no frame.
+    /// error writes what it would write if it went on; but an EXIT that does not find its procedure writes nothing, nor
+    /// does a call that does not reach its segment, and one that does not find its table writes no frame. An order of
+    /// sets or of WORDS that this machine does not have writes its result, a comparison of REAL nothing; CHK writes the
+    /// word that it leaves.
     Writes {
         /// The address of the first word, which is even.
         address: u16,
-        /// How many words; no word stands behind 65,535. With none it is met by a row that names bytes on both sides.
+        /// How many words; with none it never stops a run, and no word stands behind 65,535.
         words: u16,
     },
     /// On words of the memory: it stops a run before a step that reads a byte of one of them. The instruction's own
     /// bytes do not count. One that ends with an error reads what it would read if it went on; but an EXIT that does
-    /// not find its procedure reads no frame, and a call no table without its segment, and no parameters or links
-    /// without its table.
+    /// not find its procedure reads no frame, a call that does not reach its segment nothing, and one that does not
+    /// find its table no parameters and no links. An order of sets or of WORDS that this machine does not have reads
+    /// what it would compare, a comparison of REAL nothing; STP reads its word also where all of it changes.
     Reads {
         /// The address of the first word, which is even.
         address: u16,
-        /// How many words; no word stands behind 65,535. With none it is met by a row that names bytes on both sides.
+        /// How many words; with none it never stops a run, and no word stands behind 65,535.
         words: u16,
     },
 }

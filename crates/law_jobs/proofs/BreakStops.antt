@@ -19,7 +19,7 @@ use Rattle.pm_debug.specs.Breaks.{stands_at, stops_here, with_break, without_bre
 use Rattle.pm_debug.specs.Session.{Session}
 use Rattle.pm_session.specs.Answers.{after_command, with_breaks}
 use Rattle.law_jobs.specs.Breakpoints.{BreakIfStopsSo, BreakStopsThere, ClearStopsNoMore, ClearWordsStopsNoMore, WordsStopSo}
-use Rattle.law_jobs.specs.Breakpoints.{elsewhere, is_on_words, on_words}
+use Rattle.law_jobs.specs.Breakpoints.{WorkedWords, elsewhere, is_on_words, on_words}
 use Rattle.law_jobs.proofs.Breakpoints.{any_alike, same_places}
 
 and_of : (a b : Bool) → (a && b) ≡ true → (a ≡ true) × (b ≡ true)
@@ -226,3 +226,6 @@ words_stop_so on condition d t even asked few =
 pub clear_words_stops_no_more : ClearWordsStopsNoMore
 unfolding after_command
 clear_words_stops_no_more on d t = clear_stops t on d
+
+pub worked_words : WorkedWords
+worked_words = record { few = refl; none = refl; last = refl; half = refl; all = refl }

@@ -6,7 +6,7 @@ use Rattle.pm_words.specs.Words.{word_at}
 use Rattle.pm_words.specs.Stack.{is_even}
 use Rattle.pm_machine.specs.CodePlaces.{code_place}
 use Rattle.pm_machine.specs.State.{State}
-use Rattle.pm_debug.specs.Breaks.{can_be_asked, can_stand, holds, is_at_break, is_met, is_same, is_set}
+use Rattle.pm_debug.specs.Breaks.{bytes_from, can_be_asked, can_stand, holds, is_at_break, is_met, is_same, is_set}
 use Rattle.pm_debug.specs.Breaks.{stands_at, word_is}
 use Rattle.pm_debug.specs.declared.breaks.Breakpoint.{Breakpoint}
 use Rattle.pm_debug.specs.declared.breaks.Condition.{Condition}
@@ -157,3 +157,11 @@ pub record WordsAreRead : Type 0 where
   pub reads : order_of (codes "reads 8 2 if 6 = 7") ≡ Some (Does (commands.BreakOn (Reads 8 2) (Some (word_is 6 7))))
   pub writes : order_of (codes "writes 8 2") ≡ Some (Does (commands.BreakOn (Writes 8 2) None))
   pub clears : order_of (codes "clear reads 8 2") ≡ Some (Does (commands.ClearOn (Reads 8 2)))
+
+-- The bytes of the words of a breakpoint, worked out by hand: words in memory, none, and words behind its last byte.
+pub record WorkedWords : Type 0 where
+  pub few : bytes_from 1000 3 ≡ 6
+  pub none : bytes_from 1000 0 ≡ 0
+  pub last : bytes_from 65534 9 ≡ 2
+  pub half : bytes_from 65535 1 ≡ 1
+  pub all : bytes_from 0 40000 ≡ 65536

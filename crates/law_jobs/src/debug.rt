@@ -3,6 +3,7 @@
 ghost use Rattle.pm_debug.specs.Runs.{GoIsRun};
 ghost use Rattle.pm_debug.specs.RunLaws.{ChangesAreFirst, FalseConditionsStopNothing, GoStopsAtBreaks};
 ghost use Rattle.pm_debug.specs.RunLaws.{TrueConditionsAreNone};
+ghost use Rattle.law_jobs.specs.Breakpoints.{WorkedWords};
 
 /// Without breakpoints and watched words a run is the machine's own: as many steps, the same state,
 /// and the reason is the last answer; but on a machine that has ended the reason is that.
@@ -32,4 +33,10 @@ pub fn go_stops_at_breaks()
 pub fn conditions_decide()
     ensures nothing { FalseConditionsStopNothing }
     ensures same { TrueConditionsAreNone }
+{}
+
+/// The bytes of the words of a breakpoint, worked out by hand.
+#[tactic(auto, using(crate::proofs::BreakStops::worked_words))]
+pub fn worked_words()
+    ensures law { WorkedWords }
 {}

@@ -4,6 +4,7 @@ pub mod Spelled
 pub mod Literals
 pub mod Signs
 pub mod Variables
+pub mod Leaves
 pub mod Arithmetic
 pub mod Pointers
 pub mod Calls

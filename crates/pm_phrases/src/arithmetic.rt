@@ -1,52 +1,16 @@
 //! Operations on words as integers.
 
-ghost use Rattle.std.specs.Prelude.{◌≡◌, ◌<◌, IfOk};
+ghost use Rattle.std.specs.Prelude.{◌≡◌, IfOk};
 ghost use Rattle.pm_phrases.specs.Arithmetic as texts;
 
+use crate::leaf::Leaf;
 use crate::literals::push_beside;
-use crate::operand::{
-    Form, Phrase, Value, push_operand, room_for, standing, text, valued, written,
-};
+use crate::operand::{Form, Phrase, Value, leafed, push_operand, room_for, standing, text, valued};
 use crate::signs::{binary_sign, binary_strength, relation_sign};
-use crate::spelling::{Marks, Spelling};
+use crate::spelling::{Spelling, marks_of};
 use pm_code::Signed;
 use pm_families::{Arithmetic, Unary};
 use std::alloc::{AllocError, Global};
-
-/// An operator between its operands.
-#[tactic(auto, unfolding(crate::specs::Arithmetic::between))]
-pub(crate) fn infixed(
-    alloc: Global,
-    a: &Phrase,
-    sign: &'static str,
-    strength: u8,
-    b: &Phrase,
-) -> Result<Phrase, AllocError>
-    requires few { strength < 9 }
-    ensures shown { IfOk result (λ p. p ≡ texts.between a.now sign.now strength b.now) }
-{
-    let mut text = String::with_capacity(alloc, room_for(a, b))?;
-    push_operand(&mut text, a, strength)?;
-    text.push(' ')?;
-    text.push_str(sign)?;
-    text.push(' ')?;
-    push_operand(&mut text, b, strength + 1)?;
-    Ok(valued(text, strength))
-}
-
-/// A comparison.
-#[tactic(auto, unfolding(crate::specs::Arithmetic::compared))]
-fn compared(alloc: Global, a: &Phrase, sign: &'static str, b: &Phrase) -> Result<Phrase, AllocError>
-    ensures shown { IfOk result (λ p. p ≡ texts.compared a.now sign.now b.now) }
-{
-    let mut text = String::with_capacity(alloc, room_for(a, b))?;
-    push_beside(&mut text, b.form, a, 1)?;
-    text.push(' ')?;
-    text.push_str(sign)?;
-    text.push(' ')?;
-    push_beside(&mut text, a.form, b, 2)?;
-    Ok(valued(text, 1))
-}
 
 #[tactic(auto, unfolding(crate::specs::Arithmetic::arithmetic_alone))]
 pub(crate) fn arithmetic_alone(
@@ -58,11 +22,9 @@ pub(crate) fn arithmetic_alone(
 {
     match what {
         Arithmetic::Constant(word) => match spelling {
-            Spelling::Shortest => {
-                Ok(Some(standing(written(alloc, Signed(word))?, Form::Constant(word))))
-            }
+            Spelling::Shortest => Ok(Some(leafed(Leaf::Number(word), Form::Constant(word)))),
             _ => {
-                let text = text!(in alloc; "{}{}", Signed(word), Marks(spelling))?;
+                let text = text!(in alloc; "{}{}", Signed(word), marks_of(spelling))?;
                 let strength = if word < 32768 { 9 } else { 4 };
                 Ok(Some(standing(text, Form::Value(strength))))
             }
@@ -91,7 +53,7 @@ pub(crate) fn arithmetic_one(
     }))
 }
 
-#[tactic(auto, unfolding(crate::specs::Arithmetic::arithmetic_two))]
+#[tactic(auto, unfolding(crate::specs::Arithmetic::arithmetic_two, crate::specs::Arithmetic::between, crate::specs::Arithmetic::compared))]
 pub(crate) fn arithmetic_two(
     alloc: Global,
     what: Arithmetic,
@@ -104,9 +66,23 @@ pub(crate) fn arithmetic_two(
         (Form::Set(_), _) => Ok(None),
         (_, Arithmetic::OnTwo(o)) => {
             let strength = binary_strength(o);
-            Ok(Some(infixed(alloc, a, binary_sign(o), strength, b)?))
+            let mut text = String::with_capacity(alloc, room_for(a, b))?;
+            push_operand(&mut text, a, strength)?;
+            text.push(' ')?;
+            text.push_str(binary_sign(o))?;
+            text.push(' ')?;
+            push_operand(&mut text, b, strength + 1)?;
+            Ok(Some(valued(text, strength)))
         }
-        (_, Arithmetic::Compare(r)) => Ok(Some(compared(alloc, a, relation_sign(r), b)?)),
+        (_, Arithmetic::Compare(r)) => {
+            let mut text = String::with_capacity(alloc, room_for(a, b))?;
+            push_beside(&mut text, b.form, a, 1)?;
+            text.push(' ')?;
+            text.push_str(relation_sign(r))?;
+            text.push(' ')?;
+            push_beside(&mut text, a.form, b, 2)?;
+            Ok(Some(valued(text, 1)))
+        }
         _ => Ok(None),
     }
 }

@@ -50,9 +50,6 @@ pub(crate) fn stand_ins(alloc: Global, known: bool, what: Missing) -> Result<Pop
     if !known {
         return Ok(Pops::One(valued(String::from_str(alloc, "?")?, 9)));
     }
-    if let (Share::Words(0), Share::Words(0)) = (what.below, what.top) {
-        return Ok(Pops::None);
-    }
     let top = pop(alloc, what.top)?;
     if let Share::Words(0) = what.below {
         return Ok(match top {

@@ -5,7 +5,7 @@ ghost use Rattle.pm_phrases.specs.Comparisons as texts;
 
 use crate::operand::{Phrase, Place, Value, text, valued};
 use crate::signs::relation_sign;
-use crate::spelling::{Marks, Spelling};
+use crate::spelling::{Spelling, marks_of};
 use pm_families::{Kind, Relation};
 use std::alloc::{AllocError, Global};
 use std::fmt;
@@ -22,7 +22,7 @@ impl fmt::Display for KindName {
 
     #[tactic(auto, unfolding(crate::specs::Comparisons::kind_text))]
     fn fmt<W: fmt::Write>(&self, f: &mut fmt::Formatter<W>) -> fmt::Result {
-        let marks = Marks(self.spelling);
+        let marks = marks_of(self.spelling);
         match self.kind {
             Kind::Real => f.write_str("real"),
             Kind::String => f.write_str("str"),

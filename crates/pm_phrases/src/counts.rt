@@ -38,7 +38,7 @@ fn plain_none(
 {
     match what {
         Operation::Arithmetic(o) => arithmetic_alone(alloc, spelling_of(i, what), o),
-        Operation::Variable(o) => variable_alone(alloc, around, spelling_of(i, what), o),
+        Operation::Variable(o) => Ok(variable_alone(around, spelling_of(i, what), o)),
         Operation::Literal(what) => literal_alone(alloc, what, named),
         Operation::Return(what) => Ok(Some(returned(alloc, what)?)),
         _ => Ok(None),

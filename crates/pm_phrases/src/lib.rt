@@ -8,6 +8,7 @@ mod cases;
 mod comparisons;
 mod counts;
 mod jumps;
+mod leaf;
 mod literals;
 mod operand;
 mod parts;

@@ -2,8 +2,10 @@
 
 ghost use Rattle.std.specs.Prelude.{◌≡◌, ◌∷◌, ◌++◌, IfOk, IfSome, OnOk, Some, string_bytes};
 ghost use Rattle.std.specs.List.{flat_map};
+ghost use Rattle.pm_phrases.specs.Leaves.{leaf_text};
 ghost use Rattle.pm_phrases.specs.Shown as shown;
 
+use crate::leaf::{Leaf, Text, push_text};
 use std::alloc::{AllocError, Global};
 use std::fmt;
 use std::marker::Model;
@@ -22,8 +24,14 @@ pub(crate) fn written<D: fmt::Display + Drop>(alloc: Global, value: D) -> Result
 
 /// The room for the texts of two operands and what stands around them.
 pub(crate) fn room_for(a: &Phrase, b: &Phrase) -> usize {
-    ROOM.saturating_add(a.text.len())
-        .saturating_add(b.text.len())
+    let room = match a.as_str() {
+        Some(text) => ROOM.saturating_add(text.len()),
+        None => ROOM,
+    };
+    match b.as_str() {
+        Some(text) => room.saturating_add(text.len()),
+        None => room,
+    }
 }
 
 /// A text of what `format_args!` takes.
@@ -64,7 +72,7 @@ pub enum Form {
 #[derive(Drop)]
 pub struct Phrase {
     /// The text.
-    pub text: String,
+    pub(crate) text: Text,
     /// How it stands.
     pub form: Form,
     /// The bytes of the words in the code that it is, if it is such.
@@ -72,16 +80,38 @@ pub struct Phrase {
 }
 
 impl Model for Phrase {
-    ghost use Rattle.std.specs.Prelude.{option_map, string_bytes};
+    ghost use Rattle.std.specs.Prelude.{option_map};
+    ghost use Rattle.pm_phrases.specs.Leaves.{bytes_of};
     ghost use Rattle.pm_phrases.specs.Shown.{Shown};
 
     ghost Value = { Shown };
 
     ghost view = { λ o. record {
-      text = string_bytes o.text;
+      text = bytes_of o.text;
       form = o.form;
       words = option_map (λ bytes. bytes.items) o.words;
     } };
+}
+
+impl Phrase {
+    /// Where its text stands in memory, if it does.
+    pub fn as_str(&self) -> Option<&str>
+        ensures text { IfSome result (λ text. text.now ≡ self.now.text) }
+    {
+        match &self.text {
+            Text::Written(text) => Some(text.as_str()),
+            Text::Leaf(_) => None,
+        }
+    }
+
+    /// Its text.
+    pub fn to_text(&self, alloc: Global) -> Result<String, AllocError>
+        ensures text { IfOk result (λ text. string_bytes text ≡ self.now.text) }
+    {
+        let mut text = String::with_capacity(alloc, ROOM)?;
+        push_text(&mut text, &self.text)?;
+        Ok(text)
+    }
 }
 
 /// How strongly a text of a form holds together as a value.
@@ -106,21 +136,6 @@ fn lead_of(form: Form) -> &'static str
     }
 }
 
-/// Whether a text of a form is itself what an address leads to.
-fn is_place(form: Form) -> bool
-    ensures place { result ≡ shown.is_place form }
-{
-    match form {
-        Form::Variable | Form::Place | Form::Element | Form::Literal => true,
-        Form::Value(_)
-        | Form::Set(_)
-        | Form::Constant(_)
-        | Form::Byte
-        | Form::Character
-        | Form::Bits => false,
-    }
-}
-
 /// A text as a value, beside something of a strength: in brackets where it is weaker, and with `@` in front where it is
 /// the place that an address leads to.
 #[derive(Clone, Copy)]
@@ -132,21 +147,21 @@ impl fmt::Display for Value<'_> {
     #[tactic(auto, unfolding(crate::specs::Shown::value_text))]
     fn fmt<W: fmt::Write>(&self, f: &mut fmt::Formatter<W>) -> fmt::Result {
         let operand = self.0;
-        let text = operand.text.as_str();
+        let text = &operand.text;
         let form = operand.form;
         if strength_of(form) < self.1 {
             f.write_str("(")?;
             f.write_str(lead_of(form))?;
-            f.write_str(text)?;
+            f.write(text)?;
             return f.write_str(")");
         }
         match form {
             Form::Value(_) | Form::Set(_) | Form::Constant(_) | Form::Byte | Form::Literal => {
-                f.write_str(text)
+                f.write(text)
             }
             Form::Variable | Form::Place | Form::Element | Form::Character | Form::Bits => {
                 f.write_str("@")?;
-                f.write_str(text)
+                f.write(text)
             }
         }
     }
@@ -162,21 +177,21 @@ pub(crate) fn push_operand(
     ensures text { OnOk result
         (string_bytes out.new ≡ string_bytes out.old ++ shown.value_text phrase.now strength) }
 {
-    let text = phrase.text.as_str();
+    let text = &phrase.text;
     let form = phrase.form;
     if strength_of(form) < strength {
         out.push('(')?;
         out.push_str(lead_of(form))?;
-        out.push_str(text)?;
+        push_text(out, text)?;
         return out.push(')');
     }
     match form {
         Form::Value(_) | Form::Set(_) | Form::Constant(_) | Form::Byte | Form::Literal => {
-            out.push_str(text)
+            push_text(out, text)
         }
         Form::Variable | Form::Place | Form::Element | Form::Character | Form::Bits => {
             out.push('@')?;
-            out.push_str(text)
+            push_text(out, text)
         }
     }
 }
@@ -198,27 +213,14 @@ impl fmt::Display for Place<'_> {
     #[tactic(auto, unfolding(crate::specs::Shown::place_text))]
     fn fmt<W: fmt::Write>(&self, f: &mut fmt::Formatter<W>) -> fmt::Result {
         let operand = self.0;
-        if is_place(operand.form) {
-            f.write_str(operand.text.as_str())
-        } else {
-            write!(f, "{}^", Value(operand, 9))
-        }
-    }
-}
-
-/// The place that a word is stored to by its address, also where that is a variable's.
-#[derive(Clone, Copy)]
-pub(crate) struct Stored<'a>(pub &'a Phrase);
-
-impl fmt::Display for Stored<'_> {
-    ghost output = { λ p. Some (shown.stored_text p.0.now) };
-
-    #[tactic(auto, unfolding(crate::specs::Shown::stored_text))]
-    fn fmt<W: fmt::Write>(&self, f: &mut fmt::Formatter<W>) -> fmt::Result {
-        let operand = self.0;
         match operand.form {
-            Form::Variable => write!(f, "{}^", Value(operand, 9)),
-            _ => f.write(Place(operand)),
+            Form::Variable | Form::Place | Form::Element | Form::Literal => f.write(&operand.text),
+            Form::Value(_)
+            | Form::Set(_)
+            | Form::Constant(_)
+            | Form::Byte
+            | Form::Character
+            | Form::Bits => write!(f, "{}^", Value(operand, 9)),
         }
     }
 }
@@ -251,11 +253,22 @@ pub(crate) fn push_listed(out: &mut String, operands: &[Phrase]) -> Result<(), A
     }
 }
 
+/// A text that needs no memory as an operand.
+pub(crate) fn leafed(leaf: Leaf, form: Form) -> Phrase
+    ensures standing { result ≡ shown.standing form (leaf_text leaf) }
+{
+    Phrase {
+        text: Text::Leaf(leaf),
+        form,
+        words: None,
+    }
+}
+
 pub(crate) fn standing(text: String, form: Form) -> Phrase
     ensures standing { result ≡ shown.standing form (string_bytes text) }
 {
     Phrase {
-        text,
+        text: Text::Written(text),
         form,
         words: None,
     }

@@ -3,6 +3,7 @@
 ghost use Rattle.std.specs.Prelude.{◌≡◌, IfOk, Some, string_bytes};
 ghost use Rattle.pm_phrases.specs.Parts as texts;
 
+use crate::leaf::push_text;
 use crate::literals::push_beside;
 use crate::operand::{Form, Phrase, Place, Value, room_for, standing, text, valued};
 use pm_families::{Byte, Field, Text};
@@ -14,7 +15,7 @@ fn part_stored(alloc: Global, kind: Form, a: &Phrase, b: &Phrase) -> Result<Phra
     ensures shown { IfOk result (λ p. p ≡ texts.part_stored kind a.now b.now) }
 {
     let mut text = String::with_capacity(alloc, room_for(a, b))?;
-    text.push_str(a.text.as_str())?;
+    push_text(&mut text, &a.text)?;
     text.push_str(" := ")?;
     push_beside(&mut text, kind, b, 0)?;
     Ok(valued(text, 0))
@@ -25,10 +26,7 @@ pub(crate) fn byte_one(alloc: Global, what: Byte, a: &Phrase) -> Result<Option<P
     ensures shown { IfOk result (λ p. p ≡ texts.byte_one what a.now) }
 {
     match (what, a.form) {
-        (Byte::Load, Form::Character) => {
-            let text = String::from_str(alloc, a.text.as_str())?;
-            Ok(Some(standing(text, Form::Byte)))
-        }
+        (Byte::Load, Form::Character) => { Ok(Some(standing(a.to_text(alloc)?, Form::Byte))) }
         _ => Ok(None),
     }
 }
@@ -102,10 +100,7 @@ pub(crate) fn field_one(
     ensures shown { IfOk result (λ p. p ≡ texts.field_one what a.now) }
 {
     match (what, a.form) {
-        (Field::Load, Form::Bits) => {
-            let text = String::from_str(alloc, a.text.as_str())?;
-            Ok(Some(valued(text, 9)))
-        }
+        (Field::Load, Form::Bits) => { Ok(Some(valued(a.to_text(alloc)?, 9))) }
         _ => Ok(None),
     }
 }

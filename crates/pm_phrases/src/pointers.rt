@@ -3,10 +3,8 @@
 ghost use Rattle.std.specs.Prelude.{◌≡◌, IfOk, Some};
 ghost use Rattle.pm_phrases.specs.Pointers as texts;
 
-use crate::operand::{
-    Form, Phrase, Place, Stored, Value, push_value, standing, text, valued, written,
-};
-use crate::spelling::{Marks, Spelling};
+use crate::operand::{Form, Phrase, Place, Value, push_value, standing, text, valued, written};
+use crate::spelling::{Spelling, marks_of};
 use pm_families::Pointer;
 use std::alloc::{AllocError, Global};
 
@@ -22,19 +20,7 @@ fn is_unnumbered(spelling: Spelling, form: Form, number: u16) -> bool
     }
 }
 
-#[tactic(auto, unfolding(crate::specs::Pointers::loaded))]
-fn loaded(alloc: Global, spelling: Spelling, number: u16, a: &Phrase) -> Result<Phrase, AllocError>
-    ensures shown { IfOk result (λ p. p ≡ texts.loaded spelling number a.now) }
-{
-    if is_unnumbered(spelling, a.form, number) {
-        Ok(valued(written(alloc, Place(a))?, 9))
-    } else {
-        let text = text!(in alloc; "{}.{number}{}", Place(a), Marks(spelling))?;
-        Ok(valued(text, 9))
-    }
-}
-
-#[tactic(auto, unfolding(crate::specs::Pointers::pointer_one))]
+#[tactic(auto, unfolding(crate::specs::Pointers::pointer_one, crate::specs::Pointers::loaded))]
 pub(crate) fn pointer_one(
     alloc: Global,
     spelling: Spelling,
@@ -45,10 +31,16 @@ pub(crate) fn pointer_one(
 {
     match what {
         Pointer::Increment(n) => {
-            let text = text!(in alloc; "{}.{n}{}", Place(a), Marks(spelling))?;
+            let text = text!(in alloc; "{}.{n}{}", Place(a), marks_of(spelling))?;
             Ok(Some(standing(text, Form::Place)))
         }
-        Pointer::Load(n) => Ok(Some(loaded(alloc, spelling, n, a)?)),
+        Pointer::Load(n) if is_unnumbered(spelling, a.form, n) => {
+            Ok(Some(valued(written(alloc, Place(a))?, 9)))
+        }
+        Pointer::Load(n) => {
+            let text = text!(in alloc; "{}.{n}{}", Place(a), marks_of(spelling))?;
+            Ok(Some(valued(text, 9)))
+        }
         Pointer::LoadWords(n) => Ok(Some(valued(text!(in alloc; "load[{n}] {}", Place(a))?, 4))),
         _ => Ok(None),
     }
@@ -70,29 +62,14 @@ fn indexed(
             Ok(standing(text, Form::Element))
         }
         _ => {
-            let marks = Marks(spelling);
+            let marks = marks_of(spelling);
             let text = text!(in alloc; "{}[{}:{number}{marks}]", Place(a), Value(b, 0))?;
             Ok(standing(text, Form::Element))
         }
     }
 }
 
-#[tactic(auto, unfolding(crate::specs::Pointers::moved))]
-fn moved(
-    alloc: Global,
-    spelling: Spelling,
-    number: u16,
-    a: &Phrase,
-    b: &Phrase,
-) -> Result<Phrase, AllocError>
-    ensures shown { IfOk result (λ p. p ≡ texts.moved spelling number a.now b.now) }
-{
-    let marks = Marks(spelling);
-    let text = text!(in alloc; "{} := move[{number}{marks}] {}", Place(a), Place(b))?;
-    Ok(valued(text, 0))
-}
-
-#[tactic(auto, unfolding(crate::specs::Pointers::pointer_two))]
+#[tactic(auto, unfolding(crate::specs::Pointers::pointer_two, crate::specs::Pointers::moved, crate::specs::Shown::stored_text))]
 pub(crate) fn pointer_two(
     alloc: Global,
     spelling: Spelling,
@@ -102,19 +79,27 @@ pub(crate) fn pointer_two(
 ) -> Result<Option<Phrase>, AllocError>
     ensures shown { IfOk result (λ p. p ≡ texts.pointer_two spelling what a.now b.now) }
 {
-    match what {
-        Pointer::Index(n) => Ok(Some(indexed(alloc, spelling, n, a, b)?)),
-        Pointer::Store => {
-            let mut text = written(alloc, Stored(a))?;
+    match (what, a.form) {
+        (Pointer::Index(n), _) => Ok(Some(indexed(alloc, spelling, n, a, b)?)),
+        (Pointer::Store, Form::Variable) => {
+            let text = text!(in alloc; "{}^ := {}", Value(a, 9), Value(b, 0))?;
+            Ok(Some(valued(text, 0)))
+        }
+        (Pointer::Store, _) => {
+            let mut text = written(alloc, Place(a))?;
             text.push_str(" := ")?;
             push_value(&mut text, b)?;
             Ok(Some(valued(text, 0)))
         }
-        Pointer::StoreWords(n) => {
+        (Pointer::StoreWords(n), _) => {
             let text = text!(in alloc; "{} :=[{n}] {}", Place(a), Value(b, 0))?;
             Ok(Some(valued(text, 0)))
         }
-        Pointer::Move(n) => Ok(Some(moved(alloc, spelling, n, a, b)?)),
+        (Pointer::Move(n), _) => {
+            let marks = marks_of(spelling);
+            let text = text!(in alloc; "{} := move[{n}{marks}] {}", Place(a), Place(b))?;
+            Ok(Some(valued(text, 0)))
+        }
         _ => Ok(None),
     }
 }

@@ -1,11 +1,10 @@
 //! How an instruction is spelled, beside its shortest spelling.
 
-ghost use Rattle.std.specs.Prelude.{◌≡◌, Some};
+ghost use Rattle.std.specs.Prelude.{◌≡◌};
 ghost use Rattle.pm_phrases.specs.Spelled as spelled;
 
 use pm_families::{Arithmetic, Pointer, Scope, Variable};
 use pm_opcode::{Instr, Operation, implied_number};
-use std::fmt;
 
 /// How an instruction is spelled.
 #[derive(Clone, Copy)]
@@ -19,18 +18,13 @@ pub(crate) enum Spelling {
 }
 
 /// The marks of a spelling.
-#[derive(Clone, Copy)]
-pub(crate) struct Marks(pub Spelling);
-
-impl fmt::Display for Marks {
-    ghost output = { λ m. Some (spelled.marks m.0) };
-
-    fn fmt<W: fmt::Write>(&self, f: &mut fmt::Formatter<W>) -> fmt::Result {
-        match self.0 {
-            Spelling::Shortest => Ok(()),
-            Spelling::Longer => f.write_str("!"),
-            Spelling::Longest => f.write_str("!!"),
-        }
+pub(crate) fn marks_of(spelling: Spelling) -> &'static str
+    ensures marks { result.now ≡ spelled.marks spelling }
+{
+    match spelling {
+        Spelling::Shortest => "",
+        Spelling::Longer => "!",
+        Spelling::Longest => "!!",
     }
 }
 

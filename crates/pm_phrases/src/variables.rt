@@ -1,18 +1,18 @@
 //! Variables.
 
-ghost use Rattle.std.specs.Prelude.{◌≡◌, IfOk, Some};
+ghost use Rattle.std.specs.Prelude.{◌≡◌, ◌++◌, IfOk, OnOk, string_bytes};
 ghost use Rattle.pm_phrases.specs.Variables as texts;
 
 use crate::around::Around;
-use crate::operand::{Form, Phrase, push_value, standing, valued, written};
-use crate::spelling::{Marks, Spelling};
+use crate::leaf::{Leaf, push_number};
+use crate::operand::{Form, Phrase, ROOM, leafed, push_value, valued};
+use crate::spelling::{Spelling, marks_of};
 use pm_families::{Scope, Variable};
 use std::alloc::{AllocError, Global};
-use std::fmt;
 
 /// What a variable of the procedure is.
 #[tactic(auto, unfolding(crate::specs::Variables::local_word))]
-fn local_word(around: Around, number: u16) -> &'static str
+pub(crate) fn local_word(around: Around, number: u16) -> &'static str
     ensures word { result.now ≡ texts.local_word around number }
 {
     if 1 <= number && number <= around.parameters {
@@ -22,58 +22,53 @@ fn local_word(around: Around, number: u16) -> &'static str
     }
 }
 
-/// A variable by its scope and number, with the marks of a spelling.
-#[derive(Clone, Copy)]
-struct Named(Around, Scope, u16, Spelling);
-
-impl fmt::Display for Named {
-    ghost output = { λ n. Some (texts.variable_text n.0 n.1 n.2 n.3) };
-
-    #[tactic(auto, unfolding(crate::specs::Variables::variable_text))]
-    fn fmt<W: fmt::Write>(&self, f: &mut fmt::Formatter<W>) -> fmt::Result {
-        let Named(around, scope, number, spelling) = *self;
-        let marks = Marks(spelling);
-        match scope {
-            Scope::Global => {
-                f.write_str("global")?;
-                f.write(number)?;
-                f.write(marks)
-            }
-            Scope::Local => {
-                f.write_str(local_word(around, number))?;
-                f.write(number)?;
-                f.write(marks)
-            }
-            Scope::Intermediate(links) => {
-                f.write_str("up")?;
-                f.write(links)?;
-                f.write_str("_")?;
-                f.write(number)?;
-                f.write(marks)
-            }
+/// Adds a variable by its scope and number, with the marks of a spelling.
+#[tactic(auto, unfolding(crate::specs::Variables::variable_text))]
+pub(crate) fn push_name(
+    out: &mut String,
+    around: Around,
+    scope: Scope,
+    number: u16,
+    spelling: Spelling,
+) -> Result<(), AllocError>
+    ensures text { OnOk result
+        (string_bytes out.new ≡ string_bytes out.old ++ texts.variable_text around scope number spelling) }
+{
+    match scope {
+        Scope::Global => {
+            out.push_str("global")?;
+            push_number(out, u32::from(number))?;
+            out.push_str(marks_of(spelling))
+        }
+        Scope::Local => {
+            out.push_str(local_word(around, number))?;
+            push_number(out, u32::from(number))?;
+            out.push_str(marks_of(spelling))
+        }
+        Scope::Intermediate(links) => {
+            out.push_str("up")?;
+            push_number(out, u32::from(links))?;
+            out.push('_')?;
+            push_number(out, u32::from(number))?;
+            out.push_str(marks_of(spelling))
         }
     }
 }
 
 #[tactic(auto, unfolding(crate::specs::Variables::variable_alone))]
-pub(crate) fn variable_alone(
-    alloc: Global,
-    around: Around,
-    spelling: Spelling,
-    what: Variable,
-) -> Result<Option<Phrase>, AllocError>
-    ensures shown { IfOk result (λ p. p ≡ texts.variable_alone around spelling what) }
+pub(crate) fn variable_alone(around: Around, spelling: Spelling, what: Variable) -> Option<Phrase>
+    ensures shown { result ≡ texts.variable_alone around spelling what }
 {
     match what {
         Variable::Address(scope, number) => {
-            let name = Named(around, scope, number, spelling);
-            Ok(Some(standing(written(alloc, name)?, Form::Variable)))
+            let name = Leaf::Variable(around, scope, number, spelling);
+            Some(leafed(name, Form::Variable))
         }
         Variable::Load(scope, number) => {
-            let name = Named(around, scope, number, spelling);
-            Ok(Some(valued(written(alloc, name)?, 9)))
+            let name = Leaf::Variable(around, scope, number, spelling);
+            Some(leafed(name, Form::Value(9)))
         }
-        Variable::Store(_, _) => Ok(None),
+        Variable::Store(_, _) => None,
     }
 }
 
@@ -89,8 +84,8 @@ pub(crate) fn variable_one(
 {
     match what {
         Variable::Store(scope, number) => {
-            let name = Named(around, scope, number, spelling);
-            let mut text = written(alloc, name)?;
+            let mut text = String::with_capacity(alloc, ROOM)?;
+            push_name(&mut text, around, scope, number, spelling)?;
             text.push_str(" := ")?;
             push_value(&mut text, a)?;
             Ok(Some(valued(text, 0)))

@@ -15,22 +15,27 @@ use pm_trees::{Left, Line, Role, Word};
 use std::alloc::{AllocError, Global};
 use std::fmt::Write;
 
-/// Adds a condition between two texts.
+/// Adds a condition between two texts, by the text of its statement.
 fn push_between(
     alloc: Global,
     out: &mut String,
     front: &str,
     role: Role,
-    text: &str,
+    phrase: &Phrase,
     tail: &str,
 ) -> Result<(), AllocError>
     ensures text { OnOk result (string_bytes out.new
-        ≡ string_bytes out.old ++ (front.now ++ (texts.condition_text role text.now ++ tail.now))) }
+        ≡ string_bytes out.old ++ (front.now ++ (texts.condition_text role phrase.now.text ++ tail.now))) }
 {
     out.push_str(front)?;
-    push_condition(alloc, out, role, text)?;
-    out.push_str(tail)?;
-    Ok(())
+    match phrase.as_str() {
+        Some(text) => push_condition(alloc, out, role, text)?,
+        None => {
+            let text = phrase.to_text(alloc)?;
+            push_condition(alloc, out, role, text.as_str())?;
+        }
+    }
+    out.push_str(tail)
 }
 
 /// Adds a statement by its word, without its offset.
@@ -45,15 +50,11 @@ fn push_word(
     ensures text { OnOk result (string_bytes out.new
         ≡ string_bytes out.old ++ texts.word_text word left.now phrase.now) }
 {
-    let text = phrase.text.as_str();
     match word {
         Word::Plain(_) => push_own(out, left.leaves, phrase)?,
-        Word::If => push_between(alloc, out, "IF ", left.role, text, " THEN")?,
-        Word::While => push_between(alloc, out, "WHILE ", left.role, text, " DO")?,
-        Word::Until => {
-            out.push_str("UNTIL ")?;
-            push_condition(alloc, out, left.role, text)?;
-        }
+        Word::If => push_between(alloc, out, "IF ", left.role, phrase, " THEN")?,
+        Word::While => push_between(alloc, out, "WHILE ", left.role, phrase, " DO")?,
+        Word::Until => push_between(alloc, out, "UNTIL ", left.role, phrase, "")?,
         Word::Else => out.push_str("ELSE")?,
         Word::EndWhile => out.push_str("END")?,
         Word::Case => out.push_str("CASE")?,

@@ -114,7 +114,7 @@ pub(crate) fn stretches(
 ) -> Result<Vec<Statement>, AllocError>
     ensures stretches { IfOk result (λ ss. ss.items ≡ leading.stretches start entries.now end lefts.now phrases.now) }
 {
-    let mut list = Vec::new(alloc);
+    let mut list = Vec::with_capacity(alloc, lefts.len())?;
     let mut rest = phrases;
     let mut more = lefts;
     for left in lefts {

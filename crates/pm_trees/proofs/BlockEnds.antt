@@ -1,9 +1,8 @@
 -- Ends that are kept by place.
 use Rattle.std.proofs.Common.{◌≡◌, ◌<◌, ℕ, zero, suc, Bool, true, false, List, [], ◌∷◌, ◌++◌, length, set, replicate, refl, sym, ap, ◌∙◌, arith, Option}
 use Rattle.std.specs.Prelude.{◌==◌, if◌then◌else◌}
-use Rattle.pm_trees.specs.declared.backs.Way.{Way}
 use Rattle.pm_trees.specs.declared.statement.Statement.{Statement}
-use Rattle.pm_trees.specs.Backs.{back_end, back_place, later_end, written}
+use Rattle.pm_trees.specs.Backs.{Way, back_end, back_place, later_end, written}
 use Rattle.std.proofs.lemmas.List.{get_or-set_other, get_or-set_same}
 use Rattle.std.proofs.lemmas.Bool.Decides.{nat_tests}
 

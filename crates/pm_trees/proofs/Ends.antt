@@ -6,7 +6,7 @@ use Rattle.std.proofs.lemmas.Bool.Decides.{nat_tests}
 use Rattle.std.proofs.lemmas.List.{reverse-append, reverse-reverse, length-reverse, length-drop, take-append-drop, drop_all, take_all}
 use Rattle.std.proofs.Math.Seq.{drop-append_seam, take-append_seam}
 use Rattle.pm_trees.specs.declared.part.Leaves.{Leaves}
-use Rattle.pm_trees.specs.Trees.{first_place, is_operand, is_set, words_left}
+use Rattle.pm_trees.specs.Trees.{first_place, is_operand, is_set, words_count, words_left}
 use Rattle.pm_trees.specs.declared.left.Left.{Left}
 use Rattle.pm_trees.specs.declared.part.Place.{Place}
 use Rattle.pm_trees.specs.Piles.{leaves_left}
@@ -25,6 +25,11 @@ operand_fits n l h =
     let more = and_parts (not (n == 0)) (not (is_set l) && nat_le (words_left l) n) h in
     let low = and_parts (not (is_set l)) (nat_le (words_left l) n) more.1 in
     grind (arith, nat_tests, low.1)
+
+pub no_words : (ls : List Leaves) → words_count 0 ls ≡ record { trees = 0; missing = 0 }
+unfolding words_count
+no_words [] = refl
+no_words (l ∷ ls) = refl
 
 pub leaves_dropped : (k : ℕ) (l : List Left) → leaves_left (drop k l) ≡ drop k (leaves_left l)
 leaves_dropped zero l = refl

@@ -2,20 +2,24 @@
 use Rattle.std.specs.Prelude.{◌≡◌, ℕ, ◌==◌, nat_le, if◌then◌else◌, List, [], ◌∷◌, slice_index_or, Option, Some, None}
 use Rattle.pm_trees.specs.declared.backs.Backs.{Backs}
 use Rattle.pm_trees.specs.declared.backs.Loops.{Loops}
-use Rattle.pm_trees.specs.declared.backs.Way.{Way}
-use Rattle.pm_trees.specs.declared.backs.Way.TheVariants as way
 use Rattle.pm_trees.specs.declared.statement.Leads.{Leads}
 use Rattle.pm_trees.specs.declared.statement.Leads.TheVariants as leads
 use Rattle.pm_trees.specs.declared.statement.Statement.{Statement}
+
+-- how a statement leads to another place: by a condition, always, or to one of several places by a value
+pub data Way : Type 0 where
+  ByCondition : Way
+  Always : Way
+  ByValue : Way
 
 abbrev pub back_to : ℕ → ℕ → Option ℕ
 back_to place at = if nat_le place at then Some place else None
 
 -- where a statement leads that way, if that is itself or lies before it; where it begins, if it leads by a value
 abbrev pub back_place : Way → Leads → ℕ → Option ℕ
-back_place way.ByCondition (leads.ByCondition place) at = back_to place at
-back_place way.Always (leads.Always place) at = back_to place at
-back_place way.ByValue leads.ByValue at = Some at
+back_place ByCondition (leads.ByCondition place) at = back_to place at
+back_place Always (leads.Always place) at = back_to place at
+back_place ByValue leads.ByValue at = Some at
 back_place _ _ at = None
 
 -- the end of one statement more, if that is its place
@@ -49,13 +53,13 @@ place_of leads.ByValue = 0
 -- where the loops end that begin where a statement does, and the CASE to which it leads
 abbrev pub loops_at : List Statement → Statement → Loops
 loops_at ss s = record {
-  by_condition = loop_end way.ByCondition s.at ss;
-  always = loop_end way.Always s.at ss;
-  by_value = loop_end way.ByValue (place_of s.leads) ss;
+  by_condition = loop_end ByCondition s.at ss;
+  always = loop_end Always s.at ss;
+  by_value = loop_end ByValue (place_of s.leads) ss;
 }
 
 -- The ends that are kept are those of these statements.
 pub record IsOf (b : Backs) (ss : List Statement) : Type 0 where
-  pub by_condition : AreEnds b.by_condition.items way.ByCondition ss
-  pub always : AreEnds b.always.items way.Always ss
-  pub by_value : AreEnds b.by_value.items way.ByValue ss
+  pub by_condition : AreEnds b.by_condition.items ByCondition ss
+  pub always : AreEnds b.always.items Always ss
+  pub by_value : AreEnds b.by_value.items ByValue ss

@@ -3,20 +3,10 @@
 ghost use Rattle.std.specs.Prelude.{◌≡◌, ◌<◌, ◌==◌, ℕ, List, length, if◌then◌else◌, IfOk, OnOk};
 ghost use Rattle.pm_trees.specs.Backs as backs;
 ghost use Rattle.pm_trees.specs.declared.statement.Statement.{Statement};
+ghost use Rattle.pm_trees.specs.Backs.Way.{Always, ByCondition, ByValue};
 
 use crate::statement::{Leads, Statement};
 use std::alloc::{AllocError, Global};
-
-/// How a statement leads to another place.
-#[derive(Clone, Copy, Drop)]
-pub enum Way {
-    /// By a condition.
-    ByCondition,
-    /// Always.
-    Always,
-    /// To one of several places, by a value.
-    ByValue,
-}
 
 /// Where the last statements end that lead back to where a statement begins, or by a value from where it leads; 0 where
 /// none does.
@@ -35,18 +25,6 @@ fn back_to(place: usize, at: usize) -> Option<usize>
     ensures place { result ≡ backs.back_to place at }
 {
     if place <= at { Some(place) } else { None }
-}
-
-/// Where a statement leads that way, if that is itself or lies before it; where it begins, if it leads by a value.
-fn back_place(way: Way, leads: Leads, at: usize) -> Option<usize>
-    ensures place { result ≡ backs.back_place way leads at }
-{
-    match (way, leads) {
-        (Way::ByCondition, Leads::ByCondition(place)) => back_to(place, at),
-        (Way::Always, Leads::Always(place)) => back_to(place, at),
-        (Way::ByValue, Leads::ByValue) => Some(at),
-        _ => None,
-    }
 }
 
 /// Makes room for a place.
@@ -86,18 +64,6 @@ fn add_end(ends: &mut Vec<usize>, back: Option<usize>, behind: usize) -> Result<
     }
 }
 
-/// For each place where the last statement ends that leads back to it that way, or from it by a value.
-fn ends_of(alloc: Global, way: Way, statements: &[Statement]) -> Result<Vec<usize>, AllocError>
-    ensures ends { IfOk result (λ ends. backs.AreEnds ends.items way statements.now) }
-{
-    let mut ends = Vec::new(alloc);
-    for statement in statements {
-        let back = back_place(way, statement.leads, statement.at);
-        add_end(&mut ends, back, statement.behind)?;
-    }
-    Ok(ends)
-}
-
 /// The end that is written for a place.
 fn end_at(ends: &[usize], place: usize) -> usize
     ensures end { result ≡ backs.written ends.now place }
@@ -126,6 +92,27 @@ pub(crate) struct Backs {
     by_value: Vec<usize>,
 }
 
+/// Writes the end of a statement for the place to which it leads back, or from which it leads by a value.
+fn add_statement(ends: &mut Backs, statement: &Statement) -> Result<(), AllocError>
+    ensures by_condition { OnOk result ((p : ℕ) → backs.written ends.new.by_condition.items p
+        ≡ backs.later_end p (backs.written ends.old.by_condition.items p)
+        (backs.back_place ByCondition statement.now.leads statement.now.at) statement.now.behind) }
+    ensures always { OnOk result ((p : ℕ) → backs.written ends.new.always.items p
+        ≡ backs.later_end p (backs.written ends.old.always.items p)
+        (backs.back_place Always statement.now.leads statement.now.at) statement.now.behind) }
+    ensures by_value { OnOk result ((p : ℕ) → backs.written ends.new.by_value.items p
+        ≡ backs.later_end p (backs.written ends.old.by_value.items p)
+        (backs.back_place ByValue statement.now.leads statement.now.at) statement.now.behind) }
+{
+    let (at, behind) = (statement.at, statement.behind);
+    match statement.leads {
+        Leads::Nowhere => Ok(()),
+        Leads::ByCondition(place) => add_end(&mut ends.by_condition, back_to(place, at), behind),
+        Leads::Always(place) => add_end(&mut ends.always, back_to(place, at), behind),
+        Leads::ByValue => set_end(&mut ends.by_value, at, behind),
+    }
+}
+
 impl Backs {
     ghost use Rattle.pm_trees.specs.Backs.{IsOf};
 
@@ -133,11 +120,15 @@ impl Backs {
     pub(crate) fn of(alloc: Global, statements: &[Statement]) -> Result<Backs, AllocError>
         ensures of { IfOk result (λ backs. IsOf backs statements.now) }
     {
-        Ok(Backs {
-            by_condition: ends_of(alloc, Way::ByCondition, statements)?,
-            always: ends_of(alloc, Way::Always, statements)?,
-            by_value: ends_of(alloc, Way::ByValue, statements)?,
-        })
+        let mut ends = Backs {
+            by_condition: Vec::new(alloc),
+            always: Vec::new(alloc),
+            by_value: Vec::new(alloc),
+        };
+        for statement in statements {
+            add_statement(&mut ends, statement)?;
+        }
+        Ok(ends)
     }
 
     /// The loops that begin where a statement does, and the CASE to which it leads.

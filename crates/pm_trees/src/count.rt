@@ -112,13 +112,17 @@ fn count_set(operands: &[Left]) -> CountShare
 }
 
 /// How many of the last trees are taken as a share.
-#[tactic(auto, unfolding(crate::specs::Trees::share_count))]
+#[tactic(auto, using(crate::proofs::Ends::no_words), unfolding(crate::specs::Trees::share_count))]
 fn count_share(operands: &[Left], share: Share) -> CountShare
     ensures trees { result.trees ≡ (trees.share_count share (leaves_left (reverse operands.now))).trees }
     ensures missing { result.missing ≡ (trees.share_count share (leaves_left (reverse operands.now))).missing }
     ensures few { result.trees ≤ length operands.now }
 {
     match share {
+        Share::Words(0) => CountShare {
+            trees: 0,
+            missing: Share::Words(0),
+        },
         Share::Words(words) => {
             let count = count_words(operands, words);
             CountShare {

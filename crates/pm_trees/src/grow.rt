@@ -11,9 +11,6 @@ use crate::pile::{Pile, Tree, last_of};
 use pm_phrases::{Around, phrase};
 use std::alloc::{AllocError, Global};
 
-/// Of how many parts there is room for a statement from the start.
-const ROOM: usize = 4;
-
 /// A part behind the last of some trees, as it takes them.
 #[tactic(auto, using(crate::proofs::Ends::last_again, crate::proofs::Ends::reverse_last))]
 fn tree_of(
@@ -81,7 +78,7 @@ pub fn statements(alloc: Global, around: Around, parts: &[Part<'_>]) -> Result<P
     ensures statements { IfOk result (λ pile. pile ≡ texts.pile_of around (trees.statements parts.now)) }
 {
     let mut pending = Pile::new(alloc);
-    let mut done = Pile::with_room(alloc, parts.len() / ROOM)?;
+    let mut done = Pile::with_room(alloc, parts.len())?;
     for part in parts {
         before_part(part, &mut pending, &mut done)?;
         add(alloc, around, part, &mut pending, &mut done)?;

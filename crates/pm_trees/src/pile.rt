@@ -83,6 +83,9 @@ impl Pile {
     pub(crate) fn drop_last(&mut self, count: usize)
         ensures rest { self.new ≡ texts.rest_of count self.old }
     {
+        if count == 0 {
+            return;
+        }
         self.lefts.truncate(self.lefts.len().saturating_sub(count));
         self.phrases
             .truncate(self.phrases.len().saturating_sub(count));

@@ -12,6 +12,9 @@ use crate::statement::Statement;
 use crate::step::{open_behind, open_repeat, word_by};
 use std::alloc::{AllocError, Global};
 
+/// Of how many statements there is room for a line more, that ends a block.
+const BLOCK: usize = 8;
+
 /// The place behind the last statement.
 #[tactic(auto, using(crate::proofs::Lists::end_behind_last))]
 fn code_end(statements: &[Statement]) -> usize
@@ -80,7 +83,8 @@ fn try_blocks(alloc: Global, statements: &[Statement]) -> Result<Tried, AllocErr
 {
     let limit = code_end(statements);
     let backs = Backs::of(alloc, statements)?;
-    let mut lines = Vec::with_capacity(alloc, statements.len())?;
+    let room = statements.len().saturating_add(statements.len() / BLOCK);
+    let mut lines = Vec::with_capacity(alloc, room)?;
     let mut nest = Vec::new(alloc);
     let mut so_far = true;
     for statement in statements {

@@ -1,4 +1,4 @@
-"""multiples.py [PMACH]: what `dis --statements`, `--indent` and `--blocks` take of the processor beside `dis`: instructions by valgrind, as
+"""multiples.py [PMACH [each]]: what `dis --statements`, `--indent` and `--blocks` take of the processor beside `dis`: instructions by valgrind, as
 multiples, and behind each how many times as long the text is; of code files of the kinds below, and of these with some bytes that are others.
 
   stores      a constant into a variable, in four procedures; a hundred small ones as `stores, small`
@@ -8,7 +8,9 @@ multiples, and behind each how many times as long the text is; of code files of 
   deep        60 conditions around all, each by an entry of the jump table
   NAME / N    each Nth byte of the code is another
 
-By hand; no part of the gate. Needs valgrind; one processor for some three minutes."""
+With `each`, of files that have one instruction alone, 4,000 times: so without its operands, which no compiler and hardly any damage makes.
+
+By hand; no part of the gate. Needs valgrind; one processor for some three minutes, four with `each`."""
 import os
 import random
 import re
@@ -22,6 +24,8 @@ PLAIN = ("ABI ADI LAND DIF DVI CHK INN INT LOR MODI MPI NGI LNOT SRS SBI SGS SQI
          "NOP FLT ADR FLO").split()
 NUMBERED = ["SLDC {}", "SLDO {}", "SLDL {}", "LDCI 1{}9", "LAO 1{}", "LDO 3{}", "SRO 2{}", "LLA {}", "STL 4{}", "INC {}", "IND 1{}", "IXA {}",
             "LOD 1, {}", "CSP {}", "CLP 2", "CXP 0, 19", "LDM {}", "ADJ {}", "LSA \"ABC{}\"", "EQU SET", "LES STR", "IXP 8, 2"]
+OTHERS = ["XIT", "SIND 0", "SIND 3", "STR 1, 3", "LDA 2, 4", "LPA \"AB\"", "LDC 3, 4, 5", ".BYTE 161", "RNP 1", "CIP 3", "EQU BOOL", "NEQ REAL",
+          "SAS 80", "MOV 3", "STM 3", "STE 1, 3", "LDE 1, 3", "LAE 1, 3"]
 
 
 def stores():
@@ -92,7 +96,7 @@ def cost(words, path):
     return int(re.search(rb"Collected : (\d+)", done.stderr).group(1)), len(done.stdout)
 
 
-def main():
+def kinds():
     files = {}
     for name, make, lines in [("stores", stores, 2500), ("sums", sums, 2500), ("choices", choices, 1500), ("any", any_one, 2500), ("deep", deep, 1500)]:
         files[name] = program(make, 4, lines)
@@ -100,6 +104,17 @@ def main():
     for name in list(files):
         for each in (100, 5):
             files["%s / %d" % (name, each)] = hurt(files[name], each)
+    return files
+
+
+def each():
+    def alone(name):
+        return program(lambda: [name], 1, 4000)
+    return {name: alone(name) for name in PLAIN + [form.format(3) for form in NUMBERED] + OTHERS}
+
+
+def main():
+    files = each() if sys.argv[2:] == ["each"] else kinds()
     with tempfile.TemporaryDirectory() as folder:
         path = os.path.join(folder, "CODE")
         for name, code in files.items():

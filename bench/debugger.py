@@ -197,7 +197,7 @@ told = same("breakpoints that are passed over", [("LONG", rounds(39999) + ["brea
 check("some were left, and some were not", "limit 2000003" in told and any("ignore" in answer for answer in told) and "1 1 %d" % offsets[50] in told, told)
 
 lines = ["go 5000000", "stack 2", "regs", "list 3", "frames 2", "breaks", "until 1 1 2 3000000"]
-short = ["g 5000000", " stac 2", "r", "li 3", "fr 2", "breaks", "unt 1 1 2 3000000", "q"]
+short = ["g 5000000", " stac 2", "reg", "li 3", "fr 2", "breaks", "unt 1 1 2 3000000", "q"]
 shown, status = typed(words + ["LONG"], [line + "\n" for line in short])
 expected = prompted(lines, piped("LONG", lines))
 for line, typing in zip(lines, short):

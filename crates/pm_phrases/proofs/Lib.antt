@@ -1,3 +1,4 @@
 pub mod Computed
 pub mod Decimals
 pub mod Membered
+pub mod Offsets

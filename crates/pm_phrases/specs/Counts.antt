@@ -8,6 +8,8 @@ use Rattle.pm_opcode.specs.Operations.{operation_of}
 use Rattle.pm_code.specs.Item.{Item}
 use Rattle.pm_code.specs.Item.Item.{Plain, Jump, Case, OneByte}
 use Rattle.pm_phrases.specs.declared.around.Around.{Around}
+use Rattle.pm_phrases.specs.declared.around.Pops.{Pops}
+use Rattle.pm_phrases.specs.declared.around.Pops.TheVariants as pops
 use Rattle.pm_phrases.specs.declared.spelling.Spelling.{Spelling}
 use Rattle.pm_phrases.specs.Arithmetic.{arithmetic_alone, arithmetic_one, arithmetic_three, arithmetic_two}
 use Rattle.pm_phrases.specs.Calls.{returned}
@@ -106,3 +108,9 @@ by_count around item (a ∷ b ∷ []) = of_two item a b
 by_count around item (a ∷ b ∷ c ∷ []) = of_three item a b c
 by_count around item (a ∷ b ∷ c ∷ d ∷ []) = of_four item a b c d
 by_count around item (a ∷ b ∷ c ∷ d ∷ e ∷ more) = None
+
+-- operands that stand for what is missing
+abbrev pub listed : Pops → List Shown
+listed pops.None = []
+listed (pops.One p) = p.now ∷ []
+listed (pops.Two p q) = p.now ∷ q.now ∷ []

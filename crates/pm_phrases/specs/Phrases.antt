@@ -1,8 +1,7 @@
 -- The text of an operation on its operands.
-use Rattle.std.specs.Prelude.{ℕ, Bool, List, ◌++◌, codes, Option, Some, None}
+use Rattle.std.specs.Prelude.{ℕ, Bool, List, ◌++◌, Option, Some, None}
 use Rattle.std.specs.Option.{option_or}
 use Rattle.pm_code.specs.Item.{Item}
-use Rattle.pm_code.specs.Shown.{shown_item}
 use Rattle.pm_phrases.specs.declared.around.Around.{Around}
 use Rattle.pm_phrases.specs.declared.around.Missing.{Missing}
 use Rattle.pm_phrases.specs.Calls.{called}
@@ -10,7 +9,7 @@ use Rattle.pm_phrases.specs.Counts.{by_count, operation_in}
 use Rattle.pm_phrases.specs.Literals.{words_in}
 use Rattle.pm_phrases.specs.Missing.{stand_ins}
 use Rattle.pm_phrases.specs.declared.operand.Form.TheVariants as form
-use Rattle.pm_phrases.specs.Shown.{Shown, arguments}
+use Rattle.pm_phrases.specs.Shown.{Shown, braced}
 
 -- The text that an item has of its own. A call has any number of operands.
 unfoldable pub template : Around → Item ℕ → List Shown → Option Shown
@@ -20,7 +19,7 @@ template around item operands = option_or (called (operation_in item) operands) 
 abbrev pub or_braced : Item ℕ → List Shown → Option Shown → Shown
 or_braced item operands (Some s) = s
 or_braced item operands None = record {
-  text = codes "{" ++ (shown_item item ++ (codes "}" ++ arguments operands));
+  text = braced item operands;
   form = form.Value 9;
   words = words_in item;
 }

@@ -1,6 +1,8 @@
 -- How a text stands as an operand.
 use Rattle.std.specs.Prelude.{ℕ, Bool, true, false, List, [], ◌∷◌, ◌++◌, nat_lt, if◌then◌else◌, codes, Option, None}
 use Rattle.std.specs.List.{flat_map}
+use Rattle.pm_code.specs.Item.{Item}
+use Rattle.pm_code.specs.Shown.{shown_item}
 use Rattle.pm_phrases.specs.declared.operand.Form.{Form}
 use Rattle.pm_phrases.specs.declared.operand.Form.TheVariants as form
 
@@ -84,3 +86,7 @@ further s = codes ", " ++ value_text s 0
 abbrev pub arguments : List Shown → List ℕ
 arguments [] = []
 arguments (s ∷ ss) = codes "(" ++ (value_text s 0 ++ (flat_map further ss ++ codes ")"))
+
+-- an item as its line of the disassembly in braces, with its operands behind it
+abbrev pub braced : Item ℕ → List Shown → List ℕ
+braced item operands = codes "{" ++ (shown_item item ++ (codes "}" ++ arguments operands))

@@ -3,12 +3,13 @@
 ghost use Rattle.std.specs.Prelude.{◌≡◌, IfOk};
 ghost use Rattle.pm_phrases.specs.Arithmetic as texts;
 
-use crate::leaf::Leaf;
+use crate::leaf::{Leaf, Text, push_text};
 use crate::literals::push_beside;
-use crate::operand::{Form, Phrase, Value, leafed, push_operand, room_for, standing, text, valued};
+use crate::operand::{
+    Form, Phrase, ROOM, leafed, push_operand, push_sign, push_value, room_for, standing, valued,
+};
 use crate::signs::{binary_sign, binary_strength, relation_sign};
 use crate::spelling::{Spelling, marks_of};
-use pm_code::Signed;
 use pm_families::{Arithmetic, Unary};
 use std::alloc::{AllocError, Global};
 
@@ -24,12 +25,14 @@ pub(crate) fn arithmetic_alone(
         Arithmetic::Constant(word) => match spelling {
             Spelling::Shortest => Ok(Some(leafed(Leaf::Number(word), Form::Constant(word)))),
             _ => {
-                let text = text!(in alloc; "{}{}", Signed(word), marks_of(spelling))?;
+                let mut text = String::with_capacity(alloc, ROOM)?;
+                push_text(&mut text, &Text::Leaf(Leaf::Number(word)))?;
+                text.push_str(marks_of(spelling))?;
                 let strength = if word < 32768 { 9 } else { 4 };
-                Ok(Some(standing(text, Form::Value(strength))))
+                Ok(Some(standing(Text::Written(text), Form::Value(strength))))
             }
         },
-        Arithmetic::Nil => Ok(Some(valued(String::from_str(alloc, "NIL")?, 9))),
+        Arithmetic::Nil => Ok(Some(leafed(Leaf::Fixed("NIL"), Form::Value(9)))),
         _ => Ok(None),
     }
 }
@@ -45,12 +48,21 @@ pub(crate) fn arithmetic_one(
     let Arithmetic::OnOne(o) = what else {
         return Ok(None);
     };
-    Ok(Some(match o {
-        Unary::Absolute => valued(text!(in alloc; "ABS({})", Value(a, 0))?, 9),
-        Unary::Negate => valued(text!(in alloc; "-({})", Value(a, 0))?, 4),
-        Unary::Square => valued(text!(in alloc; "SQR({})", Value(a, 0))?, 9),
-        Unary::Complement => valued(text!(in alloc; "NOT {}", Value(a, 4))?, 4),
-    }))
+    let mut text = String::with_capacity(alloc, room_for(ROOM, a))?;
+    let (name, strength) = match o {
+        Unary::Absolute => ("ABS(", 9),
+        Unary::Negate => ("-(", 4),
+        Unary::Square => ("SQR(", 9),
+        Unary::Complement => {
+            text.push_str("NOT ")?;
+            push_operand(&mut text, a, 4)?;
+            return Ok(Some(valued(text, 4)));
+        }
+    };
+    text.push_str(name)?;
+    push_value(&mut text, a)?;
+    text.push(')')?;
+    Ok(Some(valued(text, strength)))
 }
 
 #[tactic(auto, unfolding(crate::specs::Arithmetic::arithmetic_two, crate::specs::Arithmetic::between, crate::specs::Arithmetic::compared))]
@@ -66,20 +78,16 @@ pub(crate) fn arithmetic_two(
         (Form::Set(_), _) => Ok(None),
         (_, Arithmetic::OnTwo(o)) => {
             let strength = binary_strength(o);
-            let mut text = String::with_capacity(alloc, room_for(a, b))?;
+            let mut text = String::with_capacity(alloc, room_for(room_for(ROOM, a), b))?;
             push_operand(&mut text, a, strength)?;
-            text.push(' ')?;
-            text.push_str(binary_sign(o))?;
-            text.push(' ')?;
+            push_sign(&mut text, binary_sign(o))?;
             push_operand(&mut text, b, strength + 1)?;
             Ok(Some(valued(text, strength)))
         }
         (_, Arithmetic::Compare(r)) => {
-            let mut text = String::with_capacity(alloc, room_for(a, b))?;
+            let mut text = String::with_capacity(alloc, room_for(room_for(ROOM, a), b))?;
             push_beside(&mut text, b.form, a, 1)?;
-            text.push(' ')?;
-            text.push_str(relation_sign(r))?;
-            text.push(' ')?;
+            push_sign(&mut text, relation_sign(r))?;
             push_beside(&mut text, a.form, b, 2)?;
             Ok(Some(valued(text, 1)))
         }
@@ -98,10 +106,18 @@ pub(crate) fn arithmetic_three(
     ensures shown { IfOk result (λ p. p ≡ texts.arithmetic_three what a.now b.now c.now) }
 {
     match what {
-        Arithmetic::Check => Ok(Some(valued(
-            text!(in alloc; "CHECK({}, {}..{})", Value(a, 0), Value(b, 0), Value(c, 0))?,
-            9,
-        ))),
+        Arithmetic::Check => {
+            let room = room_for(room_for(room_for(ROOM, a), b), c);
+            let mut text = String::with_capacity(alloc, room)?;
+            text.push_str("CHECK(")?;
+            push_value(&mut text, a)?;
+            text.push_str(", ")?;
+            push_value(&mut text, b)?;
+            text.push_str("..")?;
+            push_value(&mut text, c)?;
+            text.push(')')?;
+            Ok(Some(valued(text, 9)))
+        }
         _ => Ok(None),
     }
 }

@@ -1,12 +1,13 @@
 //! What stands around an operation: its procedure, and operands that are not there.
 
-ghost use Rattle.std.specs.Prelude.{◌≡◌, ◌++◌, IfOk, OnOk, string_bytes};
-ghost use Rattle.pm_phrases.specs.Shown as shown;
+ghost use Rattle.std.specs.Prelude.{◌≡◌, ◌++◌, OnOk, string_bytes};
 ghost use Rattle.pm_phrases.specs.Missing as missing;
+ghost use Rattle.pm_phrases.specs.Shown as shown;
 
-use crate::operand::{Form, Phrase, push_further, push_listed, push_value, standing, text, valued};
+use crate::leaf::{Leaf, push_share};
+use crate::operand::{Form, Phrase, leafed, push_further, push_listed};
 use pm_effects::Share;
-use std::alloc::{AllocError, Global};
+use std::alloc::AllocError;
 
 /// The procedure around an operation.
 #[derive(Clone, Copy)]
@@ -24,68 +25,54 @@ pub struct Missing {
     pub top: Share,
 }
 
-/// The operands that stand for what is missing.
-#[derive(Drop)]
-pub(crate) enum Pops {
+/// Operands that stand for what is missing.
+#[derive(Clone, Copy)]
+pub(crate) enum Pops<'a> {
     None,
-    One(Phrase),
-    Two(Phrase, Phrase),
+    One(&'a Phrase),
+    Two(&'a Phrase, &'a Phrase),
 }
 
-fn pop(alloc: Global, share: Share) -> Result<Option<Phrase>, AllocError>
-    ensures pop { IfOk result (λ p. p ≡ missing.pop_of share) }
+/// The operand that stands for a share that is missing.
+pub(crate) fn stand_in(share: Share) -> Phrase
+    ensures stand_in { result ≡ missing.stand_in share }
 {
-    match share {
-        Share::Words(0) => Ok(None),
-        Share::Words(1) => Ok(Some(valued(String::from_str(alloc, "POP")?, 9))),
-        Share::Words(n) => Ok(Some(valued(text!(in alloc; "POP*{n}")?, 9))),
-        Share::Set => Ok(Some(standing(String::from_str(alloc, "POP SET")?, Form::Set(9)))),
-    }
-}
-
-/// The operands that stand for what is missing; where it is not known what is taken, `?` for all.
-pub(crate) fn stand_ins(alloc: Global, known: bool, what: Missing) -> Result<Pops, AllocError>
-    ensures pops { IfOk result (λ p. missing.listed p ≡ missing.stand_ins known what) }
-{
-    if !known {
-        return Ok(Pops::One(valued(String::from_str(alloc, "?")?, 9)));
-    }
-    let top = pop(alloc, what.top)?;
-    if let Share::Words(0) = what.below {
-        return Ok(match top {
-            None => Pops::None,
-            Some(p) => Pops::One(p),
-        });
-    }
-    match (pop(alloc, what.below)?, top) {
-        (None, None) => Ok(Pops::None),
-        (Some(p), None) | (None, Some(p)) => Ok(Pops::One(p)),
-        (Some(p), Some(q)) => Ok(Pops::Two(p, q)),
-    }
+    let form = match share {
+        Share::Words(_) => Form::Value(9),
+        Share::Set => Form::Set(9),
+    };
+    leafed(Leaf::StandIn(share), form)
 }
 
 /// Adds operands behind a name: those that stand for what is missing, and the others.
+#[tactic(auto, unfolding(crate::specs::Shown::value_text))]
 pub(crate) fn push_arguments(
     out: &mut String,
-    pops: &Pops,
+    known: bool,
+    what: Missing,
     operands: &[Phrase],
 ) -> Result<(), AllocError>
     ensures text { OnOk result (string_bytes out.new
-        ≡ string_bytes out.old ++ shown.arguments (missing.listed pops.now ++ operands.now)) }
+        ≡ string_bytes out.old ++ shown.arguments (missing.stand_ins known what ++ operands.now)) }
 {
-    match pops {
-        Pops::None => push_listed(out, operands),
-        Pops::One(p) => {
+    if !known {
+        out.push_str("(?")?;
+        push_further(out, operands)?;
+        return out.push(')');
+    }
+    match (what.below, what.top) {
+        (Share::Words(0), Share::Words(0)) => push_listed(out, operands),
+        (Share::Words(0), share) | (share, Share::Words(0)) => {
             out.push('(')?;
-            push_value(out, p)?;
+            push_share(out, share)?;
             push_further(out, operands)?;
             out.push(')')
         }
-        Pops::Two(p, q) => {
+        (below, top) => {
             out.push('(')?;
-            push_value(out, p)?;
+            push_share(out, below)?;
             out.push_str(", ")?;
-            push_value(out, q)?;
+            push_share(out, top)?;
             push_further(out, operands)?;
             out.push(')')
         }

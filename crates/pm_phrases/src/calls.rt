@@ -1,59 +1,49 @@
 //! Calls and returns.
 
-ghost use Rattle.std.specs.Prelude.{◌≡◌, ◌++◌, IfOk, Some, option_map};
+ghost use Rattle.std.specs.Prelude.{◌≡◌, ◌++◌, IfOk, OnOk, string_bytes};
+ghost use Rattle.std.specs.Fmt.{decimal};
 ghost use Rattle.pm_phrases.specs.Calls as texts;
-ghost use Rattle.pm_phrases.specs.Missing.{listed};
+ghost use Rattle.pm_phrases.specs.Missing.{stand_ins};
 
-use crate::around::{Pops, push_arguments};
-use crate::operand::{Phrase, ROOM, text, valued, written};
+use crate::around::{Missing, push_arguments};
+use crate::leaf::{Leaf, push_number};
+use crate::operand::{Form, Phrase, ROOM, leafed, valued};
 use pm_families::{Call, Return};
 use pm_notes::{standard_name, system_name};
 use pm_opcode::Operation;
 use std::alloc::{AllocError, Global};
-use std::fmt;
 
-/// The name of a procedure of a segment, if it is the operating system's and has one.
-#[tactic(auto, unfolding(crate::specs::Calls::external_name))]
-fn external_name(segment: u8, number: u8) -> Option<&'static str>
-    ensures name { option_map (λ name. name.now) result ≡ texts.external_name segment number }
+/// Adds an instruction and a number of it.
+fn push_numbered(out: &mut String, name: &str, number: u8) -> Result<(), AllocError>
+    ensures text { OnOk result (string_bytes out.new ≡ string_bytes out.old ++ (name.now ++ decimal number)) }
 {
-    if segment == 0 {
-        system_name(number)
-    } else {
-        None
-    }
+    out.push_str(name)?;
+    push_number(out, u32::from(number))
 }
 
-/// What a call calls, by its name or its numbers.
-#[derive(Clone, Copy)]
-struct CalledName(Call);
-
-impl fmt::Display for CalledName {
-    ghost output = { λ c. Some (texts.called_text c.0) };
-
-    #[tactic(auto, unfolding(crate::specs::Calls::called_text))]
-    fn fmt<W: fmt::Write>(&self, f: &mut fmt::Formatter<W>) -> fmt::Result {
-        match self.0 {
-            Call::Clp(number) => {
-                f.write_str("CLP_")?;
-                f.write(number)
+/// Adds what a call calls, by its name or its numbers.
+#[tactic(auto, unfolding(crate::specs::Calls::called_text, crate::specs::Calls::external_name))]
+fn push_called(out: &mut String, call: Call) -> Result<(), AllocError>
+    ensures text { OnOk result (string_bytes out.new ≡ string_bytes out.old ++ texts.called_text call) }
+{
+    match call {
+        Call::Clp(number) => push_numbered(out, "CLP_", number),
+        Call::Cgp(number) => push_numbered(out, "CGP_", number),
+        Call::Cbp(number) => push_numbered(out, "CBP_", number),
+        Call::Cip(number) => push_numbered(out, "CIP_", number),
+        Call::Cxp(segment, number) => {
+            let name = if segment == 0 {
+                system_name(number)
+            } else {
+                None
+            };
+            match name {
+                Some(name) => out.push_str(name),
+                None => {
+                    push_numbered(out, "CXP_", segment)?;
+                    push_numbered(out, "_", number)
+                }
             }
-            Call::Cgp(number) => {
-                f.write_str("CGP_")?;
-                f.write(number)
-            }
-            Call::Cbp(number) => {
-                f.write_str("CBP_")?;
-                f.write(number)
-            }
-            Call::Cip(number) => {
-                f.write_str("CIP_")?;
-                f.write(number)
-            }
-            Call::Cxp(segment, number) => match external_name(segment, number) {
-                Some(name) => f.write_str(name),
-                None => write!(f, "CXP_{segment}_{number}"),
-            },
         }
     }
 }
@@ -62,15 +52,17 @@ impl fmt::Display for CalledName {
 pub(crate) fn called(
     alloc: Global,
     what: Operation,
-    pops: &Pops,
+    known: bool,
+    missing: Missing,
     operands: &[Phrase],
 ) -> Result<Option<Phrase>, AllocError>
-    ensures shown { IfOk result (λ p. p ≡ texts.called what (listed pops.now ++ operands.now)) }
+    ensures shown { IfOk result (λ p. p ≡ texts.called what (stand_ins known missing ++ operands.now)) }
 {
     match what {
         Operation::Call(call) => {
-            let mut text = written(alloc, CalledName(call))?;
-            push_arguments(&mut text, pops, operands)?;
+            let mut text = String::with_capacity(alloc, ROOM)?;
+            push_called(&mut text, call)?;
+            push_arguments(&mut text, known, missing, operands)?;
             Ok(Some(valued(text, 9)))
         }
         Operation::Standard(number) => {
@@ -79,7 +71,7 @@ pub(crate) fn called(
             };
             let mut text = String::with_capacity(alloc, ROOM)?;
             text.push_str(name)?;
-            push_arguments(&mut text, pops, operands)?;
+            push_arguments(&mut text, known, missing, operands)?;
             Ok(Some(valued(text, 9)))
         }
         _ => Ok(None),
@@ -90,10 +82,16 @@ pub(crate) fn called(
 pub(crate) fn returned(alloc: Global, what: Return) -> Result<Phrase, AllocError>
     ensures shown { IfOk result (λ p. p ≡ texts.returned what) }
 {
-    match what {
-        Return::Normal(0) => Ok(valued(String::from_str(alloc, "RETURN")?, 0)),
-        Return::Normal(words) => Ok(valued(text!(in alloc; "RETURN {words}")?, 0)),
-        Return::Base(0) => Ok(valued(String::from_str(alloc, "RETURN FROM BASE")?, 0)),
-        Return::Base(words) => Ok(valued(text!(in alloc; "RETURN FROM BASE {words}")?, 0)),
+    let (name, words) = match what {
+        Return::Normal(words) => ("RETURN", words),
+        Return::Base(words) => ("RETURN FROM BASE", words),
+    };
+    if words == 0 {
+        return Ok(leafed(Leaf::Fixed(name), Form::Value(0)));
     }
+    let mut text = String::with_capacity(alloc, ROOM)?;
+    text.push_str(name)?;
+    text.push(' ')?;
+    push_number(&mut text, u32::from(words))?;
+    Ok(valued(text, 0))
 }

@@ -4,7 +4,8 @@ ghost use Rattle.std.specs.Prelude.{◌≡◌, ◌%◌, ◌∷◌, ◌++◌, ◌
 ghost use Rattle.pm_code.specs.Views.{placed_target};
 ghost use Rattle.pm_phrases.specs.Cases as texts;
 
-use crate::operand::{Phrase, Value, text, valued};
+use crate::jumps::push_target;
+use crate::operand::{Phrase, ROOM, push_value, room_for, valued};
 use pm_code::{Label, Signed, Target};
 use std::alloc::{AllocError, Global};
 use std::fmt;
@@ -86,6 +87,12 @@ pub(crate) fn case_on(
         (λ p. p ≡ texts.case_on table.now.low table.now.high (placed_target otherwise.now)
         table.now.places.now a.now) }
 {
-    let text = text!(in alloc; "CASE {} OF {table} ELSE {otherwise}", Value(a, 0))?;
+    let mut text = String::with_capacity(alloc, room_for(4 * ROOM, a))?;
+    text.push_str("CASE ")?;
+    push_value(&mut text, a)?;
+    text.push_str(" OF ")?;
+    text.write(table)?;
+    text.push_str(" ELSE ")?;
+    push_target(&mut text, *otherwise)?;
     Ok(valued(text, 0))
 }

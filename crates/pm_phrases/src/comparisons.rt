@@ -1,35 +1,36 @@
 //! Comparisons of strings, truth values, sets, bytes and words.
 
-ghost use Rattle.std.specs.Prelude.{◌≡◌, IfOk, Some};
+ghost use Rattle.std.specs.Prelude.{◌≡◌, ◌++◌, IfOk, OnOk, string_bytes};
 ghost use Rattle.pm_phrases.specs.Comparisons as texts;
 
-use crate::operand::{Phrase, Place, Value, text, valued};
+use crate::leaf::push_number;
+use crate::operand::{Phrase, ROOM, push_operand, push_place, push_sign, room_for, valued};
 use crate::signs::relation_sign;
 use crate::spelling::{Spelling, marks_of};
 use pm_families::{Kind, Relation};
 use std::alloc::{AllocError, Global};
-use std::fmt;
 
-/// What is compared, with its size where it has one.
-#[derive(Clone, Copy)]
-struct KindName {
-    kind: Kind,
-    spelling: Spelling,
-}
-
-impl fmt::Display for KindName {
-    ghost output = { λ k. Some (texts.kind_text k.spelling k.kind) };
-
-    #[tactic(auto, unfolding(crate::specs::Comparisons::kind_text))]
-    fn fmt<W: fmt::Write>(&self, f: &mut fmt::Formatter<W>) -> fmt::Result {
-        let marks = marks_of(self.spelling);
-        match self.kind {
-            Kind::Real => f.write_str("real"),
-            Kind::String => f.write_str("str"),
-            Kind::Boolean => f.write_str("bool"),
-            Kind::Set => f.write_str("sets"),
-            Kind::Bytes(n) => write!(f, "bytes[{n}{marks}]"),
-            Kind::Words(n) => write!(f, "words[{n}{marks}]"),
+/// Adds what is compared, with its size where it has one.
+#[tactic(auto, unfolding(crate::specs::Comparisons::kind_text))]
+fn push_kind(out: &mut String, spelling: Spelling, kind: Kind) -> Result<(), AllocError>
+    ensures text { OnOk result (string_bytes out.new ≡ string_bytes out.old ++ texts.kind_text spelling kind) }
+{
+    match kind {
+        Kind::Real => out.push_str("real"),
+        Kind::String => out.push_str("str"),
+        Kind::Boolean => out.push_str("bool"),
+        Kind::Set => out.push_str("sets"),
+        Kind::Bytes(n) => {
+            out.push_str("bytes[")?;
+            push_number(out, u32::from(n))?;
+            out.push_str(marks_of(spelling))?;
+            out.push(']')
+        }
+        Kind::Words(n) => {
+            out.push_str("words[")?;
+            push_number(out, u32::from(n))?;
+            out.push_str(marks_of(spelling))?;
+            out.push(']')
         }
     }
 }
@@ -46,16 +47,20 @@ pub(crate) fn compare_two(
 ) -> Result<Phrase, AllocError>
     ensures shown { IfOk result (λ p. p ≡ texts.compare_two spelling r kind a.now b.now) }
 {
-    let name = KindName { kind, spelling };
-    let sign = relation_sign(r);
+    let mut text = String::with_capacity(alloc, room_for(room_for(ROOM, a), b))?;
+    push_kind(&mut text, spelling, kind)?;
+    text.push(' ')?;
     match kind {
         Kind::Real | Kind::Boolean | Kind::Set => {
-            let text = text!(in alloc; "{name} {} {sign} {}", Value(a, 2), Value(b, 2))?;
-            Ok(valued(text, 1))
+            push_operand(&mut text, a, 2)?;
+            push_sign(&mut text, relation_sign(r))?;
+            push_operand(&mut text, b, 2)?;
         }
         Kind::String | Kind::Bytes(_) | Kind::Words(_) => {
-            let text = text!(in alloc; "{name} {} {sign} {}", Place(a), Place(b))?;
-            Ok(valued(text, 1))
+            push_place(&mut text, a)?;
+            push_sign(&mut text, relation_sign(r))?;
+            push_place(&mut text, b)?;
         }
     }
+    Ok(valued(text, 1))
 }

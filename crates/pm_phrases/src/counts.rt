@@ -1,27 +1,25 @@
 //! Items by the number of their operands, and by families.
 
-ghost use Rattle.std.specs.Prelude.{◌≡◌, ◌∷◌, ◌++◌, IfOk};
+ghost use Rattle.std.specs.Prelude.{◌≡◌, ◌++◌, IfOk};
 ghost use Rattle.pm_code.specs.Views.{placed_item};
 ghost use Rattle.pm_opcode.specs.Operations.{operation_of};
 ghost use Rattle.pm_phrases.specs.Counts as texts;
 
 use crate::arithmetic::{arithmetic_alone, arithmetic_one, arithmetic_three, arithmetic_two};
-use crate::around::Around;
+use crate::around::{Around, Pops};
 use crate::calls::returned;
 use crate::cases::{Table, case_on};
 use crate::comparisons::compare_two;
 use crate::jumps::{jump_alone, jump_one, jump_two};
 use crate::literals::literal_alone;
-use crate::operand::Phrase;
-use crate::parts::{
-    byte_one, byte_three, byte_two, field_four, field_one, field_three, field_two, text_two,
-};
+use crate::operand::{Form, Phrase, valued};
+use crate::parts::{byte_one, byte_three, byte_two, field_four, field_three, field_two, text_two};
 use crate::pointers::{pointer_one, pointer_two};
 use crate::sets::{set_four, set_one, set_three, set_two};
 use crate::spelling::spelling_of;
 use crate::variables::{variable_alone, variable_one};
 use pm_code::Item;
-use pm_families::Value;
+use pm_families::{Field, Value};
 use pm_opcode::{Instr, Operation};
 use std::alloc::{AllocError, Global};
 
@@ -45,7 +43,7 @@ fn plain_none(
     }
 }
 
-#[tactic(auto, unfolding(crate::specs::Counts::plain_one))]
+#[tactic(auto, unfolding(crate::specs::Counts::plain_one, crate::specs::Parts::field_one))]
 fn plain_one(
     alloc: Global,
     around: Around,
@@ -61,7 +59,10 @@ fn plain_one(
         Operation::Variable(o) => variable_one(alloc, around, spelling_of(i, what), o, a),
         Operation::Pointer(o) => pointer_one(alloc, spelling_of(i, what), o, a),
         Operation::Value(Value::Byte(what)) => byte_one(alloc, what, a),
-        Operation::Value(Value::Field(what)) => field_one(alloc, what, a),
+        Operation::Value(Value::Field(what)) => match (what, a.form) {
+            (Field::Load, Form::Bits) => Ok(Some(valued(a.to_text(alloc)?, 9))),
+            _ => Ok(None),
+        },
         Operation::Value(Value::Set(what)) => set_one(alloc, what, a),
         _ => Ok(None),
     }
@@ -201,68 +202,32 @@ fn of_four(
     }
 }
 
+/// An item by the number of its operands, behind those that stand for what is missing.
 #[tactic(auto, unfolding(crate::specs::Counts::by_count, crate::specs::Counts::of_three, crate::specs::Counts::of_four))]
 pub(crate) fn by_count(
     alloc: Global,
     around: Around,
     item: &Item<usize>,
     what: Operation,
+    pops: Pops<'_>,
     operands: &[Phrase],
 ) -> Result<Option<Phrase>, AllocError>
     requires what { what ≡ texts.operation_in (placed_item item.now) }
     ensures shown { IfOk result
-        (λ p. p ≡ texts.by_count around (placed_item item.now) operands.now) }
+        (λ p. p ≡ texts.by_count around (placed_item item.now) (texts.listed pops.entry ++ operands.now)) }
 {
-    match operands {
-        [] => of_none(alloc, around, item, what),
-        [a] => of_one(alloc, around, item, what, a),
-        [a, b] => of_two(alloc, item, what, a, b),
-        [a, b, c] => of_three(alloc, what, a, b, c),
-        [a, b, c, d] => of_four(alloc, what, a, b, c, d),
-        _ => Ok(None),
-    }
-}
-
-#[tactic(auto, unfolding(crate::specs::Counts::by_count, crate::specs::Counts::of_three, crate::specs::Counts::of_four))]
-pub(crate) fn behind_one(
-    alloc: Global,
-    around: Around,
-    item: &Item<usize>,
-    what: Operation,
-    a: &Phrase,
-    operands: &[Phrase],
-) -> Result<Option<Phrase>, AllocError>
-    requires what { what ≡ texts.operation_in (placed_item item.now) }
-    ensures shown { IfOk result
-        (λ p. p ≡ texts.by_count around (placed_item item.now) (a.now ∷ operands.now)) }
-{
-    match operands {
-        [] => of_one(alloc, around, item, what, a),
-        [b] => of_two(alloc, item, what, a, b),
-        [b, c] => of_three(alloc, what, a, b, c),
-        [b, c, d] => of_four(alloc, what, a, b, c, d),
-        _ => Ok(None),
-    }
-}
-
-#[tactic(auto, unfolding(crate::specs::Counts::by_count, crate::specs::Counts::of_three, crate::specs::Counts::of_four))]
-pub(crate) fn behind_two(
-    alloc: Global,
-    around: Around,
-    item: &Item<usize>,
-    what: Operation,
-    a: &Phrase,
-    b: &Phrase,
-    operands: &[Phrase],
-) -> Result<Option<Phrase>, AllocError>
-    requires what { what ≡ texts.operation_in (placed_item item.now) }
-    ensures shown { IfOk result
-        (λ p. p ≡ texts.by_count around (placed_item item.now) (a.now ∷ b.now ∷ operands.now)) }
-{
-    match operands {
-        [] => of_two(alloc, item, what, a, b),
-        [c] => of_three(alloc, what, a, b, c),
-        [c, d] => of_four(alloc, what, a, b, c, d),
+    match (pops, operands) {
+        (Pops::None, []) => of_none(alloc, around, item, what),
+        (Pops::None, [a]) | (Pops::One(a), []) => of_one(alloc, around, item, what, a),
+        (Pops::None, [a, b]) | (Pops::One(a), [b]) | (Pops::Two(a, b), []) => {
+            of_two(alloc, item, what, a, b)
+        }
+        (Pops::None, [a, b, c]) | (Pops::One(a), [b, c]) | (Pops::Two(a, b), [c]) => {
+            of_three(alloc, what, a, b, c)
+        }
+        (Pops::None, [a, b, c, d]) | (Pops::One(a), [b, c, d]) | (Pops::Two(a, b), [c, d]) => {
+            of_four(alloc, what, a, b, c, d)
+        }
         _ => Ok(None),
     }
 }

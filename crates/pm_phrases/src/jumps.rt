@@ -1,11 +1,13 @@
 //! Jumps.
 
-ghost use Rattle.std.specs.Prelude.{◌≡◌, IfOk, Some};
+ghost use Rattle.std.specs.Prelude.{◌≡◌, ◌++◌, IfOk, OnOk, string_bytes};
+ghost use Rattle.pm_code.specs.Shown.{padded, target_text};
 ghost use Rattle.pm_code.specs.Views.{placed_target};
 ghost use Rattle.pm_phrases.specs.Jumps as texts;
 
-use crate::operand::{Phrase, Value, text, valued};
-use pm_code::Target;
+use crate::leaf::push_number;
+use crate::operand::{Phrase, ROOM, push_operand, push_value, room_for, valued};
+use pm_code::{FiveDigits, Target};
 use pm_families::{Condition, Jump};
 use pm_opcode::{Instr, Operation};
 use std::alloc::{AllocError, Global};
@@ -21,6 +23,42 @@ pub fn condition_of(op: u8) -> Option<Condition>
     }
 }
 
+/// Adds an offset in at least five digits.
+#[tactic(auto, using(pm_code::proofs::Digits::padded_written))]
+pub fn push_offset(out: &mut String, offset: usize) -> Result<(), AllocError>
+    ensures text { OnOk result (string_bytes out.new ≡ string_bytes out.old ++ padded 5 offset) }
+{
+    if offset > 99_999 {
+        return out.write(FiveDigits(offset));
+    }
+    let tens = offset / 10;
+    let hundreds = tens / 10;
+    let thousands = hundreds / 10;
+    out.push(char::from(48 + (thousands / 10) as u8))?;
+    out.push(char::from(48 + (thousands % 10) as u8))?;
+    out.push(char::from(48 + (hundreds % 10) as u8))?;
+    out.push(char::from(48 + (tens % 10) as u8))?;
+    out.push(char::from(48 + (offset % 10) as u8))?;
+    Ok(())
+}
+
+/// Adds where a jump leads: a label, or `^` and the entry.
+pub fn push_target(out: &mut String, target: Target<usize>) -> Result<(), AllocError>
+    ensures text { OnOk result
+        (string_bytes out.new ≡ string_bytes out.old ++ target_text (placed_target target)) }
+{
+    match target {
+        Target::To(place) => {
+            out.push('L')?;
+            push_offset(out, place)
+        }
+        Target::Through(entry) => {
+            out.push('^')?;
+            push_number(out, u32::from(entry))
+        }
+    }
+}
+
 #[tactic(auto, unfolding(crate::specs::Jumps::jump_alone))]
 pub(crate) fn jump_alone(
     alloc: Global,
@@ -30,7 +68,12 @@ pub(crate) fn jump_alone(
     ensures shown { IfOk result (λ p. p ≡ texts.jump_alone op (placed_target target.now)) }
 {
     match condition_of(op) {
-        Some(Condition::Always) => Ok(Some(valued(text!(in alloc; "GOTO {target}")?, 0))),
+        Some(Condition::Always) => {
+            let mut text = String::with_capacity(alloc, ROOM)?;
+            text.push_str("GOTO ")?;
+            push_target(&mut text, *target)?;
+            Ok(Some(valued(text, 0)))
+        }
         _ => Ok(None),
     }
 }
@@ -46,7 +89,11 @@ pub(crate) fn jump_one(
 {
     match condition_of(op) {
         Some(Condition::IfFalse) => {
-            let text = text!(in alloc; "IF NOT ({}) GOTO {target}", Value(a, 0))?;
+            let mut text = String::with_capacity(alloc, room_for(2 * ROOM, a))?;
+            text.push_str("IF NOT (")?;
+            push_value(&mut text, a)?;
+            text.push_str(") GOTO ")?;
+            push_target(&mut text, *target)?;
             Ok(Some(valued(text, 0)))
         }
         _ => Ok(None),
@@ -64,15 +111,17 @@ pub(crate) fn jump_two(
     ensures shown { IfOk result
         (λ p. p ≡ texts.jump_two op (placed_target target.now) a.now b.now) }
 {
-    match condition_of(op) {
-        Some(Condition::IfDifferent) => {
-            let text = text!(in alloc; "IF {} <> {} GOTO {target}", Value(a, 2), Value(b, 2))?;
-            Ok(Some(valued(text, 0)))
-        }
-        Some(Condition::IfEqual) => {
-            let text = text!(in alloc; "IF {} = {} GOTO {target}", Value(a, 2), Value(b, 2))?;
-            Ok(Some(valued(text, 0)))
-        }
-        _ => Ok(None),
-    }
+    let sign = match condition_of(op) {
+        Some(Condition::IfDifferent) => " <> ",
+        Some(Condition::IfEqual) => " = ",
+        _ => return Ok(None),
+    };
+    let mut text = String::with_capacity(alloc, room_for(room_for(2 * ROOM, a), b))?;
+    text.push_str("IF ")?;
+    push_operand(&mut text, a, 2)?;
+    text.push_str(sign)?;
+    push_operand(&mut text, b, 2)?;
+    text.push_str(" GOTO ")?;
+    push_target(&mut text, *target)?;
+    Ok(Some(valued(text, 0)))
 }

@@ -1,16 +1,32 @@
 //! Texts of operands, of which most need no memory.
 
-ghost use Rattle.std.specs.Prelude.{◌≡◌, ◌++◌, OnOk, Some, string_bytes};
+ghost use Rattle.std.specs.Prelude.{◌≡◌, ◌++◌, IfSome, None, OnOk, string_bytes};
 ghost use Rattle.std.specs.Fmt.{decimal};
+ghost use Rattle.pm_code.specs.Shown.{shown_item};
+ghost use Rattle.pm_code.specs.Views.{placed_item};
+ghost use Rattle.pm_phrases.specs.Counts.{operation_in};
 ghost use Rattle.pm_phrases.specs.Leaves as leaves;
+ghost use Rattle.pm_phrases.specs.Literals.{words_in};
+ghost use Rattle.pm_phrases.specs.Missing as missing;
+ghost use Rattle.pm_phrases.specs.Shown.{arguments, braced};
 
-use crate::around::Around;
-use crate::spelling::{Spelling, marks_of};
-use crate::variables::{local_word, push_name};
-use pm_code::Signed;
+use crate::around::{Around, Missing};
+use crate::spelling::Spelling;
+use crate::variables::push_name;
+use pm_code::{Instruction, Item};
+use pm_effects::Share;
 use pm_families::Scope;
+use pm_opcode::{Form, Instr, Operation, form_at, implied_number, row_at};
 use std::alloc::AllocError;
-use std::fmt;
+
+/// An item that names no bytes and no places.
+#[derive(Clone, Copy, Drop)]
+pub(crate) enum Bare {
+    /// An instruction: its opcode, its first two operands, and whether it spells a number by two bytes.
+    Instruction(u8, u16, u16, bool),
+    /// A byte that is none.
+    OneByte(u8),
+}
 
 /// A text that is written where it is shown.
 #[derive(Clone, Copy, Drop)]
@@ -19,8 +35,12 @@ pub(crate) enum Leaf {
     Number(u16),
     /// A variable by its scope and number, with the marks of a spelling.
     Variable(Around, Scope, u16, Spelling),
-    /// A byte that is no instruction, in braces.
-    OneByte(u8),
+    /// A text that is always the same.
+    Fixed(&'static str),
+    /// What stands for a share that is missing.
+    StandIn(Share),
+    /// An item in braces, on what stands for all that it takes: whether that is known, and how much it is.
+    Braced(Bare, bool, Missing),
 }
 
 /// The text of an operand.
@@ -32,33 +52,20 @@ pub(crate) enum Text {
     Leaf(Leaf),
 }
 
-impl fmt::Display for Text {
-    ghost output = { λ t. Some (leaves.bytes_of t) };
-
-    #[tactic(auto, unfolding(pm_code::specs::Shown::shown_item, crate::specs::Variables::variable_text))]
-    fn fmt<W: fmt::Write>(&self, f: &mut fmt::Formatter<W>) -> fmt::Result {
-        match self {
-            Text::Written(text) => f.write_str(text.as_str()),
-            Text::Leaf(Leaf::Number(word)) => f.write(Signed(*word)),
-            Text::Leaf(Leaf::Variable(_, Scope::Global, number, spelling)) => {
-                f.write_str("global")?;
-                f.write(*number)?;
-                f.write_str(marks_of(*spelling))
-            }
-            Text::Leaf(Leaf::Variable(around, Scope::Local, number, spelling)) => {
-                f.write_str(local_word(*around, *number))?;
-                f.write(*number)?;
-                f.write_str(marks_of(*spelling))
-            }
-            Text::Leaf(Leaf::Variable(_, Scope::Intermediate(links), number, spelling)) => {
-                f.write_str("up")?;
-                f.write(*links)?;
-                f.write_str("_")?;
-                f.write(*number)?;
-                f.write_str(marks_of(*spelling))
-            }
-            Text::Leaf(Leaf::OneByte(byte)) => write!(f, "{{.BYTE {byte}}}"),
-        }
+/// An item that does this, where it names no bytes and no places.
+#[tactic(auto, unfolding(pm_code::specs::Shown::shown_item, crate::specs::Counts::operation_in))]
+pub(crate) fn bare_in(item: &Item<usize>, what: Operation) -> Option<Bare>
+    requires what { what ≡ operation_in (placed_item item.now) }
+    ensures text { IfSome result (λ b. shown_item (leaves.item_of b) ≡ shown_item (placed_item item.now)) }
+    ensures words { IfSome result (λ b. words_in (placed_item item.now) ≡ None) }
+{
+    match item {
+        Item::Plain(instr, _) => match (what, form_at(instr.op)) {
+            (Operation::Literal(_), _) | (_, Form::Chars | Form::Words | Form::Jumps) => None,
+            _ => Some(Bare::Instruction(instr.op, instr.a, instr.b, instr.long)),
+        },
+        Item::OneByte(byte) => Some(Bare::OneByte(*byte)),
+        Item::Jump(_, _) | Item::Case { .. } => None,
     }
 }
 
@@ -75,8 +82,83 @@ pub(crate) fn push_number(out: &mut String, number: u32) -> Result<(), AllocErro
     Ok(())
 }
 
+/// Adds an item that names no bytes and no places.
+#[tactic(auto, unfolding(pm_code::specs::Shown::shown_item, pm_code::specs::Text::item_text))]
+pub(crate) fn push_bare(out: &mut String, bare: Bare) -> Result<(), AllocError>
+    ensures text { OnOk result (string_bytes out.new ≡ string_bytes out.old ++ shown_item (leaves.item_of bare)) }
+{
+    let (op, a, b, long) = match bare {
+        Bare::Instruction(op, a, b, long) => (op, a, b, long),
+        Bare::OneByte(byte) => {
+            out.push_str(".BYTE ")?;
+            return push_number(out, u32::from(byte));
+        }
+    };
+    if let (Form::Plain, None) = (form_at(op), implied_number(op)) {
+        return out.push_str(row_at(op).mnemonic);
+    }
+    let instr = Instr {
+        a,
+        b,
+        long,
+        ..Instr::bare(op)
+    };
+    let (instr, named) = (&instr, &[]);
+    out.write(Instruction { instr, named })
+}
+
+/// Adds what stands for a share that is missing.
+pub(crate) fn push_share(out: &mut String, share: Share) -> Result<(), AllocError>
+    ensures text { OnOk result (string_bytes out.new ≡ string_bytes out.old ++ missing.share_text share) }
+{
+    match share {
+        Share::Words(1) => out.push_str("POP"),
+        Share::Words(words) => {
+            out.push_str("POP*")?;
+            push_number(out, u32::from(words))
+        }
+        Share::Set => out.push_str("POP SET"),
+    }
+}
+
+/// Adds what stands for what is missing behind a name; `?` for all that is taken, where that is not known.
+#[tactic(auto, unfolding(crate::specs::Shown::value_text))]
+fn push_stand_ins(out: &mut String, known: bool, what: Missing) -> Result<(), AllocError>
+    ensures text { OnOk result
+        (string_bytes out.new ≡ string_bytes out.old ++ arguments (missing.stand_ins known what)) }
+{
+    if !known {
+        return out.push_str("(?)");
+    }
+    match (what.below, what.top) {
+        (Share::Words(0), Share::Words(0)) => Ok(()),
+        (Share::Words(0), share) | (share, Share::Words(0)) => {
+            out.push('(')?;
+            push_share(out, share)?;
+            out.push(')')
+        }
+        (below, top) => {
+            out.push('(')?;
+            push_share(out, below)?;
+            out.push_str(", ")?;
+            push_share(out, top)?;
+            out.push(')')
+        }
+    }
+}
+
+/// Adds an item in braces, on what stands for all that it takes.
+fn push_braced(out: &mut String, bare: Bare, known: bool, what: Missing) -> Result<(), AllocError>
+    ensures text { OnOk result (string_bytes out.new
+        ≡ string_bytes out.old ++ braced (leaves.item_of bare) (missing.stand_ins known what)) }
+{
+    out.push('{')?;
+    push_bare(out, bare)?;
+    out.push('}')?;
+    push_stand_ins(out, known, what)
+}
+
 /// Adds the text of an operand.
-#[tactic(auto, unfolding(pm_code::specs::Shown::shown_item))]
 pub(crate) fn push_text(out: &mut String, text: &Text) -> Result<(), AllocError>
     ensures text { OnOk result (string_bytes out.new ≡ string_bytes out.old ++ leaves.bytes_of text.now) }
 {
@@ -90,10 +172,8 @@ pub(crate) fn push_text(out: &mut String, text: &Text) -> Result<(), AllocError>
         Text::Leaf(Leaf::Variable(around, scope, number, spelling)) => {
             push_name(out, *around, *scope, *number, *spelling)
         }
-        Text::Leaf(Leaf::OneByte(byte)) => {
-            out.push_str("{.BYTE ")?;
-            push_number(out, u32::from(*byte))?;
-            out.push('}')
-        }
+        Text::Leaf(Leaf::Fixed(text)) => out.push_str(*text),
+        Text::Leaf(Leaf::StandIn(share)) => push_share(out, *share),
+        Text::Leaf(Leaf::Braced(bare, known, what)) => push_braced(out, *bare, *known, *what),
     }
 }

@@ -21,6 +21,6 @@ mod whole;
 pub mod worked;
 
 pub use around::{Around, Missing};
-pub use jumps::condition_of;
-pub use operand::{Form, Phrase, Value, push_value};
+pub use jumps::{condition_of, push_offset, push_target};
+pub use operand::{Form, Phrase, push_value};
 pub use whole::phrase;

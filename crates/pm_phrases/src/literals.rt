@@ -6,7 +6,8 @@ ghost use Rattle.pm_code.specs.Views.{placed_item};
 ghost use Rattle.pm_phrases.specs.Counts.{operation_in};
 ghost use Rattle.pm_phrases.specs.Literals as texts;
 
-use crate::operand::{Form, Phrase, push_operand, standing, written};
+use crate::leaf::Text;
+use crate::operand::{Form, Phrase, ROOM, push_operand, standing};
 use pm_code::{Item, Quoted};
 use pm_families::Literal;
 use pm_opcode::Operation;
@@ -78,17 +79,15 @@ pub(crate) fn literal_alone(
 ) -> Result<Option<Phrase>, AllocError>
     ensures shown { IfOk result (λ p. p ≡ texts.literal_alone named.now what) }
 {
-    match what {
-        Literal::String(_) => {
-            let text = written(alloc, Apostrophes(named))?;
-            Ok(Some(standing(text, Form::Literal)))
-        }
-        Literal::Characters(_) => {
-            let text = written(alloc, Quoted(named))?;
-            Ok(Some(standing(text, Form::Literal)))
-        }
-        Literal::Words { .. } => Ok(None),
+    if let Literal::Words { .. } = what {
+        return Ok(None);
     }
+    let mut text = String::with_capacity(alloc, ROOM)?;
+    match what {
+        Literal::String(_) => text.write(Apostrophes(named))?,
+        _ => text.write(Quoted(named))?,
+    }
+    Ok(Some(standing(Text::Written(text), Form::Literal)))
 }
 
 /// The bytes of the words of LDC.

@@ -1,47 +1,25 @@
 //! Texts as operands.
 
-ghost use Rattle.std.specs.Prelude.{◌≡◌, ◌∷◌, ◌++◌, IfOk, IfSome, OnOk, Some, string_bytes};
+ghost use Rattle.std.specs.Prelude.{◌≡◌, ◌∷◌, ◌++◌, IfOk, IfSome, OnOk, codes, string_bytes};
+ghost use Rattle.std.specs.Fmt.{decimal};
 ghost use Rattle.std.specs.List.{flat_map};
-ghost use Rattle.pm_phrases.specs.Leaves.{leaf_text};
+ghost use Rattle.pm_phrases.specs.Leaves.{bytes_of, leaf_text};
 ghost use Rattle.pm_phrases.specs.Shown as shown;
 
-use crate::leaf::{Leaf, Text, push_text};
+use crate::leaf::{Leaf, Text, push_number, push_text};
 use std::alloc::{AllocError, Global};
-use std::fmt;
 use std::marker::Model;
 
 /// The room that a text has from the start, in bytes.
 pub(crate) const ROOM: usize = 24;
 
-/// A text, with room for what most texts have.
-pub(crate) fn written<D: fmt::Display + Drop>(alloc: Global, value: D) -> Result<String, AllocError>
-    ensures text { IfOk result (λ text. IfSome (D.output value) (λ bytes. string_bytes text ≡ bytes)) }
-{
-    let mut text = String::with_capacity(alloc, ROOM)?;
-    text.write(value)?;
-    Ok(text)
-}
-
-/// The room for the texts of two operands and what stands around them.
-pub(crate) fn room_for(a: &Phrase, b: &Phrase) -> usize {
-    let room = match a.as_str() {
-        Some(text) => ROOM.saturating_add(text.len()),
-        None => ROOM,
-    };
-    match b.as_str() {
+/// The room for a text of so many bytes and that of an operand.
+pub(crate) fn room_for(room: usize, operand: &Phrase) -> usize {
+    match operand.as_str() {
         Some(text) => room.saturating_add(text.len()),
         None => room,
     }
 }
-
-/// A text of what `format_args!` takes.
-macro_rules! text {
-    (in $alloc:expr; $($arg:tt)+) => {
-        crate::operand::written($alloc, format_args!($($arg)+))
-    };
-}
-
-pub(crate) use text;
 
 /// How a text stands as an operand.
 #[derive(Clone, Copy, Drop)]
@@ -126,48 +104,8 @@ pub(crate) fn strength_of(form: Form) -> u8
     }
 }
 
-/// What stands before a text of a form as a value.
-fn lead_of(form: Form) -> &'static str
-    ensures lead { result.now ≡ shown.lead_of form }
-{
-    match form {
-        Form::Value(_) | Form::Set(_) | Form::Constant(_) | Form::Byte | Form::Literal => "",
-        Form::Variable | Form::Place | Form::Element | Form::Character | Form::Bits => "@",
-    }
-}
-
-/// A text as a value, beside something of a strength: in brackets where it is weaker, and with `@` in front where it is
-/// the place that an address leads to.
-#[derive(Clone, Copy)]
-pub struct Value<'a>(pub &'a Phrase, pub u8);
-
-impl fmt::Display for Value<'_> {
-    ghost output = { λ v. Some (shown.value_text v.0.now v.1) };
-
-    #[tactic(auto, unfolding(crate::specs::Shown::value_text))]
-    fn fmt<W: fmt::Write>(&self, f: &mut fmt::Formatter<W>) -> fmt::Result {
-        let operand = self.0;
-        let text = &operand.text;
-        let form = operand.form;
-        if strength_of(form) < self.1 {
-            f.write_str("(")?;
-            f.write_str(lead_of(form))?;
-            f.write(text)?;
-            return f.write_str(")");
-        }
-        match form {
-            Form::Value(_) | Form::Set(_) | Form::Constant(_) | Form::Byte | Form::Literal => {
-                f.write(text)
-            }
-            Form::Variable | Form::Place | Form::Element | Form::Character | Form::Bits => {
-                f.write_str("@")?;
-                f.write(text)
-            }
-        }
-    }
-}
-
-/// Adds a text as a value beside something of a strength.
+/// Adds a text as a value beside something of a strength: in brackets where it is weaker, and with `@` in front where
+/// it is the place that an address leads to.
 #[tactic(auto, unfolding(crate::specs::Shown::value_text))]
 pub(crate) fn push_operand(
     out: &mut String,
@@ -177,23 +115,21 @@ pub(crate) fn push_operand(
     ensures text { OnOk result
         (string_bytes out.new ≡ string_bytes out.old ++ shown.value_text phrase.now strength) }
 {
-    let text = &phrase.text;
-    let form = phrase.form;
-    if strength_of(form) < strength {
+    let in_brackets = strength_of(phrase.form) < strength;
+    if in_brackets {
         out.push('(')?;
-        out.push_str(lead_of(form))?;
-        push_text(out, text)?;
-        return out.push(')');
     }
-    match form {
-        Form::Value(_) | Form::Set(_) | Form::Constant(_) | Form::Byte | Form::Literal => {
-            push_text(out, text)
-        }
+    match phrase.form {
+        Form::Value(_) | Form::Set(_) | Form::Constant(_) | Form::Byte | Form::Literal => {}
         Form::Variable | Form::Place | Form::Element | Form::Character | Form::Bits => {
             out.push('@')?;
-            push_text(out, text)
         }
     }
+    push_text(out, &phrase.text)?;
+    if in_brackets {
+        out.push(')')?;
+    }
+    Ok(())
 }
 
 /// Adds a text as a value that stands alone.
@@ -203,24 +139,50 @@ pub fn push_value(out: &mut String, phrase: &Phrase) -> Result<(), AllocError>
     push_operand(out, phrase, 0)
 }
 
-/// What an operand leads to, which is an address.
-#[derive(Clone, Copy)]
-pub(crate) struct Place<'a>(pub &'a Phrase);
+/// Adds a word and a number in square brackets behind it, with marks.
+pub(crate) fn push_sized(
+    out: &mut String,
+    word: &str,
+    number: u16,
+    marks: &str,
+) -> Result<(), AllocError>
+    ensures text { OnOk result (string_bytes out.new ≡ string_bytes out.old
+        ++ (word.now ++ (codes "[" ++ (decimal number ++ (marks.now ++ codes "] "))))) }
+{
+    out.push_str(word)?;
+    out.push('[')?;
+    push_number(out, u32::from(number))?;
+    out.push_str(marks)?;
+    out.push_str("] ")
+}
 
-impl fmt::Display for Place<'_> {
-    ghost output = { λ p. Some (shown.place_text p.0.now) };
+/// Adds an operator between two blanks.
+pub(crate) fn push_sign(out: &mut String, sign: &str) -> Result<(), AllocError>
+    ensures text { OnOk result
+        (string_bytes out.new ≡ string_bytes out.old ++ (codes " " ++ (sign.now ++ codes " "))) }
+{
+    out.push(' ')?;
+    out.push_str(sign)?;
+    out.push(' ')
+}
 
-    #[tactic(auto, unfolding(crate::specs::Shown::place_text))]
-    fn fmt<W: fmt::Write>(&self, f: &mut fmt::Formatter<W>) -> fmt::Result {
-        let operand = self.0;
-        match operand.form {
-            Form::Variable | Form::Place | Form::Element | Form::Literal => f.write(&operand.text),
-            Form::Value(_)
-            | Form::Set(_)
-            | Form::Constant(_)
-            | Form::Byte
-            | Form::Character
-            | Form::Bits => write!(f, "{}^", Value(operand, 9)),
+/// Adds what an operand leads to, which is an address.
+#[tactic(auto, unfolding(crate::specs::Shown::place_text))]
+pub(crate) fn push_place(out: &mut String, phrase: &Phrase) -> Result<(), AllocError>
+    ensures text { OnOk result (string_bytes out.new ≡ string_bytes out.old ++ shown.place_text phrase.now) }
+{
+    match phrase.form {
+        Form::Variable | Form::Place | Form::Element | Form::Literal => {
+            push_text(out, &phrase.text)
+        }
+        Form::Value(_)
+        | Form::Set(_)
+        | Form::Constant(_)
+        | Form::Byte
+        | Form::Character
+        | Form::Bits => {
+            push_operand(out, phrase, 9)?;
+            out.push('^')
         }
     }
 }
@@ -253,29 +215,26 @@ pub(crate) fn push_listed(out: &mut String, operands: &[Phrase]) -> Result<(), A
     }
 }
 
-/// A text that needs no memory as an operand.
-pub(crate) fn leafed(leaf: Leaf, form: Form) -> Phrase
-    ensures standing { result ≡ shown.standing form (leaf_text leaf) }
+/// A text as an operand.
+pub(crate) fn standing(text: Text, form: Form) -> Phrase
+    ensures standing { result ≡ shown.standing form (bytes_of text) }
 {
     Phrase {
-        text: Text::Leaf(leaf),
+        text,
         form,
         words: None,
     }
 }
 
-pub(crate) fn standing(text: String, form: Form) -> Phrase
-    ensures standing { result ≡ shown.standing form (string_bytes text) }
+/// A text that needs no memory as an operand.
+pub(crate) fn leafed(leaf: Leaf, form: Form) -> Phrase
+    ensures standing { result ≡ shown.standing form (leaf_text leaf) }
 {
-    Phrase {
-        text: Text::Written(text),
-        form,
-        words: None,
-    }
+    standing(Text::Leaf(leaf), form)
 }
 
 pub(crate) fn valued(text: String, strength: u8) -> Phrase
     ensures value { result ≡ shown.value strength (string_bytes text) }
 {
-    standing(text, Form::Value(strength))
+    standing(Text::Written(text), Form::Value(strength))
 }

@@ -3,9 +3,11 @@
 ghost use Rattle.std.specs.Prelude.{◌≡◌, IfOk, Some, string_bytes};
 ghost use Rattle.pm_phrases.specs.Parts as texts;
 
-use crate::leaf::push_text;
+use crate::leaf::{self, push_number, push_text};
 use crate::literals::push_beside;
-use crate::operand::{Form, Phrase, Place, Value, room_for, standing, text, valued};
+use crate::operand::{
+    Form, Phrase, ROOM, push_place, push_sized, push_value, room_for, standing, valued,
+};
 use pm_families::{Byte, Field, Text};
 use std::alloc::{AllocError, Global};
 
@@ -14,7 +16,7 @@ use std::alloc::{AllocError, Global};
 fn part_stored(alloc: Global, kind: Form, a: &Phrase, b: &Phrase) -> Result<Phrase, AllocError>
     ensures shown { IfOk result (λ p. p ≡ texts.part_stored kind a.now b.now) }
 {
-    let mut text = String::with_capacity(alloc, room_for(a, b))?;
+    let mut text = String::with_capacity(alloc, room_for(room_for(ROOM, a), b))?;
     push_text(&mut text, &a.text)?;
     text.push_str(" := ")?;
     push_beside(&mut text, kind, b, 0)?;
@@ -26,7 +28,9 @@ pub(crate) fn byte_one(alloc: Global, what: Byte, a: &Phrase) -> Result<Option<P
     ensures shown { IfOk result (λ p. p ≡ texts.byte_one what a.now) }
 {
     match (what, a.form) {
-        (Byte::Load, Form::Character) => { Ok(Some(standing(a.to_text(alloc)?, Form::Byte))) }
+        (Byte::Load, Form::Character) => {
+            Ok(Some(standing(leaf::Text::Written(a.to_text(alloc)?), Form::Byte)))
+        }
         _ => Ok(None),
     }
 }
@@ -42,8 +46,12 @@ pub(crate) fn byte_two(
 {
     match (what, a.form) {
         (Byte::Load, _) => {
-            let text = text!(in alloc; "{}.byte[{}]", Place(a), Value(b, 0))?;
-            Ok(Some(standing(text, Form::Byte)))
+            let mut text = String::with_capacity(alloc, room_for(room_for(ROOM, a), b))?;
+            push_place(&mut text, a)?;
+            text.push_str(".byte[")?;
+            push_value(&mut text, b)?;
+            text.push(']')?;
+            Ok(Some(standing(leaf::Text::Written(text), Form::Byte)))
         }
         (Byte::Store, Form::Character) => Ok(Some(part_stored(alloc, Form::Byte, a, b)?)),
         _ => Ok(None),
@@ -63,7 +71,12 @@ pub(crate) fn byte_three(
     match what {
         Byte::Load => Ok(None),
         Byte::Store => {
-            let mut text = text!(in alloc; "{}.byte[{}] := ", Place(a), Value(b, 0))?;
+            let room = room_for(room_for(room_for(ROOM, a), b), c);
+            let mut text = String::with_capacity(alloc, room)?;
+            push_place(&mut text, a)?;
+            text.push_str(".byte[")?;
+            push_value(&mut text, b)?;
+            text.push_str("] := ")?;
             push_beside(&mut text, Form::Byte, c, 0)?;
             Ok(Some(valued(text, 0)))
         }
@@ -81,27 +94,20 @@ pub(crate) fn text_two(
 {
     match what {
         Text::Index => {
-            let text = text!(in alloc; "{}.char[{}]", Place(a), Value(b, 0))?;
-            Ok(standing(text, Form::Character))
+            let mut text = String::with_capacity(alloc, room_for(room_for(ROOM, a), b))?;
+            push_place(&mut text, a)?;
+            text.push_str(".char[")?;
+            push_value(&mut text, b)?;
+            text.push(']')?;
+            Ok(standing(leaf::Text::Written(text), Form::Character))
         }
         Text::Assign(n) => {
-            let text = text!(in alloc; "{} := string[{n}] {}", Place(a), Place(b))?;
+            let mut text = String::with_capacity(alloc, room_for(room_for(ROOM, a), b))?;
+            push_place(&mut text, a)?;
+            push_sized(&mut text, " := string", u16::from(n), "")?;
+            push_place(&mut text, b)?;
             Ok(valued(text, 0))
         }
-    }
-}
-
-#[tactic(auto, unfolding(crate::specs::Parts::field_one))]
-pub(crate) fn field_one(
-    alloc: Global,
-    what: Field,
-    a: &Phrase,
-) -> Result<Option<Phrase>, AllocError>
-    ensures shown { IfOk result (λ p. p ≡ texts.field_one what a.now) }
-{
-    match (what, a.form) {
-        (Field::Load, Form::Bits) => { Ok(Some(valued(a.to_text(alloc)?, 9))) }
-        _ => Ok(None),
     }
 }
 
@@ -116,9 +122,16 @@ pub(crate) fn field_two(
 {
     match (what, a.form) {
         (Field::Index { per_word, width }, _) => {
-            let (a, b) = (Place(a), Value(b, 0));
-            let text = text!(in alloc; "{a}.packed[{b}: {per_word} of {width} bits]")?;
-            Ok(Some(standing(text, Form::Bits)))
+            let mut text = String::with_capacity(alloc, room_for(room_for(2 * ROOM, a), b))?;
+            push_place(&mut text, a)?;
+            text.push_str(".packed[")?;
+            push_value(&mut text, b)?;
+            text.push_str(": ")?;
+            push_number(&mut text, u32::from(per_word))?;
+            text.push_str(" of ")?;
+            push_number(&mut text, u32::from(width))?;
+            text.push_str(" bits]")?;
+            Ok(Some(standing(leaf::Text::Written(text), Form::Bits)))
         }
         (Field::Store, Form::Bits) => Ok(Some(part_stored(alloc, Form::Bits, a, b)?)),
         _ => Ok(None),
@@ -137,7 +150,14 @@ pub(crate) fn field_three(
 {
     match what {
         Field::Load => {
-            let text = text!(in alloc; "{}.bits[{}: {}]", Place(a), Value(b, 0), Value(c, 0))?;
+            let room = room_for(room_for(room_for(ROOM, a), b), c);
+            let mut text = String::with_capacity(alloc, room)?;
+            push_place(&mut text, a)?;
+            text.push_str(".bits[")?;
+            push_value(&mut text, b)?;
+            text.push_str(": ")?;
+            push_value(&mut text, c)?;
+            text.push(']')?;
             Ok(Some(valued(text, 9)))
         }
         _ => Ok(None),
@@ -157,8 +177,16 @@ pub(crate) fn field_four(
 {
     match what {
         Field::Store => {
-            let (a, b, c, d) = (Place(a), Value(b, 0), Value(c, 0), Value(d, 0));
-            Ok(Some(valued(text!(in alloc; "{a}.bits[{b}: {c}] := {d}")?, 0)))
+            let room = room_for(room_for(room_for(room_for(2 * ROOM, a), b), c), d);
+            let mut text = String::with_capacity(alloc, room)?;
+            push_place(&mut text, a)?;
+            text.push_str(".bits[")?;
+            push_value(&mut text, b)?;
+            text.push_str(": ")?;
+            push_value(&mut text, c)?;
+            text.push_str("] := ")?;
+            push_value(&mut text, d)?;
+            Ok(Some(valued(text, 0)))
         }
         _ => Ok(None),
     }

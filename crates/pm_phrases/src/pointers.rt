@@ -1,9 +1,13 @@
 //! Operations on addresses.
 
-ghost use Rattle.std.specs.Prelude.{◌≡◌, IfOk, Some};
+ghost use Rattle.std.specs.Prelude.{◌≡◌, IfOk};
 ghost use Rattle.pm_phrases.specs.Pointers as texts;
 
-use crate::operand::{Form, Phrase, Place, Value, push_value, standing, text, valued, written};
+use crate::leaf::{Text, push_number};
+use crate::operand::{
+    Form, Phrase, ROOM, push_operand, push_place, push_sized, push_value, room_for, standing,
+    valued,
+};
 use crate::spelling::{Spelling, marks_of};
 use pm_families::Pointer;
 use std::alloc::{AllocError, Global};
@@ -29,19 +33,35 @@ pub(crate) fn pointer_one(
 ) -> Result<Option<Phrase>, AllocError>
     ensures shown { IfOk result (λ p. p ≡ texts.pointer_one spelling what a.now) }
 {
+    if matches!(
+        what,
+        Pointer::Index(_) | Pointer::Store | Pointer::StoreWords(_) | Pointer::Move(_)
+    ) {
+        return Ok(None);
+    }
+    let mut text = String::with_capacity(alloc, room_for(ROOM, a))?;
     match what {
         Pointer::Increment(n) => {
-            let text = text!(in alloc; "{}.{n}{}", Place(a), marks_of(spelling))?;
-            Ok(Some(standing(text, Form::Place)))
-        }
-        Pointer::Load(n) if is_unnumbered(spelling, a.form, n) => {
-            Ok(Some(valued(written(alloc, Place(a))?, 9)))
+            push_place(&mut text, a)?;
+            text.push('.')?;
+            push_number(&mut text, u32::from(n))?;
+            text.push_str(marks_of(spelling))?;
+            Ok(Some(standing(Text::Written(text), Form::Place)))
         }
         Pointer::Load(n) => {
-            let text = text!(in alloc; "{}.{n}{}", Place(a), marks_of(spelling))?;
+            push_place(&mut text, a)?;
+            if !is_unnumbered(spelling, a.form, n) {
+                text.push('.')?;
+                push_number(&mut text, u32::from(n))?;
+                text.push_str(marks_of(spelling))?;
+            }
             Ok(Some(valued(text, 9)))
         }
-        Pointer::LoadWords(n) => Ok(Some(valued(text!(in alloc; "load[{n}] {}", Place(a))?, 4))),
+        Pointer::LoadWords(n) => {
+            push_sized(&mut text, "load", u16::from(n), "")?;
+            push_place(&mut text, a)?;
+            Ok(Some(valued(text, 4)))
+        }
         _ => Ok(None),
     }
 }
@@ -56,15 +76,21 @@ fn indexed(
 ) -> Result<Phrase, AllocError>
     ensures shown { IfOk result (λ p. p ≡ texts.indexed spelling number a.now b.now) }
 {
+    let mut text = String::with_capacity(alloc, room_for(room_for(ROOM, a), b))?;
+    push_place(&mut text, a)?;
+    text.push('[')?;
+    push_value(&mut text, b)?;
     match spelling {
         Spelling::Shortest if number == 1 => {
-            let text = text!(in alloc; "{}[{}]", Place(a), Value(b, 0))?;
-            Ok(standing(text, Form::Element))
+            text.push(']')?;
+            Ok(standing(Text::Written(text), Form::Element))
         }
         _ => {
-            let marks = marks_of(spelling);
-            let text = text!(in alloc; "{}[{}:{number}{marks}]", Place(a), Value(b, 0))?;
-            Ok(standing(text, Form::Element))
+            text.push(':')?;
+            push_number(&mut text, u32::from(number))?;
+            text.push_str(marks_of(spelling))?;
+            text.push(']')?;
+            Ok(standing(Text::Written(text), Form::Element))
         }
     }
 }
@@ -79,27 +105,32 @@ pub(crate) fn pointer_two(
 ) -> Result<Option<Phrase>, AllocError>
     ensures shown { IfOk result (λ p. p ≡ texts.pointer_two spelling what a.now b.now) }
 {
+    if let Pointer::Index(n) = what {
+        return Ok(Some(indexed(alloc, spelling, n, a, b)?));
+    }
+    let mut text = String::with_capacity(alloc, room_for(room_for(ROOM, a), b))?;
     match (what, a.form) {
-        (Pointer::Index(n), _) => Ok(Some(indexed(alloc, spelling, n, a, b)?)),
         (Pointer::Store, Form::Variable) => {
-            let text = text!(in alloc; "{}^ := {}", Value(a, 9), Value(b, 0))?;
-            Ok(Some(valued(text, 0)))
+            push_operand(&mut text, a, 9)?;
+            text.push_str("^ := ")?;
+            push_value(&mut text, b)?;
         }
         (Pointer::Store, _) => {
-            let mut text = written(alloc, Place(a))?;
+            push_place(&mut text, a)?;
             text.push_str(" := ")?;
             push_value(&mut text, b)?;
-            Ok(Some(valued(text, 0)))
         }
         (Pointer::StoreWords(n), _) => {
-            let text = text!(in alloc; "{} :=[{n}] {}", Place(a), Value(b, 0))?;
-            Ok(Some(valued(text, 0)))
+            push_place(&mut text, a)?;
+            push_sized(&mut text, " :=", u16::from(n), "")?;
+            push_value(&mut text, b)?;
         }
         (Pointer::Move(n), _) => {
-            let marks = marks_of(spelling);
-            let text = text!(in alloc; "{} := move[{n}{marks}] {}", Place(a), Place(b))?;
-            Ok(Some(valued(text, 0)))
+            push_place(&mut text, a)?;
+            push_sized(&mut text, " := move", n, marks_of(spelling))?;
+            push_place(&mut text, b)?;
         }
-        _ => Ok(None),
+        _ => return Ok(None),
     }
+    Ok(Some(valued(text, 0)))
 }

@@ -1,9 +1,12 @@
 //! Sets.
 
-ghost use Rattle.std.specs.Prelude.{◌≡◌, ◌<◌, ◌*◌, IfOk, Some, option_map};
+ghost use Rattle.std.specs.Prelude.{◌≡◌, ◌<◌, ◌*◌, ◌++◌, IfOk, IfSome, OnOk, Some, option_map, string_bytes};
 ghost use Rattle.pm_phrases.specs.Sets as texts;
 
-use crate::operand::{Form, Phrase, Value, standing, text, valued};
+use crate::leaf::Text;
+use crate::operand::{
+    Form, Phrase, ROOM, push_operand, push_sign, push_sized, push_value, room_for, standing, valued,
+};
 use pm_families::Set;
 use std::alloc::{AllocError, Global};
 use std::fmt;
@@ -105,43 +108,39 @@ impl fmt::Display for SetConstant<'_> {
     }
 }
 
-/// A set of words and their count.
-#[derive(Clone, Copy)]
-struct Counted<'a>(&'a Phrase, &'a Phrase);
-
-impl fmt::Display for Counted<'_> {
-    ghost output = { λ c. Some (texts.counted_text c.0.now c.1.now) };
-
-    #[tactic(auto, unfolding(crate::specs::Sets::counted_text))]
-    fn fmt<W: fmt::Write>(&self, f: &mut fmt::Formatter<W>) -> fmt::Result {
-        let (words, count) = (self.0, self.1);
-        match (&words.words, words.form, count.form) {
-            (Some(bytes), _, Form::Constant(n)) if n >= 2 && bytes.len() / 2 == usize::from(n) => {
-                f.write(SetConstant(bytes, n))
-            }
-            (None, Form::Constant(word), Form::Constant(1)) => {
-                let bytes = word.to_le_bytes();
-                f.write(SetConstant(&bytes, 1))
-            }
-            _ => write!(f, "SET({}, {})", Value(words, 0), Value(count, 0)),
+/// Adds a set of words and their count.
+#[tactic(auto, unfolding(crate::specs::Sets::counted_text))]
+fn push_counted(out: &mut String, words: &Phrase, count: &Phrase) -> Result<(), AllocError>
+    ensures text { OnOk result
+        (string_bytes out.new ≡ string_bytes out.old ++ texts.counted_text words.now count.now) }
+{
+    match (&words.words, words.form, count.form) {
+        (Some(bytes), _, Form::Constant(n)) if n >= 2 && bytes.len() / 2 == usize::from(n) => {
+            out.write(SetConstant(bytes, n))
+        }
+        (None, Form::Constant(word), Form::Constant(1)) => {
+            let bytes = word.to_le_bytes();
+            out.write(SetConstant(&bytes, 1))
+        }
+        _ => {
+            out.push_str("SET(")?;
+            push_value(out, words)?;
+            out.push_str(", ")?;
+            push_value(out, count)?;
+            out.push(')')
         }
     }
 }
 
-/// A set that is one operand.
-#[derive(Clone, Copy)]
-struct SetText<'a>(&'a Phrase, u8);
-
-impl fmt::Display for SetText<'_> {
-    ghost output = { λ s. Some (texts.set_text s.0.now s.1) };
-
-    #[tactic(auto, unfolding(crate::specs::Sets::set_text))]
-    fn fmt<W: fmt::Write>(&self, f: &mut fmt::Formatter<W>) -> fmt::Result {
-        let set = self.0;
-        match set.form {
-            Form::Constant(0) => f.write_str("[]"),
-            _ => f.write(Value(set, self.1)),
-        }
+/// Adds a set that is one operand.
+#[tactic(auto, unfolding(crate::specs::Sets::set_text))]
+fn push_set(out: &mut String, set: &Phrase, strength: u8) -> Result<(), AllocError>
+    ensures text { OnOk result
+        (string_bytes out.new ≡ string_bytes out.old ++ texts.set_text set.now strength) }
+{
+    match set.form {
+        Form::Constant(0) => out.push_str("[]"),
+        _ => push_operand(out, set, strength),
     }
 }
 
@@ -155,26 +154,17 @@ fn constant_mark(a: Form, b: Form) -> &'static str
     }
 }
 
-/// The sign between two sets that make a third.
-fn set_sign(what: Set) -> Option<&'static str>
-    ensures sign { option_map (λ sign. sign.now) result ≡ texts.set_sign what }
+/// The sign between two sets that make a third, and how strongly it holds them together.
+fn set_sign(what: Set) -> Option<(&'static str, u8)>
+    ensures sign { option_map (λ s. s.0.now) result ≡ texts.set_sign what }
+    ensures strength { IfSome result (λ s. s.1 ≡ texts.set_strength what) }
+    ensures few { IfSome result (λ s. s.1 < 9) }
 {
     match what {
-        Set::Union => Some("+"),
-        Set::Difference => Some("-"),
-        Set::Intersection => Some("*"),
+        Set::Union => Some(("+", 2)),
+        Set::Difference => Some(("-", 2)),
+        Set::Intersection => Some(("*", 3)),
         _ => None,
-    }
-}
-
-/// How strongly that holds them together.
-fn set_strength(what: Set) -> u8
-    ensures strength { result ≡ texts.set_strength what }
-    ensures few { result < 9 }
-{
-    match what {
-        Set::Intersection => 3,
-        _ => 2,
     }
 }
 
@@ -184,16 +174,50 @@ pub(crate) fn set_one(alloc: Global, what: Set, a: &Phrase) -> Result<Option<Phr
 {
     match what {
         Set::Singleton => {
-            let mark = constant_mark(a.form, a.form);
-            let text = text!(in alloc; "[{}]{mark}", Value(a, 0))?;
-            Ok(Some(standing(text, Form::Set(9))))
+            let mut text = String::with_capacity(alloc, room_for(ROOM, a))?;
+            text.push('[')?;
+            push_value(&mut text, a)?;
+            text.push(']')?;
+            text.push_str(constant_mark(a.form, a.form))?;
+            Ok(Some(standing(Text::Written(text), Form::Set(9))))
         }
-        Set::Adjust(n) => Ok(Some(valued(text!(in alloc; "adj[{n}] {}", SetText(a, 4))?, 4))),
+        Set::Adjust(n) => {
+            let mut text = String::with_capacity(alloc, room_for(ROOM, a))?;
+            push_sized(&mut text, "adj", u16::from(n), "")?;
+            push_set(&mut text, a, 4)?;
+            Ok(Some(valued(text, 4)))
+        }
         _ => Ok(None),
     }
 }
 
-#[tactic(auto, unfolding(crate::specs::Sets::set_two, crate::specs::Sets::sets_joined))]
+/// Two sets that each are one operand.
+#[tactic(auto, unfolding(crate::specs::Sets::sets_joined))]
+fn sets_joined(
+    alloc: Global,
+    what: Set,
+    a: &Phrase,
+    b: &Phrase,
+) -> Result<Option<Phrase>, AllocError>
+    ensures shown { IfOk result (λ p. p ≡ texts.sets_joined what a.now b.now) }
+{
+    match (set_sign(what), a.form, b.form) {
+        (
+            Some((sign, strength)),
+            Form::Set(_) | Form::Constant(0),
+            Form::Set(_) | Form::Constant(0),
+        ) => {
+            let mut text = String::with_capacity(alloc, room_for(room_for(ROOM, a), b))?;
+            push_set(&mut text, a, strength)?;
+            push_sign(&mut text, sign)?;
+            push_set(&mut text, b, strength + 1)?;
+            Ok(Some(standing(Text::Written(text), Form::Set(strength))))
+        }
+        _ => Ok(None),
+    }
+}
+
+#[tactic(auto, unfolding(crate::specs::Sets::set_two))]
 pub(crate) fn set_two(
     alloc: Global,
     what: Set,
@@ -204,27 +228,29 @@ pub(crate) fn set_two(
 {
     match what {
         Set::Member => {
-            let text = text!(in alloc; "{} IN {}", Value(a, 2), SetText(b, 2))?;
+            let mut text = String::with_capacity(alloc, room_for(room_for(ROOM, a), b))?;
+            push_operand(&mut text, a, 2)?;
+            text.push_str(" IN ")?;
+            push_set(&mut text, b, 2)?;
             Ok(Some(valued(text, 1)))
         }
         Set::Subrange => {
-            let mark = constant_mark(a.form, b.form);
-            let text = text!(in alloc; "[{}..{}]{mark}", Value(a, 0), Value(b, 0))?;
-            Ok(Some(standing(text, Form::Set(9))))
+            let mut text = String::with_capacity(alloc, room_for(room_for(ROOM, a), b))?;
+            text.push('[')?;
+            push_value(&mut text, a)?;
+            text.push_str("..")?;
+            push_value(&mut text, b)?;
+            text.push(']')?;
+            text.push_str(constant_mark(a.form, b.form))?;
+            Ok(Some(standing(Text::Written(text), Form::Set(9))))
         }
         Set::Adjust(n) => {
-            let text = text!(in alloc; "adj[{n}] {}", Counted(a, b))?;
+            let mut text = String::with_capacity(alloc, room_for(room_for(ROOM, a), b))?;
+            push_sized(&mut text, "adj", u16::from(n), "")?;
+            push_counted(&mut text, a, b)?;
             Ok(Some(valued(text, 4)))
         }
-        _ => match (set_sign(what), a.form, b.form) {
-            (Some(sign), Form::Set(_) | Form::Constant(0), Form::Set(_) | Form::Constant(0)) => {
-                let strength = set_strength(what);
-                let (a, b) = (SetText(a, strength), SetText(b, strength + 1));
-                let text = text!(in alloc; "{a} {sign} {b}")?;
-                Ok(Some(standing(text, Form::Set(strength))))
-            }
-            _ => Ok(None),
-        },
+        _ => sets_joined(alloc, what, a, b),
     }
 }
 
@@ -241,23 +267,26 @@ pub(crate) fn set_three(
 {
     match what {
         Set::Member => {
-            let text = text!(in alloc; "{} IN {}", Value(a, 2), Counted(b, c))?;
+            let mut text = String::with_capacity(alloc, room_for(2 * ROOM, a))?;
+            push_operand(&mut text, a, 2)?;
+            text.push_str(" IN ")?;
+            push_counted(&mut text, b, c)?;
             Ok(Some(valued(text, 1)))
         }
         _ => match (set_sign(what), a.form, c.form) {
-            (Some(sign), Form::Set(_), _) => {
-                let strength = set_strength(what);
-                let text = text!(in alloc; "{} {sign} {}", Value(a, strength), Counted(b, c))?;
-                Ok(Some(standing(text, Form::Set(strength))))
+            (Some((sign, strength)), Form::Set(_), _) => {
+                let mut text = String::with_capacity(alloc, room_for(2 * ROOM, a))?;
+                push_operand(&mut text, a, strength)?;
+                push_sign(&mut text, sign)?;
+                push_counted(&mut text, b, c)?;
+                Ok(Some(standing(Text::Written(text), Form::Set(strength))))
             }
-            (Some(sign), _, Form::Set(_)) => {
-                let strength = set_strength(what);
-                let text = text!(in alloc;
-                    "{} {sign} {}",
-                    Counted(a, b),
-                    Value(c, strength + 1)
-                )?;
-                Ok(Some(standing(text, Form::Set(strength))))
+            (Some((sign, strength)), _, Form::Set(_)) => {
+                let mut text = String::with_capacity(alloc, room_for(2 * ROOM, c))?;
+                push_counted(&mut text, a, b)?;
+                push_sign(&mut text, sign)?;
+                push_operand(&mut text, c, strength + 1)?;
+                Ok(Some(standing(Text::Written(text), Form::Set(strength))))
             }
             _ => Ok(None),
         },
@@ -278,9 +307,12 @@ pub(crate) fn set_four(
     match (set_sign(what), a.form, d.form) {
         (_, Form::Set(_) | Form::Constant(0), _) => Ok(None),
         (_, _, Form::Set(_) | Form::Constant(0)) => Ok(None),
-        (Some(sign), _, _) => {
-            let text = text!(in alloc; "{} {sign} {}", Counted(a, b), Counted(c, d))?;
-            Ok(Some(standing(text, Form::Set(set_strength(what)))))
+        (Some((sign, strength)), _, _) => {
+            let mut text = String::with_capacity(alloc, 4 * ROOM)?;
+            push_counted(&mut text, a, b)?;
+            push_sign(&mut text, sign)?;
+            push_counted(&mut text, c, d)?;
+            Ok(Some(standing(Text::Written(text), Form::Set(strength))))
         }
         (None, _, _) => Ok(None),
     }

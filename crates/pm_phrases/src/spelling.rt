@@ -28,25 +28,18 @@ pub(crate) fn marks_of(spelling: Spelling) -> &'static str
     }
 }
 
-/// Whether an opcode has the number of the operation in itself.
-#[tactic(auto, unfolding(crate::specs::Spelled::fits_opcode))]
-fn fits_opcode(what: Operation) -> bool
-    ensures fits { result ≡ spelled.fits_opcode what }
+/// How an instruction is spelled that is this operation.
+#[tactic(auto, unfolding(crate::specs::Spelled::spelling_of, crate::specs::Spelled::has_shorter, crate::specs::Spelled::fits_opcode))]
+pub(crate) fn spelling_of(i: &Instr, what: Operation) -> Spelling
+    ensures spelling { result ≡ spelled.spelling_of i.now what }
 {
-    match what {
+    let fits_opcode = match what {
         Operation::Arithmetic(Arithmetic::Constant(n)) => n < 128,
         Operation::Variable(Variable::Load(Scope::Global | Scope::Local, n)) => 1 <= n && n <= 16,
         Operation::Pointer(Pointer::Load(n)) => n < 8,
         _ => false,
-    }
-}
-
-/// How an instruction is spelled that is this operation.
-#[tactic(auto, unfolding(crate::specs::Spelled::spelling_of, crate::specs::Spelled::has_shorter))]
-pub(crate) fn spelling_of(i: &Instr, what: Operation) -> Spelling
-    ensures spelling { result ≡ spelled.spelling_of i.now what }
-{
-    let shorter = implied_number(i.op).is_none() && fits_opcode(what);
+    };
+    let shorter = implied_number(i.op).is_none() && fits_opcode;
     match (i.long, shorter) {
         (false, false) => Spelling::Shortest,
         (true, true) => Spelling::Longest,

@@ -1,77 +1,79 @@
 //! The text of an operation on its operands.
 
-ghost use Rattle.std.specs.Prelude.{◌≡◌, ◌++◌, IfOk};
+ghost use Rattle.std.specs.Prelude.{◌≡◌, ◌++◌, IfOk, IfSome, None};
 ghost use Rattle.pm_code.specs.Views.{placed_item};
 ghost use Rattle.pm_phrases.specs.Counts as counts;
-ghost use Rattle.pm_phrases.specs.Missing.{listed};
+ghost use Rattle.pm_phrases.specs.Missing.{stand_ins};
 ghost use Rattle.pm_phrases.specs.Phrases as texts;
 
-use crate::around::{Around, Missing, Pops, push_arguments, stand_ins};
+use crate::around::{Around, Missing, Pops, push_arguments, stand_in};
 use crate::calls::called;
-use crate::counts::{behind_one, behind_two, by_count, operation_in};
-use crate::leaf::{Leaf, Text};
+use crate::counts::{by_count, operation_in};
+use crate::leaf::{Leaf, bare_in, push_bare};
 use crate::literals::words_in;
-use crate::operand::{Form, Phrase, ROOM, leafed};
+use crate::operand::{Form, Phrase, ROOM, leafed, room_for, valued};
 use pm_code::Item;
 use pm_effects::Share;
 use pm_opcode::Operation;
 use std::alloc::{AllocError, Global};
 
+/// The text that an item has of its own, by its operands behind those that stand for what is missing.
 #[tactic(auto, unfolding(crate::specs::Phrases::template))]
 fn template(
     alloc: Global,
     around: Around,
     item: &Item<usize>,
     what: Operation,
-    pops: &Pops,
+    known: bool,
+    missing: Missing,
     operands: &[Phrase],
 ) -> Result<Option<Phrase>, AllocError>
     requires what { what ≡ counts.operation_in (placed_item item.now) }
     ensures shown { IfOk result
-        (λ p. p ≡ texts.template around (placed_item item.now) (listed pops.now ++ operands.now)) }
+        (λ p. p ≡ texts.template around (placed_item item.now) (stand_ins known missing ++ operands.now)) }
 {
-    match called(alloc, what, pops, operands)? {
-        Some(call) => Ok(Some(call)),
-        None => match pops {
-            Pops::None => by_count(alloc, around, item, what, operands),
-            Pops::One(p) => behind_one(alloc, around, item, what, p, operands),
-            Pops::Two(p, q) => behind_two(alloc, around, item, what, p, q, operands),
-        },
+    if let Some(call) = called(alloc, what, known, missing, operands)? {
+        return Ok(Some(call));
+    }
+    if !known {
+        let all = leafed(Leaf::Fixed("?"), Form::Value(9));
+        return by_count(alloc, around, item, what, Pops::One(&all), operands);
+    }
+    match (missing.below, missing.top) {
+        (Share::Words(0), Share::Words(0)) => {
+            by_count(alloc, around, item, what, Pops::None, operands)
+        }
+        (Share::Words(0), share) | (share, Share::Words(0)) => {
+            let pop = stand_in(share);
+            by_count(alloc, around, item, what, Pops::One(&pop), operands)
+        }
+        (below, top) => {
+            let (below, top) = (stand_in(below), stand_in(top));
+            by_count(alloc, around, item, what, Pops::Two(&below, &top), operands)
+        }
     }
 }
 
-/// The text of an operation on its operands, behind those that stand for what is missing.
-fn behind(
-    alloc: Global,
-    around: Around,
+/// An item in braces, on what stands for all that it takes, where it needs no memory.
+fn braced_alone(
     item: &Item<usize>,
-    pops: &Pops,
-    operands: &[Phrase],
-) -> Result<Phrase, AllocError>
-    ensures shown { IfOk result (λ p. p ≡ texts.or_braced (placed_item item.now) (listed pops.now ++ operands.now)
-        (texts.template around (placed_item item.now) (listed pops.now ++ operands.now))) }
+    what: Operation,
+    known: bool,
+    missing: Missing,
+) -> Option<Phrase>
+    requires what { what ≡ counts.operation_in (placed_item item.now) }
+    ensures shown { IfSome result
+        (λ p. p ≡ texts.or_braced (placed_item item.now) (stand_ins known missing) None) }
 {
-    let what = operation_in(item);
-    match template(alloc, around, item, what, pops, operands)? {
-        Some(phrase) => Ok(phrase),
-        None => {
-            let mut text = String::with_capacity(alloc, ROOM)?;
-            text.push('{')?;
-            text.write(item)?;
-            text.push('}')?;
-            push_arguments(&mut text, pops, operands)?;
-            Ok(Phrase {
-                text: Text::Written(text),
-                form: Form::Value(9),
-                words: words_in(alloc, item, what)?,
-            })
-        }
+    match bare_in(item, what) {
+        Some(bare) => Some(leafed(Leaf::Braced(bare, known, missing), Form::Value(9))),
+        None => None,
     }
 }
 
 /// The text of an operation on its operands, from the first to the last. Of a call that is not known to take so many,
 /// `?` stands for all.
-#[tactic(auto, unfolding(crate::specs::Phrases::phrase_of, crate::specs::Phrases::template, crate::specs::Calls::called, crate::specs::Counts::by_count, crate::specs::Counts::of_none, crate::specs::Counts::operation_in))]
+#[tactic(auto, unfolding(crate::specs::Phrases::phrase_of))]
 pub fn phrase(
     alloc: Global,
     around: Around,
@@ -83,12 +85,26 @@ pub fn phrase(
     ensures shown { IfOk result
         (λ p. p ≡ texts.phrase_of around (placed_item item.now) known missing operands.now) }
 {
-    let (true, Share::Words(0), Share::Words(0)) = (known, missing.below, missing.top) else {
-        let pops = stand_ins(alloc, known, missing)?;
-        return behind(alloc, around, item, &pops, operands);
-    };
-    match (item, operands) {
-        (Item::OneByte(byte), []) => Ok(leafed(Leaf::OneByte(*byte), Form::Value(9))),
-        _ => behind(alloc, around, item, &Pops::None, operands),
+    let what = operation_in(item);
+    if let Some(phrase) = template(alloc, around, item, what, known, missing, operands)? {
+        return Ok(phrase);
     }
+    if let ([], Some(phrase)) = (operands, braced_alone(item, what, known, missing)) {
+        return Ok(phrase);
+    }
+    let room = match operands {
+        [] => ROOM,
+        [first, ..] => room_for(2 * ROOM, first),
+    };
+    let mut text = String::with_capacity(alloc, room)?;
+    text.push('{')?;
+    match bare_in(item, what) {
+        Some(bare) => push_bare(&mut text, bare)?,
+        None => text.write(item)?,
+    }
+    text.push('}')?;
+    push_arguments(&mut text, known, missing, operands)?;
+    let mut phrase = valued(text, 9);
+    phrase.words = words_in(alloc, item, what)?;
+    Ok(phrase)
 }

@@ -2,7 +2,6 @@ pub mod Around
 pub mod Blanks
 pub mod Spanned
 pub mod Listed
-pub mod Offsets
 pub mod Marked
 pub mod Called
 pub mod Computed

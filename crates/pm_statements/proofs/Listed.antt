@@ -1,12 +1,13 @@
 -- The lines of statements, one after another.
 use Rattle.std.proofs.Common.{◌≡◌, ◌<◌, ◌≤◌, ℕ, suc, Bool, List, [], ◌∷◌, ◌++◌, ◌+◌, ◌-◌, arith, drop, length, refl, sym, ap, ◌∙◌, append_assoc}
+use Rattle.std.specs.Prelude.{codes, min}
 use Rattle.std.proofs.lemmas.List.{append-nil, drop_all}
 use Rattle.pm_code.specs.Item.{Item, size}
 use Rattle.pm_phrases.specs.Shown.{Shown}
 use Rattle.pm_trees.specs.declared.left.Left.{Left}
 use Rattle.pm_trees.specs.Parts.{Known, Part, part_of, parts, place_at}
 use Rattle.pm_statements.specs.Depths.{Depths, at_place}
-use Rattle.pm_statements.specs.Texts.{is_call, line, lines, two_each}
+use Rattle.pm_statements.specs.Texts.{blanks, is_call, line, lines, two_each}
 
 pub lines_none : (d : Depths) (behind_call : Bool) (ls : List Left) → lines d behind_call ls [] ≡ []
 unfolding lines
@@ -41,8 +42,12 @@ pub parts_done : (k : Known) (used : List ℕ) (exit at : ℕ) (items : List (It
     → front ++ parts k used exit at items ≡ front
 parts_done k used exit at items front e = ap (λ is. front ++ parts k used exit at is) e ∙ append-nil front
 
-pub text_joined : (old middle new first second : List ℕ) → middle ≡ old ++ first → new ≡ middle ++ second → new ≡ old ++ (first ++ second)
-text_joined old middle new first second e f = f ∙ ap (λ t. t ++ second) e ∙ append_assoc old first second
+-- the blanks of the deepest level, and of those before it
+pub all_levels : (depth : ℕ) → 30 ≤ depth → blanks depth ≡ codes "                                                            "
+all_levels depth high = let same : min depth 30 ≡ 30 = omega (arith, high) in ap two_each same
+
+pub few_levels : (depth : ℕ) → depth < 30 → blanks depth ≡ two_each depth
+few_levels depth low = let same : min depth 30 ≡ depth = omega (arith, low) in ap two_each same
 
 -- the blanks of eight levels more, of one level more, and behind the last ones
 pub eight_step : (rest : ℕ) (out new whole : List ℕ) → 8 ≤ rest → new ≡ out ++ two_each 8

@@ -10,10 +10,9 @@ use crate::conditions::push_condition;
 use crate::leading::behind_first;
 use crate::lines::{is_call, is_check, push_beside, push_blanks, push_front, push_own};
 use crate::marks::Marks;
-use pm_phrases::{Phrase, Value};
+use pm_phrases::{Phrase, push_value};
 use pm_trees::{Left, Line, Role, Word};
 use std::alloc::{AllocError, Global};
-use std::fmt::Write;
 
 /// Adds a condition between two texts, by the text of its statement.
 fn push_between(
@@ -60,8 +59,8 @@ fn push_word(
         Word::Case => out.push_str("CASE")?,
         Word::Leave => out.push_str("LEAVE")?,
         Word::EndCase => {
-            let value = Value(phrase, 0);
-            write!(out, "END {value}")?;
+            out.push_str("END ")?;
+            push_value(out, phrase)?;
         }
         Word::Repeat | Word::End => (),
     }

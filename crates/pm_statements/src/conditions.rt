@@ -1,11 +1,18 @@
 //! The conditions of jumps.
 
-ghost use Rattle.std.specs.Prelude.{◌≡◌, ◌++◌, string_bytes, OnOk};
+ghost use Rattle.std.specs.Prelude.{◌≡◌, ◌++◌, string_bytes, IfOk, OnOk};
+ghost use Rattle.pm_code.specs.Shown.{target_text};
+ghost use Rattle.pm_code.specs.Views.{placed_target};
 ghost use Rattle.pm_statements.specs.BlockLines as texts;
 
+use pm_code::Target;
 use pm_families::Condition;
+use pm_phrases::push_target;
 use pm_trees::Role;
 use std::alloc::{AllocError, Global};
+
+/// The room for the text of a jump, in bytes.
+const ROOM: usize = 16;
 
 /// A text without another one in front, if that stands there.
 fn without_front<'a>(text: &'a str, front: &str) -> &'a str
@@ -27,6 +34,16 @@ fn without_tail<'a>(text: &'a str, tail: &str) -> &'a str
     }
 }
 
+/// A word and where a jump leads, behind it.
+fn jump_text(alloc: Global, word: &str, target: Target<usize>) -> Result<String, AllocError>
+    ensures text { IfOk result (λ text. string_bytes text ≡ word.now ++ target_text (placed_target target)) }
+{
+    let mut text = String::with_capacity(alloc, ROOM)?;
+    text.push_str(word)?;
+    push_target(&mut text, target)?;
+    Ok(text)
+}
+
 /// Adds what holds where a jump is not taken, by the text of the jump.
 #[tactic(auto, unfolding(crate::specs::BlockLines::condition_text))]
 pub(crate) fn push_condition(
@@ -40,12 +57,12 @@ pub(crate) fn push_condition(
 {
     match role {
         Role::Jump(Condition::IfFalse, target) => {
-            let tail = format!(in alloc; ") GOTO {target}")?;
+            let tail = jump_text(alloc, ") GOTO ", target)?;
             let rest = without_front(text, "IF NOT (");
             out.push_str(without_tail(rest, tail.as_str()))?;
         }
         Role::Jump(_, target) => {
-            let tail = format!(in alloc; " GOTO {target}")?;
+            let tail = jump_text(alloc, " GOTO ", target)?;
             let rest = without_front(text, "IF ");
             out.push_str("NOT (")?;
             out.push_str(without_tail(rest, tail.as_str()))?;

@@ -1,16 +1,13 @@
 //! Statements as lines.
 
 ghost use Rattle.std.specs.Prelude.{◌≡◌, ◌∷◌, ◌++◌, false, string_bytes, OnOk};
-ghost use Rattle.pm_code.specs.Shown.{padded};
 ghost use Rattle.pm_phrases.specs.Shown.{value_text};
 ghost use Rattle.pm_statements.specs.Texts as texts;
 
 use crate::depths::Depths;
-use pm_code::{FiveDigits, Label};
-use pm_phrases::{Phrase, push_value};
+use pm_phrases::{Phrase, push_offset, push_value};
 use pm_trees::{Leaves, Left, Pile, Place, Role, is_reached, leaves_nothing};
 use std::alloc::AllocError;
-use std::fmt::Write;
 
 /// The deepest level that has blanks.
 const DEEPEST: usize = 30;
@@ -18,13 +15,17 @@ const DEEPEST: usize = 30;
 /// The blanks of eight levels.
 const EIGHT_LEVELS: &str = "                ";
 
+/// The blanks of the deepest level.
+const ALL_LEVELS: &str = "                                                            ";
+
 /// Adds the lines of a label and of the exit code, each behind a line feed.
 pub(crate) fn push_place_lines(out: &mut String, place: Place) -> Result<(), AllocError>
     ensures text { OnOk result (string_bytes out.new ≡ string_bytes out.old ++ texts.place_lines place) }
 {
     if place.has_label {
-        let label = Label(place.offset);
-        write!(out, "\n{label}:")?;
+        out.push_str("\nL")?;
+        push_offset(out, place.offset)?;
+        out.push(':')?;
     }
     if place.is_exit {
         out.push_str("\nEXIT:")?;
@@ -67,11 +68,14 @@ pub(crate) fn is_check(left: &Left) -> bool
 }
 
 /// Adds two blanks for each level of depth, up to thirty levels.
-#[tactic(auto, using(crate::proofs::Listed::blanks_step, crate::proofs::Listed::blanks_done))]
+#[tactic(auto, using(crate::proofs::Listed::all_levels, crate::proofs::Listed::few_levels, crate::proofs::Listed::blanks_step, crate::proofs::Listed::blanks_done))]
 pub(crate) fn push_blanks(out: &mut String, depth: usize) -> Result<(), AllocError>
     ensures text { OnOk result (string_bytes out.new ≡ string_bytes out.old ++ texts.blanks depth) }
 {
-    let mut rest = depth.min(DEEPEST);
+    if depth >= DEEPEST {
+        return out.push_str(ALL_LEVELS);
+    }
+    let mut rest = depth;
     while rest > 0 {
         if rest >= 8 {
             out.push_str(EIGHT_LEVELS)?;
@@ -84,26 +88,7 @@ pub(crate) fn push_blanks(out: &mut String, depth: usize) -> Result<(), AllocErr
     Ok(())
 }
 
-/// Adds an offset in at least five digits.
-fn push_offset(out: &mut String, offset: usize) -> Result<(), AllocError>
-    ensures text { OnOk result (string_bytes out.new ≡ string_bytes out.old ++ padded 5 offset) }
-{
-    if offset > 99_999 {
-        return out.write(FiveDigits(offset));
-    }
-    let tens = offset / 10;
-    let hundreds = tens / 10;
-    let thousands = hundreds / 10;
-    out.push(char::from(48 + (thousands / 10) as u8))?;
-    out.push(char::from(48 + (thousands % 10) as u8))?;
-    out.push(char::from(48 + (hundreds % 10) as u8))?;
-    out.push(char::from(48 + (tens % 10) as u8))?;
-    out.push(char::from(48 + (offset % 10) as u8))?;
-    Ok(())
-}
-
 /// Adds what stands before the blanks of a statement: the lines of its place, and its offset.
-#[tactic(auto, using(pm_code::proofs::Digits::padded_written))]
 pub(crate) fn push_front(out: &mut String, place: Place) -> Result<(), AllocError>
     ensures text { OnOk result (string_bytes out.new ≡ string_bytes out.old ++ texts.front place) }
 {

@@ -75,7 +75,7 @@ fn push_end(out: &mut String, labels: &Marks, exit: usize, end: usize) -> Result
 }
 
 /// Adds statements by depth, or as they are.
-#[tactic(auto, using(crate::proofs::Listed::text_joined))]
+#[tactic(auto, using(pm_phrases::proofs::Offsets::text_joined))]
 fn push_flat(
     alloc: Global,
     out: &mut String,

@@ -1,6 +1,6 @@
 use Rattle.std.proofs.Common.{rules, ◌≡◌, ◌+◌, ◌∷◌, ◌++◌, ◌/◌, ◌%◌, [], ℕ, arith, string_bytes}
-use Rattle.pm_statements.proofs.Offsets.{offset_added}
-use Rattle.pm_statements.proofs.lines.push_offset.Goals as goal
+use Rattle.pm_phrases.proofs.Offsets.{offset_added}
+use Rattle.pm_phrases.proofs.jumps.push_offset.Goals as goal
 
 pub returns : goal.returns
 returns c =

@@ -6,7 +6,10 @@ use Rattle.std.proofs.lemmas.List.{length-append}
 use Rattle.std.specs.Fmt.{decimal}
 use Rattle.std.proofs.lemmas.Fmt.{decimal_digit, decimal_step}
 use Rattle.pm_code.specs.Shown.{padded}
-use Rattle.pm_statements.proofs.Listed.{text_joined}
+
+-- a text behind another
+pub text_joined : (old middle new first second : List ℕ) → middle ≡ old ++ first → new ≡ middle ++ second → new ≡ old ++ (first ++ second)
+text_joined old middle new first second e f = f ∙ ap (λ t. t ++ second) e ∙ append_assoc old first second
 
 abbrev zero_digit : ℕ
 zero_digit = 48

@@ -14,9 +14,6 @@ use Rattle.pm_trees.specs.Piles.{leaves_left}
 pub reverse_pushed : {A : Type 0} → (l : List A) (s : A) → reverse (l ++ s ∷ []) ≡ s ∷ reverse l
 reverse_pushed l s = reverse-append l (s ∷ [])
 
-pub reverse_joined : {A : Type 0} → (l more : List A) → reverse (l ++ more) ≡ reverse more ++ reverse l
-reverse_joined l more = reverse-append l more
-
 pub twice_reversed : {A : Type 0} → (l : List A) → reverse (reverse l) ≡ l
 twice_reversed l = reverse-reverse l
 

@@ -1,6 +1,7 @@
 -- The text that grows is that of the statements.
-use Rattle.std.proofs.Common.{◌≡◌, ◌≤◌, ℕ, zero, suc, Bool, true, false, List, [], ◌∷◌, drop, length, refl, sym, ap, ◌∙◌, arith}
+use Rattle.std.proofs.Common.{◌≡◌, ◌≤◌, ℕ, zero, suc, ◌+◌, ◌-◌, Bool, true, false, List, [], ◌∷◌, drop, length, refl, sym, ap, ◌∙◌, arith}
 use Rattle.std.specs.Prelude.{◌||◌, if◌then◌else◌}
+use Rattle.std.proofs.lemmas.List.{drop-drop, drop-take, take-append-drop, take-take}
 use Rattle.pm_phrases.specs.declared.around.Around.{Around}
 use Rattle.pm_phrases.specs.declared.around.Missing.{Missing}
 use Rattle.pm_phrases.specs.Shown.{Shown}
@@ -11,7 +12,7 @@ use Rattle.pm_trees.specs.Trees.{is_full, leaves_nothing, left_by}
 use Rattle.pm_trees.specs.Trees.{leaves_of, lefts_of, none_missing, statements, takes_count}
 use Rattle.pm_trees.specs.Trees.Forest.{Bare, Tree}
 use Rattle.pm_trees.specs.Piles.{Pile, Texts, TextGrows, added, added_all, added_by, after, before_text, closed_texts, last_of, leaves_left, no_trees}
-use Rattle.pm_trees.specs.Piles.{pile_of, rest_of, upon}
+use Rattle.pm_trees.specs.Piles.{pile_of, rest_of, texts_in, upon}
 
 -- ---- two lists side by side
 
@@ -115,6 +116,64 @@ unfolding statements
 text_grows a ps =
     let g : Growing = record { done = Bare; pending = Bare } in
     ap (λ t. (closed_texts t).done) (all_as a ps g) ∙ ap (λ t. t.done) (closed_as a (grown_all ps g))
+
+-- ---- one pile, of which the last trees are pending
+
+abbrev beside : List Left → List Shown → Pile
+beside l s = record { lefts = l; phrases = s }
+
+piles_same : (l k : List Left) (s r : List Shown) → l ≡ k → s ≡ r → beside l s ≡ beside k r
+piles_same l k s r e f = ap (λ (x : List Left). beside x s) e ∙ ap (λ (x : List Shown). beside k x) f
+
+front_front : (n r : ℕ) (t : Pile) → last_of n (last_of (n + r) t) ≡ last_of n t
+front_front n r t = piles_same _ _ _ _ (take-take n (n + r) t.lefts (omega arith)) (take-take n (n + r) t.phrases (omega arith))
+
+back_front : (n r : ℕ) (t : Pile) → rest_of n (last_of (n + r) t) ≡ last_of r (rest_of n t)
+back_front n r t = piles_same _ _ _ _ (drop-take n r t.lefts) (drop-take n r t.phrases)
+
+back_back : (n r : ℕ) (t : Pile) → rest_of r (rest_of n t) ≡ rest_of (n + r) t
+back_back n r t = piles_same _ _ _ _ (drop-drop r n t.lefts) (drop-drop r n t.phrases)
+
+pub both_parts : (k : ℕ) (t : Pile) → after (last_of k t) (rest_of k t) ≡ t
+both_parts k t = piles_same _ _ _ _ (take-append-drop k t.lefts) (take-append-drop k t.phrases)
+
+-- where nothing is pending, all are done
+pub none_pending : (k : ℕ) (t : Pile) → texts_in t 0 ≡ closed_texts (texts_in t k)
+none_pending k t = ap (λ (u : Pile). record { done = u; pending = no_trees }) (sym (both_parts k t))
+
+-- what was added, by how many trees are taken, and how many pending ones stay
+added_sum : (a : Around) (p : Part) (n : ℕ) (m : Missing) (r : ℕ) (t : Pile)
+    → texts_in (upon a p m (last_of n t) (rest_of n t)) (if leaves_nothing p.leaves then 0 else if none_missing m then suc r else 1)
+    ≡ added_with a p m (rest_of (n + r) t) (last_of n (last_of (n + r) t)) (rest_of n (last_of (n + r) t))
+added_sum a p n m r t =
+    by (leaves_nothing p.leaves) (none_missing m)
+    ∙ ap (λ u. added_with a p m u (last_of n t) (last_of r (rest_of n t))) (back_back n r t)
+    ∙ sym (ap (λ u. added_with a p m (rest_of (n + r) t) u (last_of r (rest_of n t))) (front_front n r t))
+    ∙ sym (ap (λ u. added_with a p m (rest_of (n + r) t) (last_of n (last_of (n + r) t)) u) (back_front n r t))
+  where
+    o : Pile
+    o = last_of n t
+
+    q : Pile
+    q = rest_of n t
+
+    by : (x y : Bool) → texts_in (upon a p m o q) (if x then 0 else if y then suc r else 1)
+        ≡ (if x then record { done = upon a p m o (after (last_of r q) (rest_of r q)); pending = no_trees }
+        else if y then record { done = rest_of r q; pending = upon a p m o (last_of r q) }
+        else record { done = after (last_of r q) (rest_of r q); pending = upon a p m o no_trees })
+    by true y = ap (λ (u : Pile). record { done = upon a p m o u; pending = no_trees }) (sym (both_parts r q))
+    by false true = refl
+    by false false = ap (λ (u : Pile). record { done = u; pending = upon a p m o no_trees }) (sym (both_parts r q))
+
+pub added_in : (a : Around) (p : Part) (n : ℕ) (m : Missing) (c : Count) (k : ℕ) (t : Pile) → n ≡ c.trees → m ≡ c.missing → n ≤ k
+    → texts_in (upon a p m (last_of n t) (rest_of n t)) (if leaves_nothing p.leaves then 0 else if none_missing m then suc (k - n) else 1)
+    ≡ added_by a p c (texts_in t k)
+added_in a p n m c k t e f low =
+    let whole : n + (k - n) ≡ k = omega (arith, low) in
+    added_sum a p n m (k - n) t
+    ∙ ap (λ (j : ℕ). added_with a p m (rest_of j t) (last_of n (last_of j t)) (rest_of n (last_of j t))) whole
+    ∙ ap (λ (i : ℕ). added_with a p m (rest_of k t) (last_of i (last_of k t)) (rest_of i (last_of k t))) e
+    ∙ ap (λ (w : Missing). added_with a p w (rest_of k t) (last_of c.trees (last_of k t)) (rest_of c.trees (last_of k t))) f
 
 -- ---- a step of the loop
 

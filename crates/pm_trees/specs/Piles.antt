@@ -58,6 +58,10 @@ pub record Texts : Type 0 where
   pub done : Pile
   pub pending : Pile
 
+-- trees, of which so many of the last are pending
+abbrev pub texts_in : Pile → ℕ → Texts
+texts_in t k = record { done = rest_of k t; pending = last_of k t }
+
 abbrev pub leaves_left : List Left → List Leaves
 leaves_left [] = []
 leaves_left (l ∷ ls) = l.leaves ∷ leaves_left ls

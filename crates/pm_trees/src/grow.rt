@@ -1,75 +1,82 @@
 //! Parts of code, one after another, as statements.
 
-ghost use Rattle.std.specs.Prelude.{◌≡◌, [], drop, reverse, IfOk, OnOk};
+ghost use Rattle.std.specs.Prelude.{◌≡◌, ◌≤◌, ◌<◌, ◌-◌, ◌^◌, suc, if◌then◌else◌};
+ghost use Rattle.std.specs.Prelude.{drop, length, reverse, IfOk, OnOk};
 ghost use Rattle.pm_trees.specs.Piles as texts;
 ghost use Rattle.pm_trees.specs.Trees as trees;
 
 use crate::count::{Count, count_takes, leaves_nothing, none_missing};
 use crate::left::{is_full, is_reached, left_by};
-use crate::part::Part;
-use crate::pile::{Pile, Tree, last_of};
-use pm_phrases::{Around, phrase};
+use crate::part::{Leaves, Part};
+use crate::pile::{Pile, last_of};
+use pm_phrases::{Around, Phrase, phrase};
 use std::alloc::{AllocError, Global};
 
-/// A part behind the last of some trees, as it takes them.
+/// The phrase of a part behind the last of some trees, as it takes them.
 #[tactic(auto, using(crate::proofs::Ends::last_again, crate::proofs::Ends::reverse_last))]
-fn tree_of(
+fn phrase_by(
     alloc: Global,
     around: Around,
     part: &Part<'_>,
     count: Count,
     operands: &Pile,
-) -> Result<Tree, AllocError>
-    ensures left { IfOk result (λ t. t.left
-        ≡ trees.left_by part.now (texts.last_of count.trees operands.now).lefts) }
-    ensures phrase { IfOk result (λ t. t.phrase
+) -> Result<Phrase, AllocError>
+    ensures phrase { IfOk result (λ p. p
         ≡ texts.phrase_by around part.now count.missing (texts.last_of count.trees operands.now)) }
 {
     let phrases = last_of(&operands.phrases, count.trees);
-    let (item, known) = (part.item, part.known);
-    Ok(Tree {
-        left: left_by(part, last_of(&operands.lefts, count.trees)),
-        phrase: phrase(alloc, around, item, known, count.missing, phrases)?,
-    })
+    phrase(alloc, around, part.item, part.known, count.missing, phrases)
 }
 
-/// Makes statements of what is pending, where a part may take nothing of it.
-fn before_part(part: &Part<'_>, pending: &mut Pile, done: &mut Pile) -> Result<(), AllocError>
-    ensures done { OnOk result (done.new
-        ≡ (texts.before_text part.now (record { done = done.old; pending = pending.old })).done) }
-    ensures pending { OnOk result (pending.new
-        ≡ (texts.before_text part.now (record { done = done.old; pending = pending.old })).pending) }
+/// How many of the last trees a part finds pending: none where something leads to it, or where the last one is full.
+#[tactic(auto, using(crate::proofs::Ends::reverse_last, crate::proofs::Written::none_pending))]
+fn before_part(part: &Part<'_>, trees: &Pile, pending: usize) -> usize
+    ensures texts { texts.texts_in trees.now result ≡ texts.before_text part.now (texts.texts_in trees.now pending) }
+    ensures few { result ≤ pending }
 {
-    if is_reached(part.place) || is_full(&pending.lefts) {
-        done.append(pending)?;
+    if is_reached(part.place) || is_full(last_of(&trees.lefts, pending)) {
+        0
+    } else {
+        pending
     }
-    Ok(())
+}
+
+/// How many of the last trees are pending once a part stands behind its operands.
+fn pending_after(leaves: Leaves, count: Count, pending: usize) -> usize
+    requires few { count.trees ≤ pending }
+    requires room { pending < 2 ^ 63 }
+    ensures value { result ≡ (if trees.leaves_nothing leaves then 0
+        else if trees.none_missing count.missing then suc (pending - count.trees) else 1) }
+{
+    if leaves_nothing(leaves) {
+        0
+    } else if none_missing(count.missing) {
+        pending - count.trees + 1
+    } else {
+        1
+    }
 }
 
 /// Adds a part of code, which takes the last of what is pending.
+#[tactic(auto, using(crate::proofs::Ends::reverse_last))]
 fn add(
     alloc: Global,
     around: Around,
     part: &Part<'_>,
-    pending: &mut Pile,
-    done: &mut Pile,
+    trees: &mut Pile,
+    pending: &mut usize,
 ) -> Result<(), AllocError>
-    ensures done { OnOk result (done.new
-        ≡ (texts.added around part.now (record { done = done.old; pending = pending.old })).done) }
-    ensures pending { OnOk result (pending.new
-        ≡ (texts.added around part.now (record { done = done.old; pending = pending.old })).pending) }
+    requires few { pending.old ≤ length trees.old.lefts }
+    ensures texts { OnOk result (texts.texts_in trees.new pending.new
+        ≡ texts.added around part.now (texts.texts_in trees.old pending.old)) }
+    ensures few { OnOk result (pending.new ≤ length trees.new.lefts) }
 {
-    let count = count_takes(&pending.lefts, part.takes);
-    let tree = tree_of(alloc, around, part, count, pending)?;
-    pending.drop_last(count.trees);
-    if leaves_nothing(part.leaves) {
-        done.append(pending)?;
-        return done.push(tree);
-    }
-    if !none_missing(count.missing) {
-        done.append(pending)?;
-    }
-    pending.push(tree)
+    let count = count_takes(last_of(&trees.lefts, *pending), part.takes);
+    let left = left_by(part, last_of(&trees.lefts, count.trees));
+    let phrase = phrase_by(alloc, around, part, count, trees)?;
+    trees.drop_last(count.trees);
+    *pending = pending_after(part.leaves, count, *pending);
+    trees.push(left, phrase)
 }
 
 /// The statements of code, with their phrases.
@@ -77,12 +84,11 @@ fn add(
 pub fn statements(alloc: Global, around: Around, parts: &[Part<'_>]) -> Result<Pile, AllocError>
     ensures statements { IfOk result (λ pile. pile ≡ texts.pile_of around (trees.statements parts.now)) }
 {
-    let mut pending = Pile::new(alloc);
-    let mut done = Pile::with_room(alloc, parts.len())?;
+    let mut trees = Pile::with_room(alloc, parts.len())?;
+    let mut pending = 0;
     for part in parts {
-        before_part(part, &mut pending, &mut done)?;
-        add(alloc, around, part, &mut pending, &mut done)?;
+        pending = before_part(part, &trees, pending);
+        add(alloc, around, part, &mut trees, &mut pending)?;
     }
-    done.append(&mut pending)?;
-    Ok(done)
+    Ok(trees)
 }

@@ -17,15 +17,6 @@ pub struct Pile {
     pub phrases: Vec<Phrase>,
 }
 
-/// A tree.
-#[derive(Drop)]
-pub(crate) struct Tree {
-    /// What is seen of it.
-    pub left: Left,
-    /// Its phrase.
-    pub phrase: Phrase,
-}
-
 impl Model for Pile {
     ghost use Rattle.std.specs.Prelude.{reverse};
     ghost use Rattle.pm_trees.specs.Piles as texts;
@@ -36,16 +27,6 @@ impl Model for Pile {
 }
 
 impl Pile {
-    /// No trees.
-    pub(crate) fn new(alloc: Global) -> Pile
-        ensures none { result ≡ texts.no_trees }
-    {
-        Pile {
-            lefts: Vec::new(alloc),
-            phrases: Vec::new(alloc),
-        }
-    }
-
     /// No trees, with room for so many.
     pub(crate) fn with_room(alloc: Global, trees: usize) -> Result<Pile, AllocError>
         ensures none { IfOk result (λ pile. pile ≡ texts.no_trees) }
@@ -56,23 +37,11 @@ impl Pile {
         })
     }
 
-    /// Puts other trees behind these.
-    #[tactic(auto, using(crate::proofs::Ends::reverse_joined))]
-    pub(crate) fn append(&mut self, more: &mut Pile) -> Result<(), AllocError>
-        ensures behind { OnOk result (self.new ≡ texts.after more.old self.old) }
-        ensures none { OnOk result (more.new ≡ texts.no_trees) }
-    {
-        self.lefts.append(&mut more.lefts)?;
-        self.phrases.append(&mut more.phrases)?;
-        Ok(())
-    }
-
     /// Puts a tree behind these.
     #[tactic(auto, using(crate::proofs::Ends::reverse_pushed))]
-    pub(crate) fn push(&mut self, tree: Tree) -> Result<(), AllocError>
-        ensures behind { OnOk result (self.new ≡ texts.upon_all tree.left tree.phrase self.old) }
+    pub(crate) fn push(&mut self, left: Left, phrase: Phrase) -> Result<(), AllocError>
+        ensures behind { OnOk result (self.new ≡ texts.upon_all left phrase self.old) }
     {
-        let Tree { left, phrase } = tree;
         self.lefts.push(left)?;
         self.phrases.push(phrase)?;
         Ok(())

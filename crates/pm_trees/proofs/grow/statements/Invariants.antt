@@ -1,9 +1,10 @@
-use Rattle.std.specs.Prelude.{◌≡◌, drop}
-use Rattle.pm_trees.specs.Piles.{added_all, no_trees}
+use Rattle.std.specs.Prelude.{◌≡◌, ◌≤◌, drop, length}
+use Rattle.pm_trees.specs.Piles.{added_all, no_trees, texts_in}
 use Rattle.pm_trees.proofs.grow.statements.Given as goal
 
--- what has grown so far, with the parts that are left, comes to the whole
+-- what has grown so far, with the parts that are left, comes to the whole; no more is pending than there is
 abbrev pub invariant-loop-part : goal.invariant-loop-part
 invariant-loop-part l =
-    added_all l.around (drop l.part-index l.parts) (record { done = l.done; pending = l.pending })
-    ≡ added_all l.around l.parts (record { done = no_trees; pending = no_trees })
+    (added_all l.around (drop l.part-index l.parts) (texts_in l.trees l.pending)
+    ≡ added_all l.around l.parts (record { done = no_trees; pending = no_trees }))
+    × (l.pending ≤ length l.trees.lefts)

@@ -26,6 +26,7 @@ NUMBERED = ["SLDC {}", "SLDO {}", "SLDL {}", "LDCI 1{}9", "LAO 1{}", "LDO 3{}", 
             "LOD 1, {}", "CSP {}", "CLP 2", "CXP 0, 19", "LDM {}", "ADJ {}", "LSA \"ABC{}\"", "EQU SET", "LES STR", "IXP 8, 2"]
 OTHERS = ["XIT", "SIND 0", "SIND 3", "STR 1, 3", "LDA 2, 4", "LPA \"AB\"", "LDC 3, 4, 5", ".BYTE 161", "RNP 1", "CIP 3", "EQU BOOL", "NEQ REAL",
           "SAS 80", "MOV 3", "STM 3", "STE 1, 3", "LDE 1, 3", "LAE 1, 3"]
+FAR = ["FJP ^0", "UJP ^0", "EFJ ^0", "NFJ ^0"]
 
 
 def stores():
@@ -62,18 +63,16 @@ def assembled(text):
     return subprocess.run([PMACH, "asm"], input=text.encode(), stdout=subprocess.PIPE, stderr=subprocess.DEVNULL).stdout
 
 
-def program(make, procedures, lines):
+def program(make, procedures, lines, entries=0):
     text = ".SEG 1 MULTIPLE\n"
     for number in range(1, procedures + 1):
-        code, ends = [], ["  .END\n".strip() + "\n"]
-        if make is deep:
-            code = [word for k in range(60) for word in ("SLDO 1", "FJP ^%d" % k)]
-            ends = [".JUMP last\n" * 60 + ".END\n"]
+        code = [word for k in range(60) for word in ("SLDO 1", "FJP ^%d" % k)] if make is deep else []
+        end = ".JUMP last\n" * (60 if make is deep else entries) + ".END\n"
         while len(code) < lines:
             code += make()
         body = "\n".join(line if line.endswith(":") else "  " + line for line in code)
         for pad in ("", "  NOP\n"):
-            one = "here:\n%s\nlast:\n.EXIT\n  RBP 0\n%s%s" % (body, pad, ends[0])
+            one = "here:\n%s\nlast:\n.EXIT\n  RBP 0\n%s%s" % (body, pad, end)
             if assembled(".SEG 1 MULTIPLE\n.PROC 1 0 4 40\n" + one):
                 text += ".PROC %d 0 4 40\n" % number + one
                 break
@@ -109,8 +108,8 @@ def kinds():
 
 def each():
     def alone(name):
-        return program(lambda: [name], 1, 4000)
-    return {name: alone(name) for name in PLAIN + [form.format(3) for form in NUMBERED] + OTHERS}
+        return program(lambda: [name], 1, 4000, 1 if name in FAR else 0)
+    return {name: alone(name) for name in PLAIN + [form.format(3) for form in NUMBERED] + OTHERS + FAR}
 
 
 def main():

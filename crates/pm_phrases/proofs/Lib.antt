@@ -1,3 +1,4 @@
+pub mod Alone
 pub mod Computed
 pub mod Decimals
 pub mod Membered

@@ -1,15 +1,22 @@
 //! Sets.
 
 ghost use Rattle.std.specs.Prelude.{◌≡◌, ◌<◌, ◌*◌, ◌++◌, IfOk, IfSome, OnOk, Some, option_map, string_bytes};
+ghost use Rattle.std.specs.Bool.{OnTrue};
+ghost use Rattle.pm_phrases.specs.Missing.{share_text, stand_in};
 ghost use Rattle.pm_phrases.specs.Sets as texts;
 
-use crate::leaf::Text;
+use crate::leaf::{Leaf, Text};
 use crate::operand::{
-    Form, Phrase, ROOM, push_operand, push_sign, push_sized, push_value, room_for, standing, valued,
+    Form, Phrase, ROOM, leafed, push_operand, push_sign, push_sized, push_value, room_for,
+    standing, valued,
 };
+use pm_effects::Share;
 use pm_families::Set;
 use std::alloc::{AllocError, Global};
 use std::fmt;
+
+/// One word of the stack.
+const ONE: Share = Share::Words(1);
 
 /// Whether a number is in the set of these bytes of words, of which the last has the least numbers.
 #[tactic(auto, unfolding(crate::specs::Sets::is_member))]
@@ -168,11 +175,29 @@ fn set_sign(what: Set) -> Option<(&'static str, u8)>
     }
 }
 
-#[tactic(auto, unfolding(crate::specs::Sets::set_one))]
+/// Whether an operand stands for this share, which is missing.
+fn stands_for(share: Share, a: &Phrase) -> bool
+    ensures text { OnTrue result (a.now.text ≡ share_text share) }
+    ensures form { OnTrue result (a.now.form ≡ (stand_in share).form) }
+{
+    match (&a.text, a.form, share) {
+        (Text::Leaf(Leaf::StandIn(Share::Words(there))), Form::Value(9), Share::Words(words)) => {
+            *there == words
+        }
+        (Text::Leaf(Leaf::StandIn(Share::Set)), Form::Set(9), Share::Set) => true,
+        _ => false,
+    }
+}
+
+#[tactic(auto, using(crate::proofs::Alone::one_word), unfolding(crate::specs::Sets::set_one))]
 pub(crate) fn set_one(alloc: Global, what: Set, a: &Phrase) -> Result<Option<Phrase>, AllocError>
     ensures shown { IfOk result (λ p. p ≡ texts.set_one what a.now) }
 {
     match what {
+        Set::Singleton if stands_for(ONE, a) => Ok(Some(leafed(
+            Leaf::Fixed("[POP]"),
+            Form::Set(9),
+        ))),
         Set::Singleton => {
             let mut text = String::with_capacity(alloc, room_for(ROOM, a))?;
             text.push('[')?;
@@ -217,7 +242,7 @@ fn sets_joined(
     }
 }
 
-#[tactic(auto, unfolding(crate::specs::Sets::set_two))]
+#[tactic(auto, using(crate::proofs::Alone::word_and_set), unfolding(crate::specs::Sets::set_two))]
 pub(crate) fn set_two(
     alloc: Global,
     what: Set,
@@ -227,6 +252,9 @@ pub(crate) fn set_two(
     ensures shown { IfOk result (λ p. p ≡ texts.set_two what a.now b.now) }
 {
     match what {
+        Set::Member if stands_for(ONE, a) && stands_for(Share::Set, b) => {
+            Ok(Some(leafed(Leaf::Fixed("POP IN POP SET"), Form::Value(1))))
+        }
         Set::Member => {
             let mut text = String::with_capacity(alloc, room_for(room_for(ROOM, a), b))?;
             push_operand(&mut text, a, 2)?;

@@ -1,6 +1,6 @@
 //! The text of an operation on its operands.
 
-ghost use Rattle.std.specs.Prelude.{◌≡◌, ◌++◌, IfOk, IfSome, None};
+ghost use Rattle.std.specs.Prelude.{◌≡◌, ◌++◌, IfOk};
 ghost use Rattle.pm_code.specs.Views.{placed_item};
 ghost use Rattle.pm_phrases.specs.Counts as counts;
 ghost use Rattle.pm_phrases.specs.Missing.{stand_ins};
@@ -54,23 +54,6 @@ fn template(
     }
 }
 
-/// An item in braces, on what stands for all that it takes, where it needs no memory.
-fn braced_alone(
-    item: &Item<usize>,
-    what: Operation,
-    known: bool,
-    missing: Missing,
-) -> Option<Phrase>
-    requires what { what ≡ counts.operation_in (placed_item item.now) }
-    ensures shown { IfSome result
-        (λ p. p ≡ texts.or_braced (placed_item item.now) (stand_ins known missing) None) }
-{
-    match bare_in(item, what) {
-        Some(bare) => Some(leafed(Leaf::Braced(bare, known, missing), Form::Value(9))),
-        None => None,
-    }
-}
-
 /// The text of an operation on its operands, from the first to the last. Of a call that is not known to take so many,
 /// `?` stands for all.
 #[tactic(auto, unfolding(crate::specs::Phrases::phrase_of))]
@@ -89,8 +72,9 @@ pub fn phrase(
     if let Some(phrase) = template(alloc, around, item, what, known, missing, operands)? {
         return Ok(phrase);
     }
-    if let ([], Some(phrase)) = (operands, braced_alone(item, what, known, missing)) {
-        return Ok(phrase);
+    let bare = bare_in(item, what);
+    if let ([], Some(bare)) = (operands, bare) {
+        return Ok(leafed(Leaf::Braced(bare, known, missing), Form::Value(9)));
     }
     let room = match operands {
         [] => ROOM,
@@ -98,7 +82,7 @@ pub fn phrase(
     };
     let mut text = String::with_capacity(alloc, room)?;
     text.push('{')?;
-    match bare_in(item, what) {
+    match bare {
         Some(bare) => push_bare(&mut text, bare)?,
         None => text.write(item)?,
     }

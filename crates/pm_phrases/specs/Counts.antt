@@ -109,8 +109,8 @@ by_count around item (a ∷ b ∷ c ∷ []) = of_three item a b c
 by_count around item (a ∷ b ∷ c ∷ d ∷ []) = of_four item a b c d
 by_count around item (a ∷ b ∷ c ∷ d ∷ e ∷ more) = None
 
--- operands that stand for what is missing
-abbrev pub listed : Pops → List Shown
-listed pops.None = []
-listed (pops.One p) = p.now ∷ []
-listed (pops.Two p q) = p.now ∷ q.now ∷ []
+-- operands that stand for what is missing, the first one first
+abbrev pub in_order : Pops → List Shown
+in_order pops.None = []
+in_order (pops.One p) = p.now ∷ []
+in_order (pops.Two p q) = p.now ∷ q.now ∷ []

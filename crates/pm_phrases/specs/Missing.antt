@@ -12,6 +12,7 @@ abbrev pub share_text : Share → List ℕ
 share_text (share.Words n) = if n == 1 then codes "POP" else codes "POP*" ++ decimal n
 share_text share.Set = codes "POP SET"
 
+-- What stands for a share: words are a value, a set is a set, and both hold together.
 abbrev pub stand_in : Share → Shown
 stand_in (share.Words n) = value 9 (share_text (share.Words n))
 stand_in share.Set = standing (form.Set 9) (share_text share.Set)

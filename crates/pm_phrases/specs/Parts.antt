@@ -1,5 +1,5 @@
 -- Bytes, characters of strings, and bits of words.
-use Rattle.std.specs.Prelude.{ℕ, ◌++◌, codes, Option, Some, None}
+use Rattle.std.specs.Prelude.{List, ℕ, ◌++◌, codes, Option, Some, None}
 use Rattle.std.specs.Fmt.{decimal}
 use Rattle.pm_families.specs.declared.families.Byte.{Byte}
 use Rattle.pm_families.specs.declared.families.Byte.TheVariants as byte
@@ -64,16 +64,17 @@ field_two (field.Index per_word width) a i = Some (packed per_word width a i)
 field_two field.Store a v = if_bits a.form (part_stored form.Bits a v)
 field_two field.Load a i = None
 
+-- what an address leads to, so many bits of it, from a bit on, without the bracket behind them
+abbrev pub bits_text : Shown → Shown → Shown → List ℕ
+bits_text a k r = place_text a ++ (codes ".bits[" ++ (value_text k 0 ++ (codes ": " ++ value_text r 0)))
+
 -- LDP of an address, so many bits, from a bit on
 unfoldable pub field_three : Field → Shown → Shown → Shown → Option Shown
-field_three field.Load a k r =
-    Some (value 9 (place_text a ++ (codes ".bits[" ++ (value_text k 0 ++ (codes ": "
-    ++ (value_text r 0 ++ codes "]"))))))
+field_three field.Load a k r = Some (value 9 (bits_text a k r ++ codes "]"))
 field_three _ a k r = None
 
 -- STP
 unfoldable pub field_four : Field → Shown → Shown → Shown → Shown → Option Shown
 field_four field.Store a k r v =
-    Some (value 0 (place_text a ++ (codes ".bits[" ++ (value_text k 0 ++ (codes ": "
-    ++ (value_text r 0 ++ (codes "] := " ++ value_text v 0)))))))
+    Some (value 0 (bits_text a k r ++ (codes "] := " ++ value_text v 0)))
 field_four _ a k r v = None

@@ -8,7 +8,7 @@ use crate::literals::push_beside;
 use crate::operand::{
     Form, Phrase, ROOM, leafed, push_operand, push_sign, push_value, room_for, standing, valued,
 };
-use crate::signs::{binary_sign, binary_strength, relation_sign};
+use crate::signs::{binary_sign, relation_sign};
 use crate::spelling::{Spelling, marks_of};
 use pm_families::{Arithmetic, Unary};
 use std::alloc::{AllocError, Global};
@@ -77,10 +77,10 @@ pub(crate) fn arithmetic_two(
     match (a.form, what) {
         (Form::Set(_), _) => Ok(None),
         (_, Arithmetic::OnTwo(o)) => {
-            let strength = binary_strength(o);
+            let (sign, strength) = binary_sign(o);
             let mut text = String::with_capacity(alloc, room_for(room_for(ROOM, a), b))?;
             push_operand(&mut text, a, strength)?;
-            push_sign(&mut text, binary_sign(o))?;
+            push_sign(&mut text, sign)?;
             push_operand(&mut text, b, strength + 1)?;
             Ok(Some(valued(text, strength)))
         }

@@ -214,7 +214,7 @@ pub(crate) fn by_count(
 ) -> Result<Option<Phrase>, AllocError>
     requires what { what ≡ texts.operation_in (placed_item item.now) }
     ensures shown { IfOk result
-        (λ p. p ≡ texts.by_count around (placed_item item.now) (texts.listed pops.entry ++ operands.now)) }
+        (λ p. p ≡ texts.by_count around (placed_item item.now) (texts.in_order pops.entry ++ operands.now)) }
 {
     match (pops, operands) {
         (Pops::None, []) => of_none(alloc, around, item, what),

@@ -233,6 +233,7 @@ pub(crate) fn leafed(leaf: Leaf, form: Form) -> Phrase
     standing(Text::Leaf(leaf), form)
 }
 
+/// A text in memory as a value of a strength.
 pub(crate) fn valued(text: String, strength: u8) -> Phrase
     ensures value { result ≡ shown.value strength (string_bytes text) }
 {

@@ -1,6 +1,6 @@
 //! Bytes, characters of strings, and bits of words.
 
-ghost use Rattle.std.specs.Prelude.{◌≡◌, IfOk, Some, string_bytes};
+ghost use Rattle.std.specs.Prelude.{◌≡◌, ◌++◌, IfOk, OnOk, Some, string_bytes};
 ghost use Rattle.pm_phrases.specs.Parts as texts;
 
 use crate::leaf::{self, push_number, push_text};
@@ -10,6 +10,17 @@ use crate::operand::{
 };
 use pm_families::{Byte, Field, Text};
 use std::alloc::{AllocError, Global};
+
+/// Adds the bits of a word that an address, their place and their number lead to, up to the bracket behind them.
+fn push_bits(out: &mut String, a: &Phrase, b: &Phrase, c: &Phrase) -> Result<(), AllocError>
+    ensures text { OnOk result (string_bytes out.new ≡ string_bytes out.old ++ texts.bits_text a.now b.now c.now) }
+{
+    push_place(out, a)?;
+    out.push_str(".bits[")?;
+    push_value(out, b)?;
+    out.push_str(": ")?;
+    push_value(out, c)
+}
 
 /// What is stored to a part of what an address leads to.
 #[tactic(auto, unfolding(crate::specs::Parts::part_stored))]
@@ -152,11 +163,7 @@ pub(crate) fn field_three(
         Field::Load => {
             let room = room_for(room_for(room_for(ROOM, a), b), c);
             let mut text = String::with_capacity(alloc, room)?;
-            push_place(&mut text, a)?;
-            text.push_str(".bits[")?;
-            push_value(&mut text, b)?;
-            text.push_str(": ")?;
-            push_value(&mut text, c)?;
+            push_bits(&mut text, a, b, c)?;
             text.push(']')?;
             Ok(Some(valued(text, 9)))
         }
@@ -179,11 +186,7 @@ pub(crate) fn field_four(
         Field::Store => {
             let room = room_for(room_for(room_for(room_for(2 * ROOM, a), b), c), d);
             let mut text = String::with_capacity(alloc, room)?;
-            push_place(&mut text, a)?;
-            text.push_str(".bits[")?;
-            push_value(&mut text, b)?;
-            text.push_str(": ")?;
-            push_value(&mut text, c)?;
+            push_bits(&mut text, a, b, c)?;
             text.push_str("] := ")?;
             push_value(&mut text, d)?;
             Ok(Some(valued(text, 0)))

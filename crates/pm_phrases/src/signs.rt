@@ -5,30 +5,24 @@ ghost use Rattle.pm_phrases.specs.Signs as signs;
 
 use pm_families::{Binary, Relation};
 
-pub(crate) fn binary_sign(o: Binary) -> &'static str
-    ensures sign { result.now ≡ signs.binary_sign o }
+/// The sign between two integers, and how strongly it holds them together.
+pub(crate) fn binary_sign(o: Binary) -> (&'static str, u8)
+    ensures sign { result.0.now ≡ signs.binary_sign o }
+    ensures strength { result.1 ≡ signs.binary_strength o }
+    ensures few { result.1 < 9 }
 {
     match o {
-        Binary::Add => "+",
-        Binary::Subtract => "-",
-        Binary::Multiply => "*",
-        Binary::Divide => "DIV",
-        Binary::Modulo => "MOD",
-        Binary::And => "AND",
-        Binary::Or => "OR",
+        Binary::Add => ("+", 2),
+        Binary::Subtract => ("-", 2),
+        Binary::Multiply => ("*", 3),
+        Binary::Divide => ("DIV", 3),
+        Binary::Modulo => ("MOD", 3),
+        Binary::And => ("AND", 3),
+        Binary::Or => ("OR", 2),
     }
 }
 
-pub(crate) fn binary_strength(o: Binary) -> u8
-    ensures strength { result ≡ signs.binary_strength o }
-    ensures few { result < 9 }
-{
-    match o {
-        Binary::Add | Binary::Subtract | Binary::Or => 2,
-        Binary::Multiply | Binary::Divide | Binary::Modulo | Binary::And => 3,
-    }
-}
-
+/// The sign between two values that are compared.
 pub(crate) fn relation_sign(r: Relation) -> &'static str
     ensures sign { result.now ≡ signs.relation_sign r }
 {

@@ -16,7 +16,7 @@ use std::alloc::{AllocError, Global};
 
 /// Adds a condition between two texts, by the text of its statement.
 fn push_between(
-    alloc: Global,
+    scratch: &mut String,
     out: &mut String,
     front: &str,
     role: Role,
@@ -28,10 +28,10 @@ fn push_between(
 {
     out.push_str(front)?;
     match phrase.as_str() {
-        Some(text) => push_condition(alloc, out, role, text)?,
+        Some(text) => push_condition(scratch, out, role, text)?,
         None => {
-            let text = phrase.to_text(alloc)?;
-            push_condition(alloc, out, role, text.as_str())?;
+            let text = phrase.to_text(*scratch.allocator())?;
+            push_condition(scratch, out, role, text.as_str())?;
         }
     }
     out.push_str(tail)
@@ -40,7 +40,7 @@ fn push_between(
 /// Adds a statement by its word, without its offset.
 #[tactic(auto, unfolding(crate::specs::BlockLines::word_text))]
 fn push_word(
-    alloc: Global,
+    scratch: &mut String,
     out: &mut String,
     word: Word,
     left: &Left,
@@ -51,9 +51,9 @@ fn push_word(
 {
     match word {
         Word::Plain(_) => push_own(out, left.leaves, phrase)?,
-        Word::If => push_between(alloc, out, "IF ", left.role, phrase, " THEN")?,
-        Word::While => push_between(alloc, out, "WHILE ", left.role, phrase, " DO")?,
-        Word::Until => push_between(alloc, out, "UNTIL ", left.role, phrase, "")?,
+        Word::If => push_between(scratch, out, "IF ", left.role, phrase, " THEN")?,
+        Word::While => push_between(scratch, out, "WHILE ", left.role, phrase, " DO")?,
+        Word::Until => push_between(scratch, out, "UNTIL ", left.role, phrase, "")?,
         Word::Else => out.push_str("ELSE")?,
         Word::EndWhile => out.push_str("END")?,
         Word::Case => out.push_str("CASE")?,
@@ -69,7 +69,7 @@ fn push_word(
 
 /// Adds a statement by its word, behind a line feed or on the line of the call before it.
 fn push_worded(
-    alloc: Global,
+    scratch: &mut String,
     out: &mut String,
     depth: usize,
     behind_call: bool,
@@ -85,12 +85,12 @@ fn push_worded(
     }
     push_front(out, left.place)?;
     push_blanks(out, depth)?;
-    push_word(alloc, out, word, left, phrase)
+    push_word(scratch, out, word, left, phrase)
 }
 
 /// Adds the first of some statements, if there is one, where these places have labels.
 fn push_first(
-    alloc: Global,
+    scratch: &mut String,
     out: &mut String,
     depth: usize,
     behind_call: bool,
@@ -109,7 +109,7 @@ fn push_first(
         return Ok(());
     };
     let shown = relabelled(marks, left);
-    push_worded(alloc, out, depth, behind_call, word, &shown, phrase)
+    push_worded(scratch, out, depth, behind_call, word, &shown, phrase)
 }
 
 /// What stands in a line of no statement.
@@ -125,7 +125,7 @@ fn extra_text(word: Word) -> &'static str
 
 /// Adds a line that stands for no statement, or the first of some statements, where these places have labels.
 fn push_block_line(
-    alloc: Global,
+    scratch: &mut String,
     out: &mut String,
     depth: usize,
     behind_call: bool,
@@ -143,7 +143,16 @@ fn push_block_line(
         out.push_str(extra_text(word))?;
         return Ok(());
     }
-    push_first(alloc, out, depth, behind_call, word, marks, lefts, phrases)
+    push_first(
+        scratch,
+        out,
+        depth,
+        behind_call,
+        word,
+        marks,
+        lefts,
+        phrases,
+    )
 }
 
 /// Whether a line is a call.
@@ -179,6 +188,7 @@ pub(crate) fn push_block_lines(
     ensures text { OnOk result (string_bytes out.new ≡ string_bytes out.old ++ texts.block_lines 0 false lines.now
         (map (labels.relabelled (has marks.now)) lefts.now) phrases.now) }
 {
+    let mut scratch = String::new(alloc);
     let mut depth = 0;
     let mut behind_call = false;
     let mut statements = lefts;
@@ -186,7 +196,16 @@ pub(crate) fn push_block_lines(
     for line in lines {
         let word = line.word;
         let own = word.depth_at(depth);
-        push_block_line(alloc, out, own, behind_call, word, marks, statements, texts)?;
+        push_block_line(
+            &mut scratch,
+            out,
+            own,
+            behind_call,
+            word,
+            marks,
+            statements,
+            texts,
+        )?;
         let Some(more) = word.depth_behind(depth) else {
             return Err(AllocError);
         };

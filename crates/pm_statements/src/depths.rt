@@ -112,7 +112,7 @@ fn list_of(alloc: Global, procedure: &Procedure, end: usize) -> Result<Vec<usize
     ensures depths { IfOk result (λ ds. ds.items ≡ depths.depths (procedure_seen procedure.now)) }
 {
     let loops = loops_of(alloc, procedure, end)?;
-    let mut depths = Vec::new(alloc);
+    let mut depths = Vec::with_capacity(alloc, end.saturating_sub(procedure.start))?;
     let mut ends = Vec::new(alloc);
     let mut forward = None;
     let mut at = procedure.start;

@@ -26,7 +26,7 @@ loop-item-preserved c =
     (c.at_place.ensures.value ∙ ap (λ ls. at_place ls c.loop-item.at) c.in_ok-loops.ensures.loops)
     open_there
     (c.leads_to-forward.ensures.value ∙ ap (λ es. leads_to es (placed_item item)) c.deref.ensures.value)
-    c.saturating_sub.ensures many c.in_ok-push_depth.ensures.depths
+    c.saturating_sub-in-loop-item.ensures many c.in_ok-push_depth.ensures.depths
     ∙ c.loop-item.invariant
 
 pub returns : goal.returns

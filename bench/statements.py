@@ -1,7 +1,7 @@
 """statements.py FILE.. | --random SEED COUNT | --damaged SEED COUNT FILE..: the statements of `pmach dis --statements`, read back by the page (docs/STATEMENTS.md) alone,
 are the instructions of `pmach dis`, procedure by procedure, each once and in order; and the heading of each procedure says what its table and its
-returns say, and the lines behind it the jump table; and `dis --indent` is that text with the blanks of the page, and `dis --blocks` is read back to it
-by its words alone.
+returns say, and the lines behind it the jump table; and each table of a segment is shown once; and `dis --indent` is that text with the blanks of
+the page, and `dis --blocks` is read back to it by its words alone.
 
 FILE is a code file. With --random so many programs are made, of single instructions, of whole expressions and of blocks, by turns; with --damaged up to
 eight bytes of a file are others, so often. By hand; no part of the gate. PMACH names another program than ./pmach."""
@@ -565,6 +565,13 @@ def blocked(text, flat, places):
     return bad
 
 
+def table_place(data, slot, number):
+    """Where the dictionary of a slot's segment leads by a number."""
+    block, length = (int.from_bytes(data[at : at + 2], "little") for at in (4 * slot, 4 * slot + 2))
+    at = length - 2 * number - 2
+    return at - int.from_bytes(data[512 * block + at : 512 * block + at + 2], "little")
+
+
 def compared(data, told):
     """How many statements of a code file are read back, and how many are not."""
     status, text = run(["dis"], data)
@@ -589,16 +596,34 @@ def compared(data, told):
             places[key[:2]].append(int(line[7:]))
         elif line.startswith("  "):
             wanted[key].append(line[2:])
-    shown, key, headings, tables = {}, None, {}, {}
+    shown, key, headings, tables, counts, leads, wrong = {}, None, {}, {}, {}, {}, []
     flat = run(["dis", "--statements"], data)[1]
     for line in flat.split("\n"):
+        front = re.match(r"PROCEDURE (\d+) OF SEGMENT (\d+): ", line)
         m = re.fullmatch(r"PROCEDURE (\d+) OF SEGMENT (\d+): level (-?\d+), (\d+) bytes of parameters, (\d+) of locals(?:, (\d+) of result)?", line)
-        if m:
-            key = (m[2], m[1])
+        if front:
+            number = counts[front[2]] = counts.get(front[2], 0) + 1
+            place = (front[2], table_place(data, int(front[2]), number))
+            named_alone = "PROCEDURE %d OF SEGMENT %s: " % (number, front[2])
+            key = (front[2], leads[place][0] if place in leads else front[1])
             key = (*key, sum(k[:2] == key for k in shown))
+        if front and place in leads:
+            # an earlier number of the segment has led to this table, whose text stands once
+            if line != named_alone + "shown above as PROCEDURE %s" % leads[place][0]:
+                wrong.append(line)
+            first = leads[place][1]
+            if first:
+                shown[key], tables[key], headings[key] = list(shown[first]), tables[first], headings[first]
+        elif m:
+            leads[place] = (m[1], key)
             shown[key] = []
             tables[key] = []
             headings[key] = [None if n is None else int(n) for n in m.groups()[2:]]
+        elif front and line == front[0] + "no code":
+            leads[place] = (front[1], None)
+        elif front:
+            if line != named_alone + "no table":
+                wrong.append(line)
         elif re.match(r"\d{5} ", line):
             shown[key].append(line[6:])
         elif re.fullmatch(r"\^%d L\d{5}" % len(tables.get(key, [])), line) and not shown[key]:
@@ -607,6 +632,9 @@ def compared(data, told):
         print("procedures differ: %s" % (wanted.keys() ^ shown.keys()))
         return 0, 1
     good, bad = 0, indented(run(["dis", "--indent"], data)[1], flat, places) + blocked(run(["dis", "--blocks"], data)[1], flat, places)
+    bad += len(wrong)
+    for line in wrong:
+        print("the line of a number is %s" % line)
     for key, table in tables.items():
         if table != places[key[:2]]:
             bad += 1

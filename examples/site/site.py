@@ -301,7 +301,9 @@ class Code:
         self.lines = latin(pmach(["dis", "--list"], data)[1]).splitlines()
         self.statements, here = {}, None
         for line in latin(pmach(["dis", "--statements"], data)[1]).splitlines():
-            m = re.match(r"PROCEDURE (\d+) OF SEGMENT (\d+): ", line)
+            m = re.match(r"PROCEDURE (\d+) OF SEGMENT (\d+): (shown above)?", line)
+            if m and m[3]:
+                continue  # another number of a table that stands above, by the number in it
             if m:
                 here = (int(m[2]), int(m[1]))
                 own = self.statements.setdefault(here, []) if here not in self.statements else []

@@ -9,7 +9,7 @@ use Rattle.std.specs.List.{AllByRecursion}
 use Rattle.std.proofs.lemmas.List.{append-nil}
 use Rattle.pm_code.specs.Shown.{label_text}
 use Rattle.pm_statements.specs.Files.{callee_in, callees_from, entry_lines, numbered_text, slot_callees, slot_text, slots_callees}
-use Rattle.pm_statements.specs.Files.{slots_text, system_from, tables_text}
+use Rattle.pm_statements.specs.Files.{slots_text, system_from, tables_text, with_table}
 use Rattle.pm_trees.specs.Parts.{Known}
 use Rattle.pm_trees.specs.declared.items.Layout.{Layout}
 use Rattle.pm_trees.specs.declared.part.Callee.{Callee}
@@ -50,14 +50,22 @@ pub next_slot : (file : List ℕ) (n : ℕ) (after before whole : List (Option C
 next_slot file n after before whole h t i =
     next (slots_callees file) (λ n. slot_callees n (segment_in file n)) (λ n k. refl) n n 16 after before whole h t i
 
--- the text of one procedure more
-pub next_table : (k : Known) (segment : List ℕ) (done count : ℕ) (after before whole text : List ℕ) → done < count
-    → numbered_text k segment (done + 1) (attributes_in segment (done + 1)) ≡ text → after ≡ before ++ text
-    → before ++ tables_text k segment (done + 1) (count - done) ≡ whole
-    → after ++ tables_text k segment (done + 1 + 1) (count - (done + 1)) ≡ whole
-next_table k segment done count after before whole text h e t i =
-    next (tables_text k segment) (λ n. numbered_text k segment n (attributes_in segment n)) (λ n m. refl) (done + 1) done count
-    after before whole h (t ∙ ap (λ u. before ++ u) (sym e)) i
+-- the text of one procedure more, and the places of the tables that were shown behind it
+pub next_table : (k : Known) (segment shown noted : List ℕ) (done count : ℕ) (after before whole text : List ℕ) → done < count
+    → noted ≡ with_table shown (attributes_in segment (done + 1))
+    → numbered_text k segment shown (done + 1) (attributes_in segment (done + 1)) ≡ text → after ≡ before ++ text
+    → before ++ tables_text k segment shown (done + 1) (count - done) ≡ whole
+    → after ++ tables_text k segment noted (done + 1 + 1) (count - (done + 1)) ≡ whole
+next_table k segment shown noted done count after before whole text h s e t i =
+    let more : count - done ≡ suc (count - (done + 1)) = omega (arith, h) in
+    let left = count - (done + 1) in
+    let own = numbered_text k segment shown (done + 1) (attributes_in segment (done + 1)) in
+    ap (λ u. u ++ tables_text k segment noted (done + 1 + 1) left) t
+    ∙ append_assoc before text (tables_text k segment noted (done + 1 + 1) left)
+    ∙ ap (λ u. before ++ (u ++ tables_text k segment noted (done + 1 + 1) left)) (sym e)
+    ∙ ap (λ n. before ++ (own ++ tables_text k segment n (done + 1 + 1) left)) s
+    ∙ ap (λ m. before ++ tables_text k segment shown (done + 1) m) (sym more)
+    ∙ i
 
 -- that of one slot more
 pub next_text : (callees : List (Option Callee)) (layout : Layout) (file : List ℕ) (n : ℕ) (after before whole : List ℕ) → n < 16

@@ -1,6 +1,6 @@
 -- The text of a code file as statements.
 use Rattle.std.specs.Prelude.{◌≡◌, ℕ, zero, suc, ◌+◌, ◌==◌, List, [], ◌∷◌, ◌++◌, nat_le, Option, Some, None}
-use Rattle.std.specs.Prelude.{◌*◌, codes, length, string_bytes, if◌then◌else◌, IfSome}
+use Rattle.std.specs.Prelude.{◌*◌, codes, length, if◌then◌else◌, IfSome}
 use Rattle.std.specs.Fmt.{decimal, signed_decimal}
 use Rattle.std.specs.List.{AllByRecursion}
 use Rattle.pm_codefile.specs.Dictionary.{segment_in}
@@ -8,7 +8,7 @@ use Rattle.pm_codefile.specs.Segments.{attributes_in, procedures_in}
 use Rattle.pm_codefile.specs.declared.table.Attributes.{Attributes}
 use Rattle.pm_disasm.specs.Split.{procedure_of}
 use Rattle.pm_code.specs.declared.program.Procedure as declared
-use Rattle.pm_code.specs.Program.{Procedure}
+use Rattle.pm_code.specs.Program.{Procedure, is_among}
 use Rattle.pm_code.specs.Shown.{label_text}
 use Rattle.pm_code.specs.Views.{procedure_seen}
 use Rattle.pm_statements.specs.Callees.{callee_of, no_return, returns_from, system_callee}
@@ -21,7 +21,6 @@ use Rattle.pm_trees.specs.declared.items.Layout.TheVariants as layouts
 use Rattle.pm_trees.specs.declared.part.Callee.{Callee}
 use Rattle.pm_statements.specs.declared.sized.SizedTable.{SizedTable}
 use Rattle.pm_statements.specs.declared.sized.SizedSegment.{SizedSegment}
-use Rattle.pm_statements.specs.declared.shown.ShownTable.{ShownTable}
 
 -- ---- what the procedures of a file take and leave
 
@@ -118,22 +117,34 @@ table_text k segment a = if nat_le a.enter a.exit
     then code_text k a (procedure_of segment a)
     else named a.procedure k.segment ++ (codes ": no code" ++ 10 ∷ [])
 
--- procedure p of a segment, by its number alone where it has no table
-abbrev pub numbered_text : Known → List ℕ → ℕ → Option Attributes → List ℕ
-numbered_text k segment p None = named p k.segment ++ (codes ": no table" ++ 10 ∷ [])
-numbered_text k segment p (Some a) = table_text k segment a
+-- the line of a number whose table was shown before, which names the number that stands in the table
+abbrev pub repeated_text : ℕ → ℕ → Attributes → List ℕ
+repeated_text number slot a =
+    named number slot ++ (codes ": shown above as PROCEDURE " ++ (decimal a.procedure ++ 10 ∷ []))
 
--- so many procedures of a segment, from procedure p on
-abbrev pub tables_text : Known → List ℕ → ℕ → ℕ → List ℕ
-tables_text k segment p zero = []
-tables_text k segment p (suc count) =
-    numbered_text k segment p (attributes_in segment p) ++ tables_text k segment (p + 1) count
+-- procedure p of a segment, behind tables that were shown, which are told by their places: by its number alone where it
+-- has no table, and by one line where its table was shown
+abbrev pub numbered_text : Known → List ℕ → List ℕ → ℕ → Option Attributes → List ℕ
+numbered_text k segment shown p None = named p k.segment ++ (codes ": no table" ++ 10 ∷ [])
+numbered_text k segment shown p (Some a) =
+    if is_among shown a.jtab then repeated_text p k.segment a else table_text k segment a
+
+-- the places of the tables that were shown, behind one more procedure
+abbrev pub with_table : List ℕ → Option Attributes → List ℕ
+with_table shown None = shown
+with_table shown (Some a) = if is_among shown a.jtab then shown else shown ++ a.jtab ∷ []
+
+-- so many procedures of a segment, from procedure p on, behind tables that were shown: each table once
+abbrev pub tables_text : Known → List ℕ → List ℕ → ℕ → ℕ → List ℕ
+tables_text k segment shown p zero = []
+tables_text k segment shown p (suc count) = numbered_text k segment shown p (attributes_in segment p)
+    ++ tables_text k segment (with_table shown (attributes_in segment p)) (p + 1) count
 
 -- the segment of a slot, if it has one
 abbrev pub slot_text : List (Option Callee) → Layout → ℕ → Option (List ℕ) → List ℕ
 slot_text callees layout n None = []
 slot_text callees layout n (Some segment) = tables_text
-    (record { segment = n; callees = callees; layout = layout }) segment 1 (procedures_in segment)
+    (record { segment = n; callees = callees; layout = layout }) segment [] 1 (procedures_in segment)
 
 -- so many slots, from slot n on
 abbrev pub slots_text : List (Option Callee) → Layout → List ℕ → ℕ → ℕ → List ℕ
@@ -156,7 +167,3 @@ indented_statements file = file_text layouts.Indented file
 -- The same in blocks.
 abbrev pub block_statements : List ℕ → List ℕ
 block_statements file = file_text layouts.Blocks file
-
--- a table with the text that is shown for it in this segment
-abbrev pub IsShownTable : Known → List ℕ → ShownTable → Type 0
-IsShownTable k segment s = string_bytes s.text ≡ table_text k segment s.table

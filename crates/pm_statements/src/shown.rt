@@ -1,6 +1,6 @@
 //! Code files as statements.
 
-ghost use Rattle.std.specs.Prelude.{◌≡◌, ◌%◌, ◌≤◌, ◌++◌, List, ℕ, Some, length, nat_le, string_bytes, IfOk};
+ghost use Rattle.std.specs.Prelude.{◌≡◌, ◌%◌, ◌≤◌, ◌++◌, List, [], ℕ, Some, length, nat_le, string_bytes, IfOk};
 ghost use Rattle.std.specs.Prelude.{IfSome, OnOk};
 ghost use Rattle.std.specs.List.{AllByRecursion};
 ghost use Rattle.pm_codefile.specs.Dictionary.{segment_in};
@@ -21,28 +21,6 @@ use pm_trees::{Known, Layout};
 use std::alloc::{AllocError, Global};
 use std::fmt;
 use std::fmt::Write;
-
-/// A procedure's table, and the text that is shown for it.
-#[derive(Drop)]
-pub(crate) struct ShownTable {
-    /// The table.
-    pub table: Attributes,
-    /// The text.
-    pub text: String,
-}
-
-/// The text that is shown for a table, if it is among those that were shown.
-fn text_of<'a>(shown: &'a [ShownTable], a: &Attributes) -> Option<&'a str>
-    ensures text { (shows : Attributes → List ℕ) → AllByRecursion (λ s. string_bytes s.text ≡ shows s.table) shown.now
-        → IfSome result (λ text. text.now ≡ shows a.now) }
-{
-    for known in shown {
-        if known.table == *a {
-            return Some(known.text.as_str());
-        }
-    }
-    None
-}
 
 /// The front of a procedure's first line: its number and its slot.
 #[derive(Clone, Copy)]
@@ -205,39 +183,42 @@ fn push_table<'a>(
     }
 }
 
-/// Adds a procedure by its table, a copy where the same table was shown before. Many words of a dictionary may lead to
-/// one table.
+/// Adds the line of a number whose table an earlier number has led to: it names the number in that table.
+fn push_repeated(text: &mut String, named: Named, a: &Attributes) -> Result<(), AllocError>
+    ensures text { OnOk result (string_bytes text.new
+        ≡ string_bytes text.old ++ files.repeated_text named.0 named.1 a.now) }
+{
+    let above = a.procedure;
+    writeln!(text, "{named}: shown above as PROCEDURE {above}")?;
+    Ok(())
+}
+
+/// Adds a procedure by its table, and notes the place of that: many words of a dictionary may lead to one table, whose
+/// text stands once.
 fn push_table_once<'a>(
     alloc: Global,
     text: &mut String,
     known: &Known<'_>,
     sized: &SizedSegment<'a>,
     decoded: &mut Option<Decoded<'a>>,
-    shown: &mut Vec<ShownTable>,
+    shown: &mut Vec<u16>,
+    number: u8,
     a: Attributes,
 ) -> Result<(), AllocError>
     requires short { length sized.now.segment.now ≤ 65534 }
     requires of_segment { (p : ℕ) × (attributes_in sized.now.segment.now p ≡ Some a) }
     requires sized { files.IsSizedSegment sized.now }
     requires decoded { IfSome decoded.old (λ d. IsDecoded d sized.now.segment.now) }
-    requires shown { AllByRecursion (files.IsShownTable known.now sized.now.segment.now) shown.old.items }
-    ensures text { OnOk result (string_bytes text.new
-        ≡ string_bytes text.old ++ files.table_text known.now sized.now.segment.now a) }
+    ensures text { OnOk result (string_bytes text.new ≡ string_bytes text.old
+        ++ files.numbered_text known.now sized.now.segment.now shown.old.items number (Some a)) }
+    ensures shown { OnOk result (shown.new.items ≡ files.with_table shown.old.items (Some a)) }
     ensures decoded { OnOk result (IfSome decoded.new (λ d. IsDecoded d sized.now.segment.now)) }
-    ensures shown { OnOk result (AllByRecursion (files.IsShownTable known.now sized.now.segment.now) shown.new.items) }
 {
-    if let Some(before) = text_of(shown, &a) {
-        text.push_str(before)?;
-        return Ok(());
+    if shown.contains(&a.jtab) {
+        return push_repeated(text, Named(number, slot_of(known)), &a);
     }
-    let mut own = String::new(alloc);
-    push_table(alloc, &mut own, known, sized, decoded, &a)?;
-    text.push_str(own.as_str())?;
-    shown.push(ShownTable {
-        table: a,
-        text: own,
-    })?;
-    Ok(())
+    shown.push(a.jtab)?;
+    push_table(alloc, text, known, sized, decoded, &a)
 }
 
 /// Adds the procedures of a segment.
@@ -251,7 +232,7 @@ fn push_segment(
     requires short { length sized.now.segment.now ≤ 65534 }
     requires sized { files.IsSizedSegment sized.now }
     ensures text { OnOk result (string_bytes text.new ≡ string_bytes text.old
-        ++ files.tables_text known.now sized.now.segment.now 1 (procedures_in sized.now.segment.now)) }
+        ++ files.tables_text known.now sized.now.segment.now [] 1 (procedures_in sized.now.segment.now)) }
 {
     let segment = sized.segment;
     let mut decoded = None;
@@ -260,7 +241,16 @@ fn push_segment(
         let number = done + 1;
         let named = Named(number, slot_of(known));
         match attributes(segment, number) {
-            Some(a) => push_table_once(alloc, text, known, sized, &mut decoded, &mut shown, a)?,
+            Some(a) => push_table_once(
+                alloc,
+                text,
+                known,
+                sized,
+                &mut decoded,
+                &mut shown,
+                number,
+                a,
+            )?,
             None => writeln!(text, "{named}: no table")?,
         }
     }

@@ -1,16 +1,15 @@
-use Rattle.std.proofs.Common.{◌≡◌, ◌+◌, ◌-◌, ◌++◌, IfSome, string_bytes}
-use Rattle.std.specs.List.{AllByRecursion}
+use Rattle.std.proofs.Common.{◌≡◌, ◌+◌, ◌-◌, ◌++◌, [], IfSome, string_bytes}
 use Rattle.pm_codefile.specs.Segments.{procedures_in}
 use Rattle.pm_disasm.specs.Offsets.{IsDecoded}
-use Rattle.pm_statements.specs.Files.{IsShownTable, tables_text}
+use Rattle.pm_statements.specs.Files.{tables_text}
 use Rattle.pm_statements.proofs.shown.push_segment.Given as goal
 
--- the text so far with the procedures that are left is the whole, what is held of tables is as it is shown, and the
--- segment, if it was decoded, is that one
+-- the text so far with the procedures that are left, behind the tables that were shown, is the whole, and the segment,
+-- if it was decoded, is that one
 abbrev pub invariant-loop-done : goal.invariant-loop-done
 invariant-loop-done l = record {
-  text : string_bytes l.text ++ tables_text l.known l.sized.segment.now (l.done + 1) (procedures_in l.sized.segment.now - l.done)
-      ≡ string_bytes l.fn.text ++ tables_text l.known l.sized.segment.now 1 (procedures_in l.sized.segment.now);
-  shown : AllByRecursion (IsShownTable l.known l.sized.segment.now) l.shown.items;
+  text : string_bytes l.text
+      ++ tables_text l.known l.sized.segment.now l.shown.items (l.done + 1) (procedures_in l.sized.segment.now - l.done)
+      ≡ string_bytes l.fn.text ++ tables_text l.known l.sized.segment.now [] 1 (procedures_in l.sized.segment.now);
   decoded : IfSome l.decoded (λ d. IsDecoded d l.sized.segment.now);
 }

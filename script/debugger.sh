@@ -6,9 +6,9 @@
 # ends with that status.
 slice=1000000
 
-# Where the shell has rlwrap, lines are edited, and those before come back.
-case ${TERM:-dumb},$1 in
-    dumb,* | *,--edited) ;;
+# Where the shell has rlwrap, lines are edited, and those before come back. It refuses a terminal that tells no width.
+case ${TERM:-dumb},$(stty size 2>/dev/null),$1 in
+    dumb,* | *' 0',* | *,--edited) ;;
     *) ! command -v rlwrap >/dev/null 2>&1 || exec rlwrap -C pmach "$0" --edited "$@" ;;
 esac
 [ "$1" != --edited ] || shift

@@ -304,5 +304,160 @@ mkdir u/d/x.pmach-new
 said=$(echo hi | within 9 "$pmach" files --image u/d/x put N data)
 comes "a folder there" "4 write fault, $base" "$said, $(cksum <u/d/x)"
 
+# The new directory of export.sh, salvage.sh or site.sh is exchanged for a link as soon as it exists: nothing is made or
+# overwritten in the directory that the link names.
+if has "a new directory that is exchanged" python3; then
+    cat >exchange.py <<'END'
+import os, sys, time
+end = time.monotonic() + 20
+while time.monotonic() < end:
+    try:
+        os.rename("u/out", "u/moved")
+        os.symlink(sys.argv[1], "u/out")
+        break
+    except OSError:
+        pass
+END
+    for script in export.sh "export.sh --text" salvage.sh site/site.sh; do
+        harmed=0
+        for ((n = 0; n < 5; n++)); do
+            rm -rf etc u
+            mkdir etc u
+            echo "root file" >etc/HANOI
+            chown 1234:1234 u
+            other "$python" exchange.py "$scratch/etc" &
+            within 60 "$here/examples/${script%% *}" ${script#"${script%% *}"} base u/out >/dev/null
+            { kill $! && wait $!; } 2>/dev/null
+            [ "$(ls etc)" = HANOI ] && [ "$(cat etc/HANOI)" = "root file" ] || harmed=$((harmed + 1))
+        done
+        comes "$script into a directory that is exchanged for a link, 5 times" 0 "$harmed"
+    done
+fi
+
+# A directory of pages with links, pipes or a mark of somebody else is refused, and nothing is written through it.
+if has "pages through links" python3; then
+    for what in "ln -s ../secret u/index.html" "ln secret u/index.html" "mkfifo u/index.html" "mkdir u/index.html"; do
+        rm -rf u
+        mkdir u
+        echo "root file" >secret
+        $what
+        : >u/.pmach-site
+        chown -hR 1234:1234 u
+        chown 0:0 secret
+        said=$(within 60 "$here/examples/site/site.sh" base u)
+        comes "site.sh, the directory of another user with: $what" "1, root file" "${said%% *}, $(cat secret)"
+    done
+    for what in "ln -s ../secret u/.pmach-site" "mkfifo u/.pmach-site" "mkdir u/.pmach-site"; do
+        rm -rf u
+        mkdir u
+        echo "root file" >secret
+        $what
+        said=$(within 60 "$here/examples/site/site.sh" base u)
+        comes "site.sh, a mark that is no regular file: $what" "1, root file" "${said%% *}, $(cat secret)"
+    done
+    rm -rf u
+    "$here/examples/site/site.sh" base u >/dev/null
+    ln -sf ../secret u/index.html
+    said=$(within 60 "$here/examples/site/site.sh" base u)
+    comes "site.sh replaces a link in its own directory" "0, root file, page" \
+        "${said%% *}, $(cat secret), $(head -c 9 u/index.html | grep -q '<!DOCTYPE' && [ ! -L u/index.html ] && echo page)"
+    echo mine >u/mine
+    said=$(within 60 "$here/examples/site/site.sh" base u)
+    comes "site.sh, a file of the user among the pages" "1, mine" "${said%% *}, $(cat u/mine)"
+    rm u/mine
+    before=$(cat u/*.html | cksum)
+    for ((n = 1; n < 9; n++)); do
+        (timeout -s KILL "0.$n" "$here/examples/site/site.sh" base u >/dev/null 2>&1) 2>/dev/null
+    done
+    comes "site.sh, killed at eight times: all pages are there" "$before" "$(cat u/*.html | cksum)"
+    rm -rf u u.new-*
+    "$pmach" files --image base get OK >code
+    printf '\0\0' | dd of=code bs=1 seek=536 conv=notrunc 2>/dev/null
+    "$pmach" files --image n.img new N 40
+    "$pmach" files --image n.img put NAT.CODE code <code
+    said=$(within 60 "$here/examples/site/site.sh" n.img u)
+    comes "site.sh, a code file with a procedure without a table" "0, 2" "${said%% *}, $(ls u/*.html | wc -l)"
+fi
+
+# A file of a directory that import.sh reads is exchanged all the time for a link to a file of root's.
+if has "files that are exchanged" python3; then
+    rm -rf fo n.img
+    mkdir fo
+    chown 1234:1234 fo
+    echo 'TOP SECRET OF ROOT' >secret
+    chmod 600 secret
+    { echo "volume W 200 000-00-00" && for ((n = 1; n <= 60; n++)); do printf 'A\tF%d\tdata\t000-00-00\tbytes\t%d\n' $n $n; done; } >fo/LIST
+    cat >exchange.py <<'END'
+import ctypes, os
+os.chdir("fo")
+open("A", "w").write("plain\n")
+os.symlink("../secret", "S")
+call = ctypes.CDLL(None).renameat2
+while True:
+    call(-100, b"A", -100, b"S", 2)
+END
+    "$pmach" files --image n.img new W 200
+    other "$python" exchange.py &
+    within 60 "$here/examples/import.sh" fo n.img >/dev/null
+    { kill $! && wait $!; } 2>/dev/null
+    comes "import.sh reads no file of root's through a link" 0 "$(grep -ac 'TOP SECRET' n.img)"
+    rm -rf fo
+    mkdir fo
+    mkfifo fo/A
+    printf 'volume W 60 000-00-00\nA\tA\tdata\t000-00-00\tbytes\t1\n' >fo/LIST
+    said=$(within 9 "$here/examples/import.sh" fo n.img)
+    comes "import.sh, a pipe in place of a file" 1 "${said%% *}"
+    echo x >fo/B
+    printf 'volume W 60 000-00-00\nB\tB%%00C\tdata\t000-00-00\tbytes\t1\n' >fo/LIST
+    said=$(within 9 "$here/examples/import.sh" fo n.img)
+    comes "import.sh, a name with byte 0" "1, 0" "${said%% *}, $("$pmach" files --image n.img list | grep -c '^B ')"
+fi
+
+# No temporary directory, and one that is full: nothing is written elsewhere, and no file is cut with status 0.
+before=$(ls -A / | cksum)
+for words in "form.sh base" "form.sh base new" "salvage.sh --form blocks base sv" "import.sh fo n.img"; do
+    said=$(TMPDIR=$scratch/none within 9 "$here/examples/${words%% *}" ${words#"${words%% *}"})
+    comes "$words without a temporary directory" "1, none, same" "${said%% *}, $([ -e new ] || [ -e sv ] && echo made || echo none), $([ "$(ls -A / | cksum)" = "$before" ] && echo same)"
+done
+mkdir -p tm
+if mount -t tmpfs -o size=880k tmpfs tm 2>/dev/null; then
+    mounted=$scratch/tm
+    "$pmach" files --image v.po new V 280
+    "$here/examples/dos-order.sh" <v.po >v.dsk
+    cut=0
+    for size in 200 300 400 500 600 700 800 880 1000 1200; do
+        mount -o "remount,size=${size}k" tm
+        rm -f NEW
+        TMPDIR=$scratch/tm within 30 "$here/examples/form.sh" --back v.dsk v.po NEW >said
+        [ "$(cut -d' ' -f1 said)" != 0 ] || [ "$(stat -c %s NEW)" = 143360 ] || cut=$((cut + 1))
+        rm -rf tm/*
+    done
+    comes "form.sh --back with ten sizes of a full temporary directory: files cut with status 0" 0 "$cut"
+    "$pmach" files --image t.img new T 1000
+    awk 'BEGIN { for (n = 0; n < 20000; n++) print "                    line" n }' | "$pmach" files --image t.img puttext A.TEXT
+    cut=0
+    for size in 300 400 500 600 700 800 900; do
+        mount -o "remount,size=${size}k" tm
+        within 30 "$here/examples/export.sh" --text t.img tm/out >said
+        # (without space for the text, the file comes out as its bytes, and LIST says so)
+        [ "$(cut -d' ' -f1 said)" != 0 ] || [ "$(grep -c . tm/out/A.TEXT)" = 20000 ] || grep -q bytes tm/out/LIST || cut=$((cut + 1))
+        rm -rf tm/*
+    done
+    comes "export.sh --text with seven sizes of a full device: files cut with status 0" 0 "$cut"
+    umount tm
+    mounted=
+else
+    echo "left out: full devices: no mount"
+    left=$((left + 1))
+fi
+
+# `bash pmach` runs the program of the PATH, and nothing of a stranger's directory.
+rm -rf stranger
+mkdir -p stranger/crates/pmach/out stranger/script
+printf '#!/bin/sh\necho stranger\n' >stranger/crates/pmach/out/pmach
+chmod 755 stranger/crates/pmach/out/pmach
+said=$(cd stranger && PATH=$(dirname "$(readlink -f "$here/pmach")"):$PATH bash pmach --version 2>&1)
+comes "bash pmach in a stranger's directory" pmach "${said%% *}"
+
 echo "$passed passed, $failed failed, $left left out"
 [ $failed = 0 ]

@@ -19,7 +19,7 @@
 # An image that is refused is told, and no folder made. Status 0: all files came out.
 . "$(dirname "$(readlink -f "$0")")/words.sh"
 here=$(dirname "$(readlink -f "$0")")
-pmach=${PMACH:-$here/../pmach}
+pmach=$(readlink -f "${PMACH:-$here/../pmach}")
 . "$here/slots.bash"
 read_pattern =
 ends=lf
@@ -37,10 +37,11 @@ if [ -e "$folder" ]; then
     echo "export.sh: $folder is there already: name a new folder" >&2
     exit 1
 fi
-mkdir -- "$folder" || exit
+image=$(full "$image")
+enter "$folder" || exit 1
 status=0
 read_directory "$image" 1024
-echo "volume $(spelled '' "${directory[@]:7:${directory[6]}}") $(word 14) $(date_of "$(word 20)")" >"$folder/LIST"
+echo "volume $(spelled '' "${directory[@]:7:${directory[6]}}") $(word 14) $(date_of "$(word 20)")" >LIST || exit 1
 declare -A names
 count=$(word 16)
 for ((slot = 1; slot <= count; slot++)); do
@@ -48,22 +49,25 @@ for ((slot = 1; slot <= count; slot++)); do
     read_slot $slot
     fits || continue
     how=bytes
-    if ! take_slot "$image" "$folder"; then
+    if ! take_slot "$image"; then
         echo "export.sh: slot $slot, $name: not all of it could be written" >&2
         status=1
     fi
     if [ "$as_text" ] && [ "$kind" = text ]; then
         if [ -z "${names[${name^^}]}" ] && [[ $name != *%* ]] &&
-            "$pmach" files --image "$image" gettext -- "$name" </dev/null >"$folder/$host%%text" 2>/dev/null; then
+            "$pmach" files --image "$image" gettext -- "$name" </dev/null >"./$host%%text" 2>/dev/null; then
             how=text
-            end_lines "$ends" <"$folder/$host%%text" >"$folder/$host"
-            rm -f -- "$folder/$host%%text"
+            if rm -f -- "./$host" && end_lines "$ends" <"./$host%%text" >"./$host"; then :; else
+                echo "export.sh: slot $slot, $name: not all of its text could be written" >&2
+                status=1
+            fi
+            rm -f -- "./$host%%text"
         else
-            rm -f -- "$folder/$host%%text"
+            rm -f -- "./$host%%text"
             echo "export.sh: slot $slot, $name: comes as bytes, since it cannot be had as a text" >&2
         fi
     fi
     names[${name^^}]=1
-    printf '%s\t%s\t%s\t%s\t%s\t%d\n' "$host" "$name" "$kind" "$date" "$how" "$slot" >>"$folder/LIST"
+    printf '%s\t%s\t%s\t%s\t%s\t%d\n' "$host" "$name" "$kind" "$date" "$how" "$slot" >>LIST || status=1
 done
 exit $status

@@ -19,7 +19,7 @@
 . "$(dirname "$(readlink -f "$0")")/words.sh"
 here=$(dirname "$(readlink -f "$0")")
 pmach=${PMACH:-$here/../pmach}
-scratch=$(mktemp -d)
+scratch=$(mktemp -d) || exit 1
 trap 'rm -rf "$scratch"' EXIT
 
 stop() {
@@ -145,9 +145,11 @@ in_order() {
 look() {
     forms=()
     tail -c +$((begin + 1)) "$image" | head -c "$size" >"$scratch/part"
+    [ "$(stat -c %s -- "$scratch/part")" = "$size" ] || stop 1 "$image could not be copied: no space left in ${TMPDIR:-/tmp}?"
     local order
     for order in blocks dos swapped big; do
         in_order $order "$scratch/part" "$scratch/$order" || continue
+        [ "$(stat -c %s -- "$scratch/$order")" = "$size" ] || stop 1 "$image could not be converted: no space left in ${TMPDIR:-/tmp}?"
         "$pmach" files --image "$scratch/$order" list </dev/null >"$scratch/$order.list" 2>/dev/null && forms+=("$order")
     done
 }
@@ -196,11 +198,15 @@ fi
 [ $# != 1 ] || exit 0
 if [ "$back" ]; then
     [ "$(stat -c %s -- "$2")" = "$size" ] || stop 1 "$2 has not the $size bytes of the volume in $image"
-    in_order "${forms[0]}" "$2" "$scratch/changed"
+    in_order "${forms[0]}" "$2" "$scratch/changed" && [ "$(stat -c %s -- "$scratch/changed")" = "$size" ] ||
+        stop 1 "$2 could not be converted: no space left in ${TMPDIR:-/tmp}?"
+    set -o noclobber
     { head -c "$begin" "$image" && cat "$scratch/changed" && tail -c +$((begin + size + 1)) "$image"; } >"$new" || exit
+    [ "$(stat -c %s -- "$new")" = "$(stat -c %s -- "$image")" ] || stop 1 "not all of $new could be written"
     [ "$front" != dc42- ] || printf "$(printf '\\x%02x\\x%02x\\x%02x\\x%02x' $(sum_of "$scratch/changed" |
         awk '{ print int($1 / 16777216), int($1 / 65536) % 256, int($1 / 256) % 256, $1 % 256 }'))" |
-        dd of="$new" bs=1 seek=72 conv=notrunc 2>/dev/null
+        dd of="$new" bs=1 seek=72 conv=notrunc 2>/dev/null || stop 1 "the sum of $new could not be written"
 else
+    set -o noclobber
     cat "$scratch/${forms[0]}" >"$new" || exit
 fi

@@ -19,10 +19,19 @@ ends=lf
     echo "usage: import.sh [--ends crlf|cr] FOLDER IMAGE" >&2
     exit 1
 }
-pmach=${PMACH:-$(dirname "$(readlink -f "$0")")/../pmach}
+pmach=$(readlink -f "${PMACH:-$(dirname "$(readlink -f "$0")")/../pmach}")
 folder=$1
 image=$2
-[ -f "$folder/LIST" ] && [ -r "$folder/LIST" ] || {
+[ "${image#/}" != "$image" ] || image=$PWD/$image
+scratch=$(mktemp -d) || exit 1
+trap 'rm -rf "$scratch"' EXIT
+trap 'exit 130' INT
+trap 'exit 143' HUP TERM
+copied=$scratch/file
+# The directory is entered once, so that somebody who moves it, or puts a link in its place, changes nothing.
+cd -P -- "$folder" 2>/dev/null && copy_list() {
+    [ -f LIST ] && [ ! -L LIST ] && dd if=LIST iflag=nofollow,nonblock of="$scratch/LIST" 2>/dev/null
+} && copy_list || {
     echo "import.sh: $folder has no LIST, as export.sh makes it" >&2
     exit 1
 }
@@ -69,16 +78,23 @@ is_there() {
         cmp -s - <("$pmach" files --image "$image" $verb -- "$2" </dev/null 2>/dev/null)
 }
 
-# is_file HOST: whether it is the name of a regular file in the folder
-is_file() {
-    [[ $1 != */* ]] && [ -f "$folder/$1" ] && [ ! -L "$folder/$1" ]
+# copy_file HOST: copies a regular file of the current directory to $copied, opened once and through no link; fails if it
+# is not one, or if not all of it was copied
+copy_file() {
+    [[ $1 != */* ]] && [ -f "./$1" ] && [ ! -L "./$1" ] &&
+        dd if="./$1" iflag=nofollow,nonblock of="$copied" 2>/dev/null && [ "$(stat -c %s -- "./$1")" = "$(stat -c %s "$copied")" ]
 }
 
 # put_one HOST NAME KIND DATE HOW
 put_one() {
     local name said
-    is_file "$1" || {
-        tell "$2 is left out: $1 is no file in $folder"
+    [[ $2 != *%00* ]] || {
+        tell "$2 is left out: a name cannot have byte 0"
+        status=1
+        return
+    }
+    copy_file "$1" || {
+        tell "$2 is left out: $1 is no file in $folder, or it could not be copied"
         status=1
         return
     }
@@ -89,11 +105,11 @@ put_one() {
         status=1
     fi
     if [ "$5" = text ]; then
-        said=$(text_of "$folder/$1" | "$pmach" files --image "$image" puttext -- "$name" 2>&1) && return
+        said=$(text_of "$copied" | "$pmach" files --image "$image" puttext -- "$name" 2>&1) && return
     else
-        said=$("$pmach" files --image "$image" put -- "$name" "$3" <"$folder/$1" 2>&1) && return
+        said=$("$pmach" files --image "$image" put -- "$name" "$3" <"$copied" 2>&1) && return
     fi
-    if [ "$said" = "refused filer 1 9" ] && is_there "$5" "$name" "$folder/$1"; then
+    if [ "$said" = "refused filer 1 9" ] && is_there "$5" "$name" "$copied"; then
         return
     fi
     tell "$2 is left out: $said$(why "$said")"
@@ -110,13 +126,13 @@ put_all() {
         far "$put" "$count"
         put_one "$host" "$name" "$kind" "$date" "$how"
         put=$((put + 1))
-    done <"$folder/LIST"
+    done <"$scratch/LIST"
 }
 
 put=0
-count=$(($(wc -l <"$folder/LIST") - 1))
+count=$(($(wc -l <"$scratch/LIST") - 1))
 put_all undated
 put_all dated
-read -r _ _ _ date <"$folder/LIST"
+read -r _ _ _ date <"$scratch/LIST"
 [ "$date" = 000-00-00 ] || set_date "$date" 2>/dev/null
 exit $status

@@ -33,12 +33,13 @@ if [ -e "$folder" ]; then
     exit 1
 fi
 if [ "$form" ]; then
-    scratch=$(mktemp -d)
+    scratch=$(mktemp -d) || exit 1
     trap 'rm -rf "$scratch"' EXIT
     "$here/form.sh" --as "$form" "$image" "$scratch/blocks" || exit 1
     image=$scratch/blocks
 fi
-mkdir -- "$folder" || exit 1
+image=$(full "$image")
+enter "$folder" || exit 1
 blocks=$(($(stat -c %s -- "$image") / 512))
 status=0
 taken=0
@@ -51,7 +52,7 @@ tell() {
 }
 
 length=${directory[6]:-0}
-echo "volume $(spelled '' "${directory[@]:7:$((length < 7 ? length : 7))}") $blocks 000-00-00" >"$folder/LIST"
+echo "volume $(spelled '' "${directory[@]:7:$((length < 7 ? length : 7))}") $blocks 000-00-00" >LIST || exit 1
 declare -A owner
 for ((slot = 1; slot <= 77 && 26 * slot + 26 <= ${#directory[@]}; slot++)); do
     read_slot $slot
@@ -66,9 +67,9 @@ for ((slot = 1; slot <= 77 && 26 * slot + 26 <= ${#directory[@]}; slot++)); do
         doubt=${owner[$block]:-$doubt}
         owner[$block]=${owner[$block]:-$slot}
     done
-    take_slot "$image" "$folder" || tell "not all of it could be written"
+    take_slot "$image" || tell "not all of it could be written"
     [ -z "$doubt" ] || tell "doubted, $([ "$doubt" = count ] && echo behind the count || echo "shares blocks with slot $doubt")"
-    printf '%s\t%s\t%s\t%s\tbytes\t%d%s\n' "$host" "$name" "$kind" "$date" "$slot" "${doubt:+	?$doubt}" >>"$folder/LIST"
+    printf '%s\t%s\t%s\t%s\tbytes\t%d%s\n' "$host" "$name" "$kind" "$date" "$slot" "${doubt:+	?$doubt}" >>LIST || tell "its line of LIST could not be written"
     taken=$((taken + 1))
 done
 echo "salvage.sh: $taken files in $folder" >&2

@@ -46,12 +46,23 @@ read_slot() {
     for ((n = 2; ${hosts[=$host]:-0}; n++)); do host=$plain%%$n; done
 }
 
-# take_slot IMAGE FOLDER: the bytes of the entry that was read, as a file of the folder; false where not all came
+# full PATH: the path from the root, so that it still names the same file in another directory
+full() { case $1 in /*) printf '%s' "$1" ;; *) printf '%s' "$PWD/$1" ;; esac; }
+
+# enter FOLDER: makes the directory, and enters it once. From then on files are made in it by their names alone, with no
+# file replaced, even if somebody moves the directory or puts a link in its place. Fails if another directory was entered.
+enter() {
+    mkdir -- "$1" && cd -P -- "$1" && [ -O . ] && [ -z "$(ls -A .)" ] && set -o noclobber && return
+    echo "${0##*/}: $1 was replaced while it was made" >&2
+    return 1
+}
+
+# take_slot IMAGE: saves the bytes of the entry that was read as a new file of the current directory; fails if any are missing
 take_slot() {
     local size=$((end > first ? 512 * (end - first - 1) + last : 0))
     hosts[=$host]=1
-    dd if="$1" bs=512 skip="$first" count=$((end - first)) 2>/dev/null | head -c "$size" >"$2/$host"
-    [ "$(stat -c %s -- "$2/$host")" = "$size" ]
+    dd if="$1" bs=512 skip="$first" count=$((end - first)) 2>/dev/null | head -c "$size" >"./$host"
+    [ "$(stat -c %s -- "./$host")" = "$size" ]
 }
 
 # read_pattern PATTERN: one of the filer, in which = and ? stand for any characters, ? asking for each file that fits

@@ -11,6 +11,6 @@ esac
 # the cursor, and is gone at the end.
 far() {
     [ -t 2 ] && [ "${SECONDS:-0}" -ge 2 ] || return 0
-    trap 'printf "\033[J" >&2' EXIT
+    trap 'printf "\033[J" >&2; [ -z "${scratch:-}" ] || rm -rf "$scratch"' EXIT
     printf '\033[J\n%s: %d of %d\033[A\r' "${0##*/}" "$1" "$2" >&2
 }

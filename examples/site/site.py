@@ -8,9 +8,11 @@ they are: nothing of it is markup, a path or a script, which a policy in each pa
 
 FOLDER is new, or made by this script before: then its pages are written anew. Status 0; 1 wrong words; 2 no volume, and no file either."""
 import argparse
+import ctypes
 import html
 import os
 import re
+import stat
 import subprocess
 import sys
 import tempfile
@@ -20,7 +22,8 @@ HERE = os.path.dirname(os.path.abspath(__file__))
 EXAMPLES = os.path.dirname(HERE)
 PMACH = os.environ.get("PMACH", os.path.join(os.path.dirname(EXAMPLES), "pmach"))
 MARK = ".pmach-site"
-DUMPED, LINES, LISTED, STEPS = 65536, 20000, 60000, 2_000_000
+PAGE = re.compile(r"(index|run|file-\d\d)\.html")
+DUMPED, LINES, LISTED, STEPS, DISASSEMBLED = 65536, 20000, 60000, 2_000_000, 8_000_000
 
 STYLE = """:root{color-scheme:light dark;--ink:#1b1b1b;--paper:#fdfdfb;--line:#bbb;--soft:#f0efe9;--link:#0b4f9e;--bad:#b3261e}
 @media(prefers-color-scheme:dark){:root{--ink:#e6e4de;--paper:#17181a;--line:#555;--soft:#242629;--link:#8ab4f8;--bad:#ff9c94}}
@@ -48,6 +51,29 @@ def pmach(words, given=b""):
 
 def latin(data):
     return data.decode("latin-1")
+
+
+def bounded(words, given):
+    """As pmach, but reads at most DISASSEMBLED bytes of the output, and ends the program if there are more: a small code
+    file whose procedures overlap has a disassembly of any length. The last value says whether more were left out."""
+    with tempfile.TemporaryFile() as source, tempfile.TemporaryFile() as errors:
+        source.write(given)
+        source.seek(0)
+        with subprocess.Popen([PMACH, *words], stdin=source, stdout=subprocess.PIPE, stderr=errors) as ran:
+            out = ran.stdout.read(DISASSEMBLED + 1)
+            is_cut = len(out) > DISASSEMBLED
+            if is_cut:
+                ran.kill()
+        errors.seek(0)
+        message = latin(errors.read()).strip()
+    return 0 if is_cut else ran.returncode, latin(out[:DISASSEMBLED]), message, is_cut
+
+
+def lines_of(words, given):
+    """The whole lines of such an output, and whether more were left out."""
+    _, text, _, is_cut = bounded(words, given)
+    lines = text.splitlines()
+    return (lines[:-1] if is_cut else lines), is_cut
 
 
 # ---- the disk
@@ -283,6 +309,7 @@ def text_page(text):
 
 # ---- code
 
+LISTING = re.compile(r"\d\d \d{3} \d{5} ")
 CALL = re.compile(r"^(CLP|CGP|CIP|CBP) (\d+)$|^CXP (\d+), (\d+)$")
 STANDARD = re.compile(r"^\s+((?:CSP \d+)|(?:CXP 0, \d+))\s*; (\S+)")
 
@@ -291,16 +318,17 @@ class Code:
     """The segments, procedures and lines of a code file, and who calls whom."""
 
     def __init__(self, data):
-        status, out, self.message = pmach(["dis"], data)
+        status, out, self.message, _ = bounded(["dis"], data)
         self.good = status == 0
         if not self.good:
             return
-        self.names = dict(re.findall(r"^\.SEG (\d+) (.*)$", latin(out), re.M))
-        named = latin(pmach(["dis", "--names"], data)[1])
-        self.called = {m[1]: m[2] for m in map(STANDARD.match, named.splitlines()) if m}
-        self.lines = latin(pmach(["dis", "--list"], data)[1]).splitlines()
+        self.names = dict(re.findall(r"^\.SEG (\d+) (.*)$", out, re.M))
+        self.called = {m[1]: m[2] for m in map(STANDARD.match, lines_of(["dis", "--names"], data)[0]) if m}
+        self.lines, is_cut = lines_of(["dis", "--list"], data)
+        statements, is_cut_too = lines_of(["dis", "--statements"], data)
+        self.is_cut = is_cut or is_cut_too
         self.statements, here = {}, None
-        for line in latin(pmach(["dis", "--statements"], data)[1]).splitlines():
+        for line in statements:
             m = re.match(r"PROCEDURE (\d+) OF SEGMENT (\d+): (shown above)?", line)
             if m and m[3]:
                 continue  # another number of a table that stands above, by the number in it
@@ -309,15 +337,17 @@ class Code:
                 own = self.statements.setdefault(here, []) if here not in self.statements else []
             else:
                 own.append(line)
-        self.procedures, self.calls = [], {}
+        self.procedures, self.calls, self.listing = {}, {}, {}
         for line in self.lines:
+            if not LISTING.match(line):
+                continue  # a comment, as on a procedure without a table
             slot, number = int(line[0:2]), int(line[3:6])
             words = line.split("  ", 1)[1] if "  " in line else ""
             if words.startswith(".DICT"):
                 continue
             here = (slot, number)
-            if here not in self.procedures:
-                self.procedures.append(here)
+            self.procedures[here] = None
+            self.listing.setdefault(here, []).append(line)
             to = self.callee(slot, words)
             if to:
                 self.calls.setdefault(here, {}).setdefault(to, 0)
@@ -379,16 +409,19 @@ class Code:
             return '<p class="bad">%s</p>' % told(self.message)
         self.places = {}
         for line in self.lines:
-            self.places.setdefault(int(line[0:2]), set()).add(int(line[7:12]))
+            if LISTING.match(line):
+                self.places.setdefault(int(line[0:2]), set()).add(int(line[7:12]))
         parts = ["<h2>Segments</h2>", table(["slot", "name", "procedures"], [
             [int(slot), told(name), " ".join(self.link(p) for p in self.procedures if p[0] == int(slot))] for slot, name in self.names.items()])]
         rows = [[self.link(p), ", ".join(self.link(t) + (" ×%d" % n if n > 1 else "") for t, n in sorted(self.calls.get(p, {}).items())) or "nobody",
                  ", ".join(self.link(c) for c in self.callers.get(p, [])) or "nobody here"] for p in self.procedures]
         parts += ["<h2>Who calls whom</h2>", table(["procedure", "calls", "is called by"], rows), self.graph()]
         seen, shown = set(), 0
+        if self.is_cut:
+            parts.append("<p>The disassembly is longer than %d bytes. The rest of it is left out.</p>" % DISASSEMBLED)
         for here in self.procedures:
             slot, number = here
-            own = [line for line in self.lines if line.startswith("%02d %03d " % here) and "  .DICT" not in line]
+            own = self.listing[here]
             parts.append('<h3 id="p%d-%d">Procedure %d of segment %d %s</h3>' % (slot, number, number, slot, told(self.names.get(str(slot), ""))))
             parts.append("<p>Called by %s.</p>" % (", ".join(self.link(c) for c in self.callers.get(here, [])) or "nobody in this file"))
             if shown + len(own) > LISTED:
@@ -499,31 +532,74 @@ def run_page(disk, name, given, limit):
 # ---- the folder
 
 
-def made_before(folder):
-    """The names that this script wrote there, or none where the folder is another's."""
+def refuse(reason):
+    print("site.sh: %s" % reason, file=sys.stderr)
+    sys.exit(1)
+
+
+def open_own(folder):
+    """Opens the directory if this user made it with this script: it and the regular file MARK are the user's, and it has
+    only pages besides. None if there is nothing of that name. No link is followed."""
+    parent = os.open(os.path.dirname(os.path.abspath(folder)), os.O_RDONLY | os.O_DIRECTORY)
+    name = os.path.basename(os.path.abspath(folder))
     try:
-        with open(os.path.join(folder, MARK)) as file:
-            return file.read().split("\n")
+        try:
+            own = os.open(name, os.O_RDONLY | os.O_DIRECTORY | os.O_NOFOLLOW, dir_fd=parent)
+        except FileNotFoundError:
+            return parent, name, None
+        mark = os.open(MARK, os.O_RDONLY | os.O_NOFOLLOW | os.O_NONBLOCK, dir_fd=own)
+        users = {os.fstat(own).st_uid, os.fstat(mark).st_uid}
+        is_own = stat.S_ISREG(os.fstat(mark).st_mode) and users == {os.geteuid()}
+        os.close(mark)
     except OSError:
-        return None
+        is_own = False
+    if not is_own:
+        refuse("%s exists, and this script did not make it for this user" % folder)
+    others = [it for it in sorted(os.listdir(own)) if it != MARK and not PAGE.fullmatch(it)]
+    if others:
+        refuse("%s has a file that this script did not make: %s" % (folder, told(others[0])))
+    return parent, name, own
+
+
+def remove_pages(parent, name, own):
+    """Removes a directory of pages, which is held open, and nothing else."""
+    for it in os.listdir(own):
+        if it == MARK or PAGE.fullmatch(it):
+            os.unlink(it, dir_fd=own)
+    os.rmdir(name, dir_fd=parent)
 
 
 def write(folder, pages):
-    if os.path.lexists(folder):
-        old = made_before(folder)
+    """Writes the pages into a new directory, and puts it in the place of the old one in one step. So after an interruption
+    either all old pages are there or all new ones."""
+    parent, name, old = open_own(folder)
+    new, is_published = "%s.new-%d" % (name, os.getpid()), False
+    os.mkdir(new, dir_fd=parent)
+    made = os.open(new, os.O_RDONLY | os.O_DIRECTORY | os.O_NOFOLLOW, dir_fd=parent)
+    if os.fstat(made).st_uid != os.geteuid() or os.listdir(made):
+        refuse("%s was replaced by somebody else" % new)
+    try:
+        for title, text in [*pages.items(), (MARK, "\n".join(sorted(pages)))]:
+            file = os.open(title, os.O_WRONLY | os.O_CREAT | os.O_EXCL | os.O_NOFOLLOW, 0o666, dir_fd=made)
+            with os.fdopen(file, "w", encoding="utf-8") as out:
+                out.write(text)
         if old is None:
-            print("site.py: %s is there, and was not made by this script" % folder, file=sys.stderr)
-            sys.exit(1)
-        for name in old:
-            if re.fullmatch(r"(index|run|file-\d\d)\.html", name) and os.path.lexists(os.path.join(folder, name)):
-                os.remove(os.path.join(folder, name))
-    else:
-        os.mkdir(folder)
-    with open(os.path.join(folder, MARK), "w") as file:
-        file.write("\n".join(sorted(pages)))
-    for name, text in pages.items():
-        with open(os.path.join(folder, name), "w", encoding="utf-8") as file:
-            file.write(text)
+            os.rename(new, name, src_dir_fd=parent, dst_dir_fd=parent)
+        else:
+            exchange(parent, new, name)
+        is_published = True
+    finally:
+        if not is_published:
+            remove_pages(parent, new, made)
+    if old is not None:
+        remove_pages(parent, new, old)
+
+
+def exchange(parent, one, other):
+    """Exchanges two names in one step (renameat2 with RENAME_EXCHANGE)."""
+    call = ctypes.CDLL(None, use_errno=True).renameat2
+    if call(parent, os.fsencode(one), parent, os.fsencode(other), 2):
+        raise OSError(ctypes.get_errno(), os.strerror(ctypes.get_errno()), one)
 
 
 class Far:
@@ -561,9 +637,10 @@ def main():
     if not os.path.isfile(given.image) or given.image.startswith("-"):
         print("site.sh: no such image: %s" % given.image, file=sys.stderr)
         sys.exit(1)
-    if os.path.lexists(given.folder) and made_before(given.folder) is None:
-        print("site.sh: %s is there, and was not made by this script" % given.folder, file=sys.stderr)
-        sys.exit(1)
+    if not os.path.isdir(os.path.dirname(os.path.abspath(given.folder))):
+        refuse("there is no directory for %s" % given.folder)
+    for it in open_own(given.folder)[::2]:
+        it is None or os.close(it)
     with tempfile.TemporaryDirectory() as scratch:
         disk = Disk(given.image, scratch)
         pages = {"index.html": index(disk, given.image, given.run)}
@@ -571,7 +648,10 @@ def main():
         try:
             for done, entry in enumerate(disk.files):
                 far.say(done)
-                pages[entry.page] = file_page(disk, entry)
+                try:
+                    pages[entry.page] = file_page(disk, entry)
+                except Exception as fault:  # the pages of the other files are still made
+                    pages[entry.page] = page(entry.name, '<p class="bad">This page could not be made: %s</p>' % told(repr(fault)))
         finally:
             far.end()
         if given.run:
@@ -580,7 +660,10 @@ def main():
                 with open(given.input, "rb") as file:
                     typed = file.read()
             pages["run.html"] = run_page(disk, given.run, typed, given.limit)
-    write(given.folder, pages)
+    try:
+        write(given.folder, pages)
+    except OSError as fault:
+        refuse("%s could not be written: %s" % (given.folder, fault))
     print("%s: %d pages, %d bytes; open %s" % (given.folder, len(pages), sum(len(t.encode()) for t in pages.values()), os.path.join(given.folder, "index.html")))
 
 

@@ -1,6 +1,7 @@
-"""seed.py [CLONE]: fills out/ of each crate of a clone, or of this one, with the library that `rt ci` kept at the same sources on this machine,
-so that `rt check` in a crate's folder proves that crate alone. For an rt that keeps what it proved (kit 13f), by hand; the gate decides. Tells
-which libraries are missing still; one whose own libraries are missing is not looked for."""
+"""seed.py [CLONE]: fills out/ of each crate of a clone, or of this one, with the library that `rt ci` cached for the same
+sources on this machine, so that `rt check` in a crate's directory proves only that crate. It reads the cache with the
+functions of `rt`, which kits before rattle-kit-13f do not have: with such a kit it reports that and ends with status 1.
+It prints which libraries are still missing. A library is not searched for if one below it is missing."""
 import importlib.machinery
 import importlib.util
 import os
@@ -13,6 +14,11 @@ sys.path.insert(0, kit + "/bin")
 loader = importlib.machinery.SourceFileLoader("rt_ci", shutil.which("rt"))
 rt = importlib.util.module_from_spec(importlib.util.spec_from_loader("rt_ci", loader))
 loader.exec_module(rt)
+missing = [name for name in ("rtlib", "Crate", "Kept", "handles_of") if not hasattr(rt, name)]
+if missing:
+    version = subprocess.run(["rt", "version"], capture_output=True, text=True).stdout.split()
+    sys.exit("seed.py requires rattle-kit-13f or a later kit: the rt of %s does not cache proofs (it has no %s)"
+             % (version[0] if version else "this machine", ", ".join(missing)))
 rtlib = rt.rtlib
 root = os.path.abspath(sys.argv[1] if len(sys.argv) > 1 else os.path.join(os.path.dirname(os.path.abspath(__file__)), ".."))
 os.chdir(root)

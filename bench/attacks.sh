@@ -325,7 +325,7 @@ END
             mkdir etc u
             echo "root file" >etc/HANOI
             chown 1234:1234 u
-            other "$python" exchange.py "$scratch/etc" &
+            setpriv --reuid 1234 --regid 1234 --clear-groups "$python" exchange.py "$scratch/etc" &
             within 60 "$here/examples/${script%% *}" ${script#"${script%% *}"} base u/out >/dev/null
             { kill $! && wait $!; } 2>/dev/null
             [ "$(ls etc)" = HANOI ] && [ "$(cat etc/HANOI)" = "root file" ] || harmed=$((harmed + 1))
@@ -397,7 +397,7 @@ while True:
     call(-100, b"A", -100, b"S", 2)
 END
     "$pmach" files --image n.img new W 200
-    other "$python" exchange.py &
+    setpriv --reuid 1234 --regid 1234 --clear-groups "$python" exchange.py &
     within 60 "$here/examples/import.sh" fo n.img >/dev/null
     { kill $! && wait $!; } 2>/dev/null
     comes "import.sh reads no file of root's through a link" 0 "$(grep -ac 'TOP SECRET' n.img)"

@@ -1,27 +1,31 @@
-"""house.py: what the house asks of its source and what this script finds against it. By hand; no part of the gate.
+"""house.py [--record]: lists what breaks the rules of this repository's source and pages. Run by hand; no part of the gate.
 
-    definitions     of the same shape in specs/ of two crates: equal but for their own names and those of their parameters;
-                    and so bodies of functions in two files
-    functions       of more than 40 lines with their signature, without the rows of a table that a macro takes, and crates
-                    of more than 100 functions
-    lines           over 120 characters in code, definitions and docs, over 160 in proofs (tables and the index apart, and
+    definitions     in specs/ of two crates that differ only in their own names and those of their parameters; the same for
+                    bodies of functions in two files
+    clauses         of two functions, in two files, that say the same of a result and of the same definition
+    functions       of more than 40 lines with their signature, without the rows of a table that a macro takes
+    lines           over 120 characters in code, definitions and pages, over 160 in proofs (except tables, the index, and
                     attributes, which `rt fmt` joins)
-    numbers         that have a name: ends of the stack, the most bytes of bare code, opcodes of jumps (the table of
-                    opcodes, table.rt, has its own)
-    the pages       with the tables of the instructions, the standard procedures and the system's procedures, of which
-                    crates/test_page/stdin is a copy, one behind another
-    the cases       of examples/conformance/bare.txt, of which crates/test_cases/data/bare.txt is a copy
-    the segment     of examples/system/system.text, of which crates/test_trials/data/system.text is a copy
-    the header      examples/library/pmach.h, whose numbers of answers are those that crates/pm_c/specs/Worked.antt has, and
-                    whose calls, with the types of their parameters, are the exports of crates/pm_c/src, each called by its tests;
-                    its version is that of the program
-    the sentences   of crates/pm_c/src/sentences.rt, which are those of the faults and errors that they tell
-    names           that docs/PROMISES.md, docs/ARCHITECTURE.md, docs/DECISIONS.md and the sections of definitions have and
-                    the source, or the crates beside, have not; and paths and sections that the pages name
-    the index       INDEX.md, which index.py makes of the source
-    pages           of more bytes than they may have
-    the map         of docs/ARCHITECTURE.md: each crate with its floor and those that it stands on, beside crates.txt
-The status is 1 where anything is found."""
+    numbers         that have a name: ends of the stack, the most bytes of bare code, opcodes of jumps (except in the table
+                    of opcodes, table.rt)
+    pages           with the tables of the instructions, the standard procedures and the system's procedures, of which
+                    crates/test_page/stdin is a concatenation
+    cases           of examples/conformance/bare.txt, of which crates/test_cases/data/bare.txt is a copy
+    segment         of examples/system/system.text, of which crates/test_trials/data/system.text is a copy
+    header          examples/library/pmach.h: the numbers of its answers are those of crates/pm_c/specs/Worked.antt; its
+                    calls, with the types of their parameters, are the exports of crates/pm_c/src, each called by the tests
+                    there; its version is that of the program
+    sentences       of crates/pm_c/src/sentences.rt, which are those of the faults and errors that they describe
+    names           on docs/PROMISES.md, docs/ARCHITECTURE.md, docs/DECISIONS.md and in the sections of definitions that do
+                    not exist in the source, or in the crates named with them; paths and sections that do not exist
+    index           INDEX.md, which index.py makes from the source
+    map             of docs/ARCHITECTURE.md: each crate with its floor and the crates that it uses, as in crates.txt
+    orphans         pages that no page links to
+    long sentences  of more than 40 words on a page
+    words           of the private dialect, which docs/STYLE.md replaces: their number on pages, in comments and in scripts
+                    may only fall below that in bench/private-words.txt. `--record` writes the present numbers there
+
+Status 1: something was found."""
 import collections
 import glob
 import os
@@ -115,11 +119,18 @@ for path in sorted(glob.glob("crates/*/src/**/*.rt", recursive=True)):
             number = last
         number += 1
 
-for folder in sorted(glob.glob("crates/*")):
-    count = sum(len(re.findall(r"^ *(?:pub(?:\([a-z]+\))? )?fn ", "\n".join(lines(path)), re.M))
-                for path in glob.glob(folder + "/src/**/*.rt", recursive=True) if not path.endswith("tests.rt"))
-    if count > 100 and not os.path.basename(folder).startswith("test_"):
-        tell("crate", "%s has %d functions" % (folder, count))
+# Clauses that say the same of the result, without their names.
+by_clause = collections.defaultdict(set)
+for path in sorted(glob.glob("crates/*/src/**/*.rt", recursive=True)):
+    text = "\n".join(lines(path))
+    for head in re.finditer(r"^( *)(?:pub(?:\([a-z]+\))? )?(?:const )?fn (\w+)(.*?)\n\1\{$", text, re.M | re.S):
+        for clause in re.findall(r"ensures\*? \w+ \{(.*?)\}(?=\s*(?:ensures|requires|decreases|\Z))", head.group(3), re.S):
+            clause = " ".join(clause.split())
+            if "result" in clause and len(clause) > 80:
+                by_clause[clause].add((path[7:], head.group(2)))
+for clause, places in sorted(by_clause.items()):
+    if len({path for path, _ in places}) > 1:
+        tell("clause", "%s: %s" % (", ".join("%s of %s" % (name, path) for path, name in sorted(places)), clause[:80]))
 
 for pattern, most in (("crates/*/src/**/*.rt", 120), ("crates/*/specs/**/*.antt", 120), ("crates/*/proofs/**/*.antt", 160),
                       ("docs/*.md", 120), ("README.md", 120)):
@@ -290,18 +301,66 @@ for page in sorted(glob.glob("docs/*.md")) + ["README.md", "bench/README.md"]:
 if "\n".join(lines("INDEX.md")) != index.page():
     tell("index", "INDEX.md is not that of the source: python3 bench/index.py")
 
-# The most bytes of a page, and of all of docs/.
-MOST = {"PROMISES": 15100, "DECISIONS": 10000, "ARCHITECTURE": 12900, "COMMANDS": 33600, "FILES": 25700,
-        "INSTRUCTIONS": 20000, "ASSEMBLY": 18000, "WORKING": 15600, "PROCEDURES": 13900, "MACHINE": 13100, "GLOSSARY": 7100,
-        "CASES": 3500, "LIBRARY": 5300, "DISKS": 5700}
-ALL_PAGES = 204800
-for name, most in MOST.items():
-    size = os.path.getsize("docs/%s.md" % name)
-    if size > most:
-        tell("page", "docs/%s.md has %d bytes, %d are the most" % (name, size, most))
-size = sum(map(os.path.getsize, glob.glob("docs/*")))
-if size > ALL_PAGES:
-    tell("page", "docs/ has %d bytes, %d are the most" % (size, ALL_PAGES))
+# What a reader meets: pages that no other page links to, long sentences, and the private dialect.
+ALL_PAGES = sorted({"README.md", "bench/README.md", *glob.glob("docs/*.md"), *glob.glob("examples/**/*.md", recursive=True)})
+linked = set()
+for page in ALL_PAGES:
+    for path in re.findall(r"\]\(([\w./-]+)(?:#[\w-]+)?\)", "\n".join(lines(page))):
+        target = os.path.normpath(os.path.join(os.path.dirname(page), path))
+        linked.add(os.path.join(target, "README.md") if os.path.isdir(target) else target)
+for page in ALL_PAGES:
+    if page != "README.md" and page not in linked:
+        tell("orphan", page)
+
+
+def prose(page):
+    """The paragraphs and list items of a page, without code blocks, tables and headings."""
+    text = re.sub(r"^```.*?^```$", "", "\n".join(lines(page)), flags=re.M | re.S)
+    kept = [line for line in text.split("\n") if not re.match(r"\||#|>|    ", line)]
+    return re.split(r"\n\s*\n|\n(?= *(?:[-*]|\d+\.) )", "\n".join(kept))
+
+
+for page in ALL_PAGES:
+    for paragraph in prose(page):
+        plain = re.sub(r"`[^`]*`|\]\([^)]*\)", "x", " ".join(paragraph.split()))
+        for sentence in re.split(r"(?<=[.?!:])\s+(?=[A-Z*\[`(x])", plain):
+            if len(sentence.split()) > 40:
+                tell("long sentence", "%s: %d words: %s" % (page, len(sentence.split()), sentence[:70]))
+
+PRIVATE = {
+    "alone": r"\balone\b", "anew": r"\banew\b", "behind": r"\bbehind\b", "beside": r"\bbeside\b", "but for": r"\bbut for\b",
+    "by hand": r"\bby hand\b", "comes to": r"\b(?:comes?|came) to\b", "can be had": r"\bbe had\b", "gives up": r"\bg(?:ive|ives|iving|ave) up\b",
+    "goes by": r"\b(?:go|goes|went) by\b", "hurt": r"\bhurts?\b", "in front": r"\bin front\b", "is there": r"\b(?:is|are|was|were) there\b",
+    "is told": r"\b(?:is|are|was|were|be) told\b|\btells?\b", "kept": r"\bkept\b", "looked at": r"\blook(?:s|ed)? (?:at|for)\b",
+    "mended": r"\bmend(?:s|ed)?\b", "room": r"\broom\b", "so many": r"\bso (?:many|much)\b", "stands": r"\bst(?:ands?|ood)\b",
+    "taken away": r"\bt(?:ake|akes|aken|ook) away\b", "turned": r"\bturned\b", "want of memory": r"\bwant of memory\b",
+    "wants": r"\bwant(?:s|ed)\b", "whatever": r"\b(?:what|where|who)ever\b", "words": r"\b(?:wrong|the|its|no) words\b",
+}
+
+
+def comments(pattern, mark):
+    """What the comments of these files say."""
+    return "\n".join(found.group(1) for path in sorted(glob.glob(pattern, recursive=True)) if os.path.isfile(path)
+                     for found in (re.match(mark, line) for line in lines(path)) if found)
+
+
+GROUPS = {"pages": "\n".join("\n".join(lines(page)) for page in ALL_PAGES),
+          "comments": comments("crates/**/*.rt", r" *//[/!]?(.*)") + comments("crates/**/*.antt", r" *--(.*)"),
+          "scripts": "\n".join("\n".join(lines(path)) for path in ["pmach", *sorted(glob.glob("script/**/*.sh", recursive=True))])
+                     + comments("examples/**/*.sh", r" *#(.*)") + comments("bench/*.*", r" *#(.*)")}
+numbers = {(word, group): len(re.findall(pattern, text)) for word, pattern in PRIVATE.items() for group, text in GROUPS.items()}
+RECORD = "bench/private-words.txt"
+if "--record" in sys.argv[1:]:
+    with open(RECORD, "w", encoding="utf-8") as file:
+        file.write("# How often each word of the private dialect occurs; house.py refuses more. Columns: %s\n" % ", ".join(GROUPS))
+        for word in PRIVATE:
+            file.write("%s: %s\n" % (word, " ".join(str(numbers[word, group]) for group in GROUPS)))
+elif os.path.exists(RECORD):
+    for line in lines(RECORD):
+        word, _, most = line.partition(": ")
+        for group, count in zip(GROUPS, most.split()) if word in PRIVATE else ():
+            if numbers[word, group] > int(count):
+                tell("word", '"%s" is %d times in %s, and may be there %s times' % (word, numbers[word, group], group, count))
 
 print(", ".join("%d %s" % (count, kind) for kind, count in sorted(found.items())) or "nothing")
 sys.exit(1 if found else 0)

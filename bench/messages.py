@@ -84,20 +84,14 @@ def wrong_words():
 
 def page_numbers():
     """The refusals that the page's table has."""
-    whole = read("docs/COMMANDS.md")
+    whole = read("docs/MESSAGES.md")
     table = whole.split("# What the numbers mean")[1]
     found = set(re.findall(r"`refused (\w+ \d+)`\s+(?:is|one)\s", whole.split("# What the numbers mean")[0]))
     for line in table.split("\n"):
         cells = line.split(" | ")
         for said in re.findall(r"`refused ([a-z]+ [0-9A-Z .]*)`", cells[0]):
             words = [word for word in said.split() if word != ".."]
-            if words[0] == "asm":
-                found |= set("asm %d" % number for number in range(1, 8))
-            elif words[:3] == ["filer", "1", "N"] or words[:2] == ["code", "N"]:
-                front = " ".join(words[: words.index("N")])
-                found |= set("%s %s" % (front, number) for number in re.findall(r"(?:^|[,;:] )(\d+) [a-z]", cells[1]) + re.findall(r"^(\d+) ", cells[1]))
-            else:
-                found.add(" ".join(words[: 3 if words[0] == "filer" and words[1] == "2" else 2]))
+            found.add(" ".join(words[: 3 if words[0] == "filer" and words[1] in "12" else 2]))
     return found
 
 

@@ -234,7 +234,7 @@ if has "refusals of the system" strace; then
 fi
 
 # A file of the command that stands where the new file for another is made.
-message="error: a path is that of another with .pmach-new, which is taken away where that is written"
+message="error: one file is the temporary file (PATH.pmach-new) of another, and would be deleted; rename it"
 cp base a
 cp base a.pmach-new
 cp base c.pmach-new

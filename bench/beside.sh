@@ -23,7 +23,7 @@ beside() {
 # a program, the family whose mistake it meets, and the instruction behind which that shows
 while IFS='|' read -r family digits instruction; do
     beside '' "$digits" 'no difference'
-    beside "$family" "$digits" ", $instruction, of"
+    beside "$family" "$digits" ", $instruction, from"
 done <<'END'
 integers|C7 F9 FF 02 86 D6|DVI
 variables|07 CC 03 DA D6|SLDL 3

@@ -248,7 +248,7 @@ shown, status = typed(words + ["LONG"], ["go 1\n", "go 2000000", END, END])
 check("Ctrl-D within a line", (shown, status) == ("> go 1\nlimit 1\n> go 2000000limit 2000000\n", 0), shown)
 
 resumed = [program, "run", "--debug", "--unlimited", "--d4", image]
-again = "pmach: the run is made again, up to its end or Ctrl-C\n"
+again = "pmach: repeating the run; Ctrl-C stops it\n"
 lines = ["regs", "console 9"]
 for name, text, more, keys, end in (("an error", "ab!", [], ["a", "b", "!"], 3), ("an error behind keys that come at once", "ab!", [], ["ab!cd"], 3),
                                     ("Ctrl-C while it waits", "ab", [], ["ab", INT], 130), ("Ctrl-C before any key", "", [], [INT], 130),
@@ -269,7 +269,7 @@ check("run --debug: a refusal at the start", shown.startswith("refused boot 1\n"
 ends = [typed(resumed + ["ASK"], keys + [number]) for keys in (["ab"], ["ab!"]) for number in (signal.SIGTERM, signal.SIGHUP)]
 check("run --debug: signals", [end[1] for end in ends] == [143, 129] * 2, ends)
 piece = subprocess.run(resumed + ["ASK"], stdin=subprocess.DEVNULL, capture_output=True)
-check("run --debug: no terminal", (piece.returncode, piece.stdout, piece.stderr) == (1, b"", b"pmach: run --debug wants a terminal\n"), piece)
+check("run --debug: no terminal", (piece.returncode, piece.stdout, piece.stderr) == (1, b"", b"pmach: run --debug requires a terminal\n"), piece)
 
 shown, status = typed(words + ["NONE"], [])
 check("a refusal at the start", shown.startswith("refused boot 1\npmach: ") and status == 2, (shown, status))

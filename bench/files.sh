@@ -41,9 +41,9 @@ image=$scratch/w.img
 cp "$image" "$scratch/before"
 
 # what a path names
-ends "the printer is the image" 1 "error: the path behind --printer is that of an image" run --d4 "$image" --printer "$image" OK
-ends "the printer is a folder" 1 "error: the path behind --printer is that of a folder" run --d4 "$image" --printer "$scratch" OK
-ends "the image is on two units and saved" 1 "error: the image that --save writes is that of two units" \
+ends "the printer is the image" 1 "error: --printer names a disk image of the run; name another file" run --d4 "$image" --printer "$image" OK
+ends "the printer is a folder" 1 "error: --printer names a folder; name a file" run --d4 "$image" --printer "$scratch" OK
+ends "the image is on two units and saved" 1 "error: an image to be saved (--save, --save-all) is on two units; use another image for one unit" \
     run --d4 "$image" --d5 "$image" --save OK
 same "the image is as it was" "$image" "$scratch/before"
 ends "the printer is /dev/null" 0 "ended 9" run --d4 "$image" --printer /dev/null OK

@@ -49,8 +49,9 @@ def sentences():
 
     told.append(("hex 1", own(r"Refusal::Hex => ")))
     boot = faults("crates/pm_machine/src/state.rt")
-    for name in re.findall(r"Refusal::Boot\(BootFault::(\w+)\) => ", reason):
-        boot[0][name] = own(r"Refusal::Boot\(BootFault::%s\) => " % name)
+    about = read("crates/pm_program/src/about.rt") # the program names the image and the file in these two
+    for name, number in ("NoFile", 1), ("NotCode", 2):
+        boot[0][name] = re.search(r"\(%d, _\) => [^\"]*" % number + STRING, about).group(1)
     boot[0]["Exec"] = own(r"Refusal::Boot\(BootFault::Exec\(error\)\) => ").replace("{error}", "{0}")
     add("boot", boot, ["NoFile", "NotCode", "BadCode", "Exec"])
     volume = faults("crates/pm_volume/src/fault.rt")
@@ -103,7 +104,8 @@ def is_shown(sentence, rows):
 def table():
     """The section of INDEX.md."""
     lines = ["| `refused ..` | What a terminal is told |\n|---|---|\n"]
-    lines += ["| %s | %s |\n" % (number, re.sub(r"\{0\}", "..", said)) for number, said in sentences()]
+    names = {"0": "..", "image": "IMAGE", "name": "NAME"}
+    lines += ["| %s | %s |\n" % (number, re.sub(r"\{(\w*)\}", lambda part: names.get(part[1], ""), said)) for number, said in sentences()]
     return "".join(lines)
 
 

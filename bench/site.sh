@@ -101,7 +101,7 @@ check "a sound disk" ends 0 "$site" sound.img sound
 check "whole" whole sound
 check "its name" grep -q '<h1>Volume ' sound/index.html
 check "a text is no markup" grep -rq 'hi &lt;b&gt;&amp;amp; &quot;there&quot;' sound
-check "its code" grep -rq "Who calls whom" sound
+check "its code" grep -rq "<h2>Calls</h2>" sound
 check "its statements" grep -rq "IF NOT (param3 &gt; 0)" sound
 cp -r sound before
 check "again" ends 0 "$site" sound.img sound
@@ -120,7 +120,7 @@ check "makes nothing of it" [ ! -e noise ]
 "$here/examples/dos-order.sh" <sound.img >order.dsk 2>/dev/null
 if [ -s order.dsk ] && [ "$(stat -c %s order.dsk)" = 143360 ]; then
     check "in another order" ends 0 "$site" order.dsk order
-    check "that is said" grep -q 'in the form dos' order/index.html
+    check "that is said" grep -q 'has the format dos' order/index.html
     check "whole in another order" whole order
 fi
 

@@ -1828,8 +1828,8 @@ printf text | files put DATA data
 printf short | files put SHORT code
 cp "$image" "$scratch/before"
 with 'no words' 1 usage:
-with 'no such file' 2 'with-system.sh: there is no file NONE' "$image" NONE
-with 'no code' 2 'with-system.sh: DATA is of kind data' "$image" DATA
+with 'no such file' 2 "with-system.sh: $image has no file NONE" "$image" NONE
+with 'no code' 2 "with-system.sh: DATA on $image has kind data" "$image" DATA
 with 'no code file' 2 'refused code 1' "$image" SHORT
 PREFIX=TOOLONGNAME with 'a prefix that is none' 1 'with-system.sh: PREFIX' "$image" TABLE
 unchanged 'nothing changed'
@@ -1838,9 +1838,9 @@ files list | awk 'NR > 1 { print $1, $2, $3 }' >"$scratch/got"
 printf '%s\n' 'HANOI code 6' 'DATA data 10' 'SHORT code 11' 'TABLE code 12' 'files 4 free' | cmp -s - "$scratch/got"
 result 'the file keeps its name and kind, the others stay' $?
 cp "$image" "$scratch/before"
-with 'slot 0 is taken' 3 'with-system.sh: slot 0 of TABLE is taken' "$image" TABLE
+with 'slot 0 is taken' 3 'with-system.sh: slot 0 of TABLE is in use' "$image" TABLE
 unchanged 'nothing changed then'
-with 'no room' 4 'with-system.sh: HANOI stays as it is: refused filer 1 7' "$image" HANOI
+with 'no room' 4 'with-system.sh: HANOI is unchanged: refused filer 1 7' "$image" HANOI
 unchanged 'nothing changed without room'
 "$pmach" run --d4 "$image" TABLE 2>/dev/null | cmp -s - <(spell "$here/examples/system/programs/table.out")
 result 'and it runs' $?
@@ -1874,11 +1874,11 @@ printf '.SEG 1 A\n.PROC 1 0 0 0\nCXP 31, 2\n.EXIT\nRBP 0\nNOP\n.END\n' | "$pmach
 files put ODD code <"$scratch/odd"
 cp "$image" "$scratch/before"
 with 'units: no words' 1 usage:
-with 'units: no such file' 2 'with-units.sh: there is no file NONE' "$image" NONE
-with 'units: no code' 2 'with-units.sh: DATA is of kind data' "$image" DATA
+with 'units: no such file' 2 "with-units.sh: $image has no file NONE" "$image" NONE
+with 'units: no code' 2 "with-units.sh: DATA on $image has kind data" "$image" DATA
 with 'units: no code file' 2 'refused code 1' "$image" SHORT
-with 'units: none is called' 3 'with-units.sh: HANOI calls no unit that is here' "$image" HANOI
-with 'units: no slot is free' 3 'with-units.sh: no slot of FULL is free for segment 31' "$image" FULL
+with 'units: none is called' 3 'with-units.sh: HANOI calls no unit of examples/units' "$image" HANOI
+with 'units: no slot is free' 3 'with-units.sh: FULL has no free slot for segment 31' "$image" FULL
 with 'units: the text is not the file' 3 'with-units.sh: ODD' "$image" ODD
 unchanged 'units: nothing changed'
 
@@ -1946,8 +1946,8 @@ shows 'units: the system before or behind is the same' "$(tr '\n' '|' <"$here/ex
 # Units that are not there, and slots that a program calls without having them
 printf '%s\n' '.SEG 1 A' '.PROC 1 0 0 0' 'SLDC 0' 'FJP past' 'CXP 15, 1' 'CXP 63, 1' 'past: CXP 31, 1' 'CXP 20, 2' .EXIT \
     'RBP 0' NOP .END | assembled OTHERS
-with 'units: others are named and stay' 0 'with-units.sh: calls of segment 20 stay: TURTLEGRAPHICS' "$image" OTHERS
-[ "$(sed -n 2p "$scratch/err")" = 'with-units.sh: calls of segment 63 stay: a unit that is not known here' ]
+with 'units: others are named and stay' 0 'with-units.sh: calls of segment 20 are not changed: TURTLEGRAPHICS' "$image" OTHERS
+[ "$(sed -n 2p "$scratch/err")" = 'with-units.sh: calls of segment 63 are not changed: an unknown unit' ]
 result 'units: one that is not known' $?
 files get OTHERS | "$pmach" dis | grep 'SEG\|CXP' | sed 's/^ *//' | cmp -s - <(printf '%s\n' '.SEG 1 A' 'CXP 15, 1' 'CXP 63, 1' \
     'CXP 14, 1' 'CXP 20, 2' '.SEG 14 PASCALIO' 'CXP 0, 9' 'CXP 0, 14' 'CXP 0, 15')
@@ -1960,7 +1960,7 @@ shows 'units: reals are missing' '|*** SYSTEM PROCEDURE 14 IS MISSING: READ OF A
 files new SMALL 9
 printf '.SEG 1 A\n.PROC 1 0 0 0\nCXP 31, 1\n.EXIT\nRBP 0\nNOP\n.END\n' | assembled FITS
 cp "$image" "$scratch/before"
-with 'units: no room' 4 'with-units.sh: FITS stays as it is: refused filer 1 7' "$image" FITS
+with 'units: no room' 4 'with-units.sh: FITS is unchanged: refused filer 1 7' "$image" FITS
 unchanged 'units: nothing changed without room'
 
 # renumber.sh: a file whose segments stand in other slots, with its dictionary's rows
@@ -2003,11 +2003,11 @@ files put ABOVE code <"$scratch/moved"
 printf text | files put DATA data
 cp "$image" "$scratch/before"
 with 'renumber: no words' 1 usage:
-with 'renumber: no such file' 2 'renumber.sh: there is no file NONE' "$image" NONE
-with 'renumber: no code' 2 'renumber.sh: DATA is of kind data' "$image" DATA
+with 'renumber: no such file' 2 "renumber.sh: $image has no file NONE" "$image" NONE
+with 'renumber: no code' 2 "renumber.sh: DATA on $image has kind data" "$image" DATA
 with 'renumber: all stand there' 3 'renumber.sh: each segment of THERE' "$image" THERE
-with 'renumber: a number above 15' 3 'renumber.sh: slot 2 of ABOVE has number 16' "$image" ABOVE
-with 'renumber: a number twice' 3 'renumber.sh: two slots of TWICE have number' "$image" TWICE
+with 'renumber: a number above 15' 3 'renumber.sh: the segment in slot 2 of ABOVE has number 16' "$image" ABOVE
+with 'renumber: a number twice' 3 'renumber.sh: two segments of TWICE have number' "$image" TWICE
 unchanged 'renumber: nothing changed'
 shows 'renumber: slot 1 is not that of the program' '' 'refused boot 3' --d4 "$image" TOWERS
 with 'renumber: moved' 0 '' "$image" TOWERS

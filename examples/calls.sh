@@ -1,14 +1,15 @@
 #!/bin/sh
-# Who calls whom in a code file, read from standard input: examples/calls.sh <FILE
+# Lists which procedure calls which in the code file on standard input: examples/calls.sh <FILE
 #
-# A line for each pair, in the order of the text: segment and procedure of the caller, those of the procedure that is
-# called, and at how many places. Standard procedures are no calls. It ends with the status of `pmach dis`.
+# It prints a line for each pair, in the order of the code: segment and procedure of the caller, segment and procedure
+# that it calls, and the number of such calls in the code. Calls of standard procedures are not listed. The exit status
+# is that of `pmach dis`.
 . "$(dirname "$(readlink -f "$0")")/words.sh"
 [ $# = 0 ] || {
     echo "usage: calls.sh <FILE" >&2
     exit 1
 }
-[ ! -t 0 ] || echo "calls.sh: reads a code file; Ctrl-D ends it" >&2
+[ ! -t 0 ] || echo "calls.sh: reading a code file from the terminal; end with Ctrl-D" >&2
 pmach=${PMACH:-$(dirname "$(readlink -f "$0")")/../pmach}
 { "$pmach" dis; echo "status $?"; } | awk '
     function called(segment, procedure) {

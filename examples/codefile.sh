@@ -1,11 +1,11 @@
 # shellcheck shell=sh disable=SC2154
-# A code file of a volume, for with-system.sh, with-units.sh and renumber.sh, which read this text, name themselves in
-# $self and have the volume's path in $image and the file's name in $name. What stands in an image, its names too, is
-# never part of a command.
+# Functions on a code file of a volume. with-system.sh, with-units.sh and renumber.sh read this file. They set $self to
+# their name, $image to the path of the image and $name to the name of the file. Bytes of an image, including its names,
+# never become part of a shell command.
 
 here=$(dirname "$(readlink -f "$0")")
 pmach=${PMACH:-$here/../pmach}
-case $image in -*) image=./$image ;; esac # a path, and no option
+case $image in -*) image=./$image ;; esac # a path, not an option
 scratch=$(mktemp -d)
 trap 'rm -rf "$scratch"' EXIT
 trap 'exit 129' HUP
@@ -22,20 +22,20 @@ fail() {
     exit "$2"
 }
 
-# words FILE PLACE COUNT: words of a file, the low byte first
+# words FILE OFFSET COUNT: prints words of a file, stored with the low byte first
 words() {
     od -An -v -t u1 -j "$2" -N $((2 * $3)) "$1" | awk '
         { for (i = 1; i <= NF; i++) byte[n++] = $i }
         END { for (i = 0; i + 1 < n; i += 2) print byte[i] + 256 * byte[i + 1] }'
 }
 
-# byte FILE PLACE VALUE: writes a byte of a file in its place
+# byte FILE OFFSET VALUE: overwrites a byte of a file
 byte() {
     # shellcheck disable=SC2059 # an octal escape
     printf "\\$(printf %03o "$3")" | dd of="$1" bs=1 seek="$2" conv=notrunc 2>/dev/null
 }
 
-# slot FILE N: block and length of a slot of a code file, as $block and $length
+# slot FILE N: sets $block and $length to the first block and the length of slot N of a code file
 slot() {
     # shellcheck disable=SC2046 # two words
     set -- $(words "$1" $((4 * $2)) 2)
@@ -43,13 +43,13 @@ slot() {
     length=$2
 }
 
-# segment FILE N: the bytes of a slot's segment
+# segment FILE N: prints the bytes of the segment in slot N
 segment() {
     slot "$1" "$2"
     tail -c +$((512 * block + 1)) "$1" | head -c "$length"
 }
 
-# take: the code file as $scratch/old, in whole blocks
+# take: copies the code file to $scratch/old, padded to whole blocks
 take() {
     files list >"$scratch/list"
     kind=$(NAME=$name awk '
@@ -63,14 +63,14 @@ take() {
                 exit
             }
         }' "$scratch/list")
-    [ -n "$kind" ] || fail "there is no file $name in $image" 2
-    [ "$kind" = code ] || fail "$name is of kind $kind, not code" 2
+    [ -n "$kind" ] || fail "$image has no file $name; list its files with: pmach files --image $image list" 2
+    [ "$kind" = code ] || fail "$name on $image has kind $kind, not code" 2
     files get -- "$name" >"$scratch/bytes" </dev/null
-    "$pmach" dis <"$scratch/bytes" >"$scratch/text" || fail "$name is no code file" 2
+    "$pmach" dis <"$scratch/bytes" >"$scratch/text" || fail "$name on $image is not a valid code file" 2
     dd if="$scratch/bytes" of="$scratch/old" bs=512 conv=sync 2>/dev/null
 }
 
-# add FILE N FROM: puts the segment of slot N of the code file FROM behind the blocks of FILE, and into its slot N
+# add FILE N FROM: appends the segment in slot N of the code file FROM to FILE, and enters it into slot N of FILE
 add() {
     segment "$3" "$2" >"$scratch/segment"
     block=$(($(wc -c <"$1") / 512))
@@ -82,11 +82,11 @@ add() {
     dd if="$3" of="$1" bs=1 skip=$((64 + 8 * $2)) seek=$((64 + 8 * $2)) count=8 conv=notrunc 2>/dev/null
 }
 
-# put_back FILE SPARE: the file in the place of the one that was taken. It comes first, under a name of its own, so that
-# a volume without room for it keeps the old one
+# put_back FILE SPARE: replaces the code file by FILE. FILE is added first, under the name SPARE, so that a volume without
+# space for it keeps the old file
 put_back() {
     files put -- "$2" code <"$1" 2>"$scratch/why" ||
-        fail "$name stays as it is: $(sed q "$scratch/why") (7: no room; krunch may make some)" 4
+        fail "$name is unchanged: $(sed q "$scratch/why") (7: not enough free space; try: pmach files --image $image krunch)" 4
     files remove -- "$name"
     files change -- "$2" "$name"
 }

@@ -1,6 +1,7 @@
 #!/bin/sh
-# Makes a disk as somebody may have kept it, by the program alone: examples/disk.sh PATH
-# The volume KEPT of 40 blocks has two programs, HANOI and LOADS, and a text. PMACH names another program than ../pmach.
+# Creates a sample disk image with pmach: examples/disk.sh PATH
+# The volume KEPT of 40 blocks contains two programs, HANOI and LOADS, and a text. The variable PMACH can name another
+# program than ../pmach.
 . "$(dirname "$(readlink -f "$0")")/words.sh"
 set -e
 [ $# = 1 ] || {

@@ -1,22 +1,22 @@
 #!/bin/bash
-# Takes every file of a volume out into a new folder:
+# Copies all files of a volume to a new folder:
 #
 #     examples/export.sh [--text [--ends crlf|cr]] [--only PATTERN] IMAGE FOLDER
 #
-# Each file comes byte for byte, by its slot of the directory, so that two files of one name and names that cannot be
-# typed come too. With --text a text file comes as its text, where it can be read as one; puttext makes a text file of
-# that again, though not always of the same bytes. Its lines end with byte 10, with --ends crlf with 13 and 10, and with
-# --ends cr with 13.
+# Each file is copied byte for byte, by its slot in the directory. So two files with the same name and names that cannot
+# be typed are copied too. With --text, text files are written as plain text if they can be read as text. puttext makes a
+# text file of this text again, though not always with the same bytes. Lines end with byte 10; with --ends crlf they end
+# with bytes 13 and 10, and with --ends cr with byte 13.
 #
-# FOLDER/LIST begins with a line `volume NAME BLOCKS DATE`, and has a line for each file with tabs between: the file's
-# name in the folder, its name in the volume, its kind, its date, text or bytes, its slot. In both names each byte
-# outside 33 to 126 and % stand as % and two digits, and in a folder's name also / and a full stop in front. A second
-# file of one name has %%2 behind it there, a third %%3.
+# FOLDER/LIST begins with a line `volume NAME BLOCKS DATE`. A line for each file follows, with its fields separated by
+# tabs: name in the folder, name on the volume, kind, date, `text` or `bytes`, slot. In both names % and each byte outside
+# 33 to 126 are written as % and two hexadecimal digits; in the name in the folder / and a full stop at its start, too. A
+# second file with the same name has %%2 after its name in the folder, a third %%3.
 #
-# With --only it is the files whose name fits a pattern of the filer: = stands for any characters, and so does ?, which
-# asks for each file. Case does not count.
+# --only PATTERN copies only the files whose names match a pattern of the filer: = matches any characters; ? does too, and
+# asks for each file. Upper and lower case are the same.
 #
-# An image that is refused is told, and no folder made. Status 0: all files came out.
+# If the image is refused, the reason is printed and no folder is created. Status 0: all files were copied.
 . "$(dirname "$(readlink -f "$0")")/words.sh"
 here=$(dirname "$(readlink -f "$0")")
 pmach=$(readlink -f "${PMACH:-$here/../pmach}")
@@ -34,7 +34,7 @@ image=$1
 folder=$2
 "$pmach" files --image "$image" list </dev/null >/dev/null || exit
 if [ -e "$folder" ]; then
-    echo "export.sh: $folder is there already: name a new folder" >&2
+    echo "export.sh: $folder exists; name a folder that does not exist" >&2
     exit 1
 fi
 image=$(full "$image")
@@ -50,7 +50,7 @@ for ((slot = 1; slot <= count; slot++)); do
     fits || continue
     how=bytes
     if ! take_slot "$image"; then
-        echo "export.sh: slot $slot, $name: not all of it could be written" >&2
+        echo "export.sh: slot $slot, $name: the file could not be written completely" >&2
         status=1
     fi
     if [ "$as_text" ] && [ "$kind" = text ]; then
@@ -64,7 +64,7 @@ for ((slot = 1; slot <= count; slot++)); do
             rm -f -- "./$host%%text"
         else
             rm -f -- "./$host%%text"
-            echo "export.sh: slot $slot, $name: comes as bytes, since it cannot be had as a text" >&2
+            echo "export.sh: slot $slot, $name: copied as bytes, because it cannot be read, or not be written, as text" >&2
         fi
     fi
     names[${name^^}]=1

@@ -1,21 +1,26 @@
 #!/bin/bash
-# Says in which form an image holds a volume, and brings it into blocks in their order, or back:
+# Reports in which format an image contains a volume, and converts it to blocks in order, or back:
 #
-#     examples/form.sh IMAGE                   a line for each form in which the volume opens, with the list's last line
-#     examples/form.sh IMAGE NEW               the volume as NEW, where one form fits
-#     examples/form.sh --as FORM IMAGE NEW     the same in a form that is named, where more than one fits; where none
-#                                              does, as on a hurt disk, NEW has its blocks, for files check and salvage
-#     examples/form.sh --back IMAGE BLOCKS NEW the volume BLOCKS in the form of IMAGE as NEW, with its header and what
-#                                              stands behind its blocks; BLOCKS has as many bytes as the volume there
+#     examples/form.sh IMAGE                   prints a line for each format in which the volume opens: the format, the
+#                                              volume's name, and the last line of the list
+#     examples/form.sh IMAGE NEW               converts the volume to NEW, if exactly one format fits
+#     examples/form.sh --as FORM IMAGE NEW     the same with this format, if more than one fits; if none fits, as on a
+#                                              damaged disk, NEW gets the blocks, for files check and salvage
+#     examples/form.sh --back IMAGE BLOCKS NEW converts the volume BLOCKS to the format of IMAGE, as NEW, with the header
+#                                              of IMAGE and its bytes after the volume; BLOCKS has the length of the volume
 #
-# A form is an order: blocks, dos (the sectors of a 140 KB disk in DOS order), swapped (the two bytes of each word) or big
-# (the two bytes of each word of the directory and of the dictionaries of code files, as machines have it whose high byte
-# comes first; texts are as ever, and the code in a code file stays as it is), and has 2mg- in front where the image begins with a header of that kind, whose words say where the blocks begin and end, and
-# dc42- where it begins with one of DiskCopy 4.2, whose sum is looked at, and made anew by --back. Of 143,488 bytes the
-# last 128 are no part of the disk. What looks like something else is named.
-# Nothing is guessed: a form fits where the program opens the volume in it. Where none does, the one is named in which most
-# entries of a directory make sense, for salvage.sh. No file is written over.
-# Status 0: one form fits, or NEW is made; 1 wrong words, or NEW is there; 2 none fits; 3 more than one does.
+# FORM is the order of the bytes, with a prefix if the image has a header:
+#     blocks     blocks in order
+#     dos        the sectors of a 140 KB disk in DOS order
+#     swapped    the two bytes of each word exchanged
+#     big        the two bytes of each word exchanged in the directory and in the dictionaries of code files, as machines
+#                have them that store the high byte first; texts and the code in code files are not changed
+#     2mg-       prefix: the image has a .2mg header, which gives the position and the length of the blocks
+#     dc42-      prefix: the image has a header of DiskCopy 4.2; its checksum is checked, and recomputed by --back
+# In an image of 143,488 bytes the last 128 are not part of the disk. Some other formats are recognized and named.
+# Nothing is guessed: a format fits if pmach opens the volume in it. If none fits, the format with the most valid directory
+# entries is named, for salvage.sh. No existing file is overwritten.
+# Status 0: one format fits, or NEW was written; 1: invalid command line, or NEW exists; 2: no format fits; 3: several fit.
 . "$(dirname "$(readlink -f "$0")")/words.sh"
 here=$(dirname "$(readlink -f "$0")")
 pmach=${PMACH:-$here/../pmach}
@@ -27,43 +32,43 @@ stop() {
     exit "$1"
 }
 
-# long PLACE: four bytes of the image, the low one first
+# long OFFSET: prints a number of four bytes of the image, stored with the low byte first
 long() { od -An -tu4 -j"$1" -N4 --endian=little "$image" | tr -d ' '; }
 
-# high PLACE: four bytes of the image, the high one first
+# high OFFSET: prints a number of four bytes of the image, stored with the high byte first
 high() { od -An -tu4 -j"$1" -N4 --endian=big "$image" | tr -d ' '; }
 
-# The sum of DiskCopy over a file: each word added, the high byte first, and then the sum turned right by a bit.
+# The checksum of DiskCopy for a file: each word, high byte first, is added, and then the sum is rotated right by one bit.
 sum_of() {
     od -An -v -tu2 -w2 --endian=big -- "$1" |
         awk '{ s = (s + $1) % 4294967296; s = int(s / 2) + s % 2 * 2147483648 } END { printf "%d", s }'
 }
 
-# Whether the image begins with a header of DiskCopy 4.2: 84 bytes, 1 and 0 in the last two, the bytes of data at 64.
+# Whether the image begins with a header of DiskCopy 4.2: 84 bytes, the last two 1 and 0, the length of the data at 64.
 is_disk_copy() {
     [ "$size" -ge 84 ] && [ "$(od -An -tx1 -j82 -N2 "$image" | tr -d ' ')" = 0100 ] && [ "$(high 64)" -gt 0 ] &&
         [ $((84 + $(high 64) + $(high 68))) -le "$size" ]
 }
 
-# What the image looks like that is no volume in any form.
+# Names the format of an image that is no volume in any supported format, if it is recognized.
 foreign() {
     local first
     first=$(od -An -tx1 -N4 "$image" | tr -d ' ')
     case $first:$size in
-    1f8b*) echo ": it is compressed, for gunzip" ;;
-    574f5a*) echo ": it looks like .woz, the bits of a disk, which other tools turn into sectors" ;;
-    *:232960) echo ": it has the length of .nib, the nibbles of a disk, which other tools turn into sectors" ;;
+    1f8b*) echo ": it is compressed; decompress it with gunzip" ;;
+    574f5a*) echo ": it looks like .woz, the bits of a disk; convert it to sectors with another tool" ;;
+    *:232960) echo ": it has the length of .nib, the nibbles of a disk; convert it to sectors with another tool" ;;
     *)
         case $(od -An -tx1 -j1024 -N6 "$image" | tr -d ' '):$(od -An -tx1 -j69632 -N4 "$image" | tr -d ' ') in
-        4244*) echo ": it looks like a disk of the Macintosh (HFS)" ;;
-        0000????f?*) echo ": it looks like a disk of ProDOS" ;;
-        *:0411??03 | *:??11??03) echo ": it looks like a disk of DOS 3.3" ;;
+        4244*) echo ": it looks like a Macintosh disk (HFS)" ;;
+        0000????f?*) echo ": it looks like a ProDOS disk" ;;
+        *:0411??03 | *:??11??03) echo ": it looks like a DOS 3.3 disk" ;;
         esac
         ;;
     esac 2>/dev/null
 }
 
-# What takes the files out where no volume opens: the form in which most entries of a directory make sense.
+# The command that copies the files of a damaged volume: with the format that has the most valid directory entries.
 nearest() {
     local order count most=0 best=
     for order in blocks dos swapped big; do
@@ -72,17 +77,17 @@ nearest() {
             awk '$1 == "files" { print $2 }')
         [ "${count:-0}" -gt "$most" ] && most=$count best=$order
     done
-    [ ! "$best" ] || echo "; as $front$best $most files make sense: examples/salvage.sh --form $front$best IMAGE FOLDER"
+    [ ! "$best" ] || echo "; as $front$best it has $most valid files: examples/salvage.sh --form $front$best $image FOLDER"
 }
 
-# Where the blocks begin, and how many bytes they have: of the whole image, or as a header says.
+# Sets $begin and $size to the offset and the length of the blocks: the whole image, or as its header says.
 place() {
     begin=0 size=$(stat -c %s -- "$image") front=
     [ "$size" != 143488 ] || size=143360
     if is_disk_copy; then
         begin=84 size=$(high 64) front=dc42-
         tail -c +85 "$image" | head -c "$size" >"$scratch/data"
-        [ "$(sum_of "$scratch/data")" = "$(high 72)" ] || echo "form.sh: the sum in the header is another: bytes are damaged" >&2
+        [ "$(sum_of "$scratch/data")" = "$(high 72)" ] || echo "form.sh: $image: the checksum in the header does not match; some bytes are damaged" >&2
         return
     fi
     [ "$size" -ge 64 ] && [ "$(head -c 4 "$image" | tr -d '\0')" = 2IMG ] || return
@@ -93,8 +98,8 @@ place() {
     begin=$at size=$length front=2mg-
 }
 
-# turned PLACE COUNT PLACES: so many bytes of standard input, from a place on, with the two bytes of the words at these
-# places exchanged; the places are a list of awk's conditions on the place p in these bytes
+# turned OFFSET COUNT PLACES: prints COUNT bytes of standard input from OFFSET, and exchanges the two bytes of the words
+# selected by PLACES, a condition of awk on p, the offset in these bytes
 turned() {
     # shellcheck disable=SC2059 # bytes
     printf "$(tail -c +$(($1 + 1)) | head -c "$2" | od -An -v -tu1 -w2 | awk '{
@@ -104,19 +109,19 @@ turned() {
     }')"
 }
 
-# The words of a directory: of the header those at 0 to 4 and 14 to 20, of an entry those at 0 to 4, 22 and 24. The words
-# of a dictionary: where each segment begins and how long it is, its kind, its text, and its numbers.
+# The words of a directory: those at 0 to 4 and 14 to 20 of the header, and at 0 to 4, 22 and 24 of an entry. The words of
+# a dictionary: the first block and the length of each segment, its kind, its text block and its numbers.
 directory_words='p < 2028 && (p % 26 < 6 || (p < 26 ? p >= 14 && p < 22 : p % 26 >= 22))'
 dictionary_words='p < 64 || p >= 192 && p < 288'
 
-# turn_part FILE PLACE COUNT PLACES: turns it in its file
+# turn_part FILE OFFSET COUNT PLACES: exchanges these bytes in the file
 turn_part() {
     turned "$2" "$3" "$4" <"$1" >"$scratch/turned" &&
         dd if="$scratch/turned" of="$1" bs=512 seek=$(($2 / 512)) conv=notrunc 2>/dev/null
 }
 
-# turn_words FROM TO: turns the words of the directories and dictionaries. One of FROM and TO has the low byte first, and
-# tells where the files are.
+# turn_words FROM TO: exchanges the bytes of the words of directories and dictionaries. One of FROM and TO has the low byte
+# first; its directory is read to find the files.
 turn_words() {
     local slot kind block low
     [ "$(stat -c %s -- "$1")" -ge 3072 ] && cp -- "$1" "$2" && turn_part "$2" 1024 2048 "$directory_words" || return
@@ -131,7 +136,7 @@ turn_words() {
     done
 }
 
-# in_order ORDER FROM TO: from this order into blocks, or back
+# in_order ORDER FROM TO: converts from this order to blocks, or back
 in_order() {
     case $1 in
     blocks) cat -- "$2" >"$3" ;;
@@ -141,7 +146,7 @@ in_order() {
     esac
 }
 
-# The forms that fit, each with its volume in the scratch folder.
+# Sets $forms to the formats that fit, and writes the volume in each of them to the scratch folder.
 look() {
     forms=()
     tail -c +$((begin + 1)) "$image" | head -c "$size" >"$scratch/part"
@@ -177,15 +182,15 @@ if ! [ "$is_right" ]; then
     stop 1 "usage: form.sh [--as FORM] IMAGE [NEW], or form.sh --back IMAGE BLOCKS NEW"
 fi
 new=${*: -1}
-[ $# = 1 ] || [ ! -e "$new" ] || stop 1 "$new is there already"
+[ $# = 1 ] || [ ! -e "$new" ] || stop 1 "$new exists; name a file that does not exist"
 place
 look
 if [ "$as" ]; then
     order=${as#"$front"}
     if ! [[ " ${forms[*]/#/$front} " = *" $as "* ]]; then
         [ ${#forms[@]}$back = 0 ] && [ $# = 2 ] && [ "$front$order" = "$as" ] && [ -s "$scratch/$order" ] ||
-            stop 2 "$image is no volume as $as"
-        echo "form.sh: no volume opens as $as; its blocks go to $new, for files check and salvage" >&2
+            stop 2 "$image contains no volume in the format $as"
+        echo "form.sh: $image opens as no volume in the format $as; its blocks are written to $new, for files check and salvage" >&2
     fi
     forms=("$order")
 elif [ $# = 1 ] || [ ${#forms[@]} != 1 ]; then
@@ -193,11 +198,11 @@ elif [ $# = 1 ] || [ ${#forms[@]} != 1 ]; then
         echo "$front$order $(head -n 1 "$scratch/$order.list") $(tail -n 1 "$scratch/$order.list")"
     done
 fi
-[ ${#forms[@]} != 0 ] || stop 2 "$image is no volume in any of these forms$(foreign)$(nearest)"
-[ ${#forms[@]} = 1 ] || stop 3 "more than one form fits: --as says which"
+[ ${#forms[@]} != 0 ] || stop 2 "$image is no volume in any supported format$(foreign)$(nearest)"
+[ ${#forms[@]} = 1 ] || stop 3 "$image: more than one format fits; choose one with --as"
 [ $# != 1 ] || exit 0
 if [ "$back" ]; then
-    [ "$(stat -c %s -- "$2")" = "$size" ] || stop 1 "$2 has not the $size bytes of the volume in $image"
+    [ "$(stat -c %s -- "$2")" = "$size" ] || stop 1 "$2 has $(stat -c %s -- "$2") bytes, but the volume in $image has $size; they must have the same length"
     in_order "${forms[0]}" "$2" "$scratch/changed" && [ "$(stat -c %s -- "$scratch/changed")" = "$size" ] ||
         stop 1 "$2 could not be converted: no space left in ${TMPDIR:-/tmp}?"
     set -o noclobber

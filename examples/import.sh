@@ -1,17 +1,17 @@
 #!/bin/bash
-# Puts a folder that export.sh made into a volume: examples/import.sh [--ends crlf|cr] FOLDER IMAGE
+# Adds the files of a folder that export.sh made to a volume: examples/import.sh [--ends crlf|cr] FOLDER IMAGE
 #
-# The image has to be there (pmach files --image IMAGE new NAME BLOCKS). Files without a date come before all others,
-# since a file gets the volume's last date, and else in the order of FOLDER/LIST. The volume's last date is then the one
-# that LIST says, if it says one.
+# IMAGE must exist (create it with: pmach files --image IMAGE new NAME BLOCKS). Files are added in the order of
+# FOLDER/LIST, except that files without a date come first, because a new file gets the volume's last date. At the end the
+# volume's last date is set to the date in LIST, if it has one.
 #
-# A file that is refused is named with the refusal, and the others go on. One that stands there with the same bytes
-# already is not put again, so the same command may be given twice. Status 0: all files are in the volume.
+# If a file is refused, its name and the reason are printed, and the other files are still added. A file that the volume
+# already contains with the same bytes is skipped, so the command can be repeated. Status 0: all files are on the volume.
 #
-# With --ends the lines of the texts end with bytes 13 and 10, or with 13, as in files of other systems.
+# With --ends the lines of the texts in FOLDER end with bytes 13 and 10 (crlf), or with byte 13 (cr).
 #
-# FOLDER may be another's: only regular files in it are read, no links and nothing outside it, a date is three numbers,
-# and what LIST says is shown without its control characters.
+# FOLDER may come from somebody else: only regular files in it are read, no links and nothing outside it; a date is three
+# numbers; text from LIST is printed without its control characters.
 . "$(dirname "$(readlink -f "$0")")/words.sh"
 ends=lf
 [ "$1" = --ends ] && ends=$2 && shift 2
@@ -32,16 +32,16 @@ copied=$scratch/file
 cd -P -- "$folder" 2>/dev/null && copy_list() {
     [ -f LIST ] && [ ! -L LIST ] && dd if=LIST iflag=nofollow,nonblock of="$scratch/LIST" 2>/dev/null
 } && copy_list || {
-    echo "import.sh: $folder has no LIST, as export.sh makes it" >&2
+    echo "import.sh: $folder has no readable file LIST; name a folder that export.sh has made" >&2
     exit 1
 }
 "$pmach" files --image "$image" list </dev/null >/dev/null || exit
 status=0
 
-# tell WORDS
+# tell TEXT..: prints a message
 tell() { printf 'import.sh: %s\n' "${*//[![:print:][:space:]]/?}" >&2; }
 
-# set_date DATE: the volume's last date, from the form in LIST; false where it is none
+# set_date DATE: sets the volume's last date to a date as in LIST; false if it is not a date
 set_date() {
     local year month day
     [[ $1 =~ ^[0-9]{1,3}-[0-9]{1,2}-[0-9]{1,2}$ ]] || return
@@ -49,19 +49,19 @@ set_date() {
     "$pmach" files --image "$image" date $((10#$year)) $((10#$month)) $((10#$day)) </dev/null
 }
 
-# why REFUSAL: the words of a refusal of a put, if they are known here
+# why REFUSAL: explains the refusal of a file
 why() {
     case $1 in
-        "refused filer 1 7") echo ', no free gap is large enough: pmach files --image IMAGE krunch' ;;
-        "refused filer 1 8") echo ', the directory is full: it has 77 files' ;;
-        "refused filer 1 9") echo ', another file of that name is there' ;;
-        "refused filer 1 10") echo ', no new name: 1 to 15 characters, none of them a blank or a colon' ;;
+        "refused filer 1 7") echo ", no free area is large enough; try: pmach files --image $image krunch" ;;
+        "refused filer 1 8") echo ', the directory is full (77 files)' ;;
+        "refused filer 1 9") echo ', the volume has another file with this name' ;;
+        "refused filer 1 10") echo ', invalid name: a file name has 1 to 15 characters, no spaces and no colon' ;;
         "refused filer 2 3 "*) echo ", line ${1##* } of the text is too long" ;;
-        "refused filer 2 4 "*) echo ", byte ${1##* } of the text, from 0, cannot stand in one" ;;
+        "refused filer 2 4 "*) echo ", the byte at offset ${1##* } of the text is not allowed in a text file" ;;
     esac
 }
 
-# text_of FILE: a text, whose lines end with byte 10
+# text_of FILE: prints a text with lines that end with byte 10
 text_of() {
     case $ends in
         lf) cat -- "$1" ;;
@@ -70,7 +70,7 @@ text_of() {
     esac
 }
 
-# is_there HOW NAME FILE: whether the volume has this file with these bytes
+# is_there HOW NAME FILE: whether the volume has a file of this name with the bytes of FILE
 is_there() {
     local verb=get
     [ "$1" = text ] && verb=gettext
@@ -94,14 +94,14 @@ put_one() {
         return
     }
     copy_file "$1" || {
-        tell "$2 is left out: $1 is no file in $folder, or it could not be copied"
+        tell "$2 is left out: $folder has no regular file $1, or it could not be copied"
         status=1
         return
     }
     name=${2//\\/\\\\}
     printf -v name '%b' "${name//%/\\x}"
     if [ "$4" != 000-00-00 ] && ! said=$(set_date "$4" 2>&1); then
-        tell "$2 keeps the date before it: $4 is none"
+        tell "$2 gets the date of the file before it, because $4 is not a valid date"
         status=1
     fi
     if [ "$5" = text ]; then
@@ -116,7 +116,7 @@ put_one() {
     status=1
 }
 
-# put_all dated|undated: the files that have a date, or those that have none
+# put_all dated|undated: adds the files that have a date, or those that have none
 put_all() {
     local host name kind date how
     while IFS=$'\t' read -r host name kind date how _; do

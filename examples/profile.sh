@@ -1,9 +1,10 @@
 #!/bin/sh
-# Where a program spends its steps: examples/profile.sh WORDS.., the words of `pmach trace` behind that one.
+# Counts the steps of a program by procedure: examples/profile.sh --d4 IMAGE .. NAME, with the arguments of `pmach trace`
 #
-# A line for each procedure, the one with the most steps first: segment, procedure, how often it was entered, how many
-# steps stood in it (a dash where a step stands nowhere); then one for each instruction, how often it was made; then the
-# last line of the trace, whose status it ends with. Standard input is the program's console, as of `trace`.
+# It prints a line for each procedure, the one with the most steps first: segment, procedure, how often it was entered, how
+# many steps were executed in it (dashes: steps outside any procedure). Then it prints a line for each instruction with
+# the number of its executions, and then the last line of the trace. The exit status is that of `trace`. Standard input
+# is the console of the program, as for `trace`.
 . "$(dirname "$(readlink -f "$0")")/words.sh"
 [ $# != 0 ] || {
     echo "usage: profile.sh --d4 IMAGE .. NAME" >&2

@@ -1,14 +1,14 @@
 #!/bin/bash
-# Assembles the programs of this folder and puts them into a new volume: examples/programs.sh PATH
+# Assembles the programs of this folder and adds them to a new volume: examples/programs.sh PATH
 #   OK      writes OK to the console
-#   ECHO    reads the console, which shows what is typed, until a full stop
-#   LOADS   calls two segments, one loaded where the other stood
-#   CASES   writes a word for each of three numbers, by a table jump
-#   NESTED  has a procedure in a procedure, which changes a variable of the outer one
-#   KEEPS   calls a segment three times and keeps it meanwhile, so that it is loaded once
-#   PRIMES  writes the primes below 100, by a sieve
-#   HANOI   moves a tower of disks, by a procedure that calls itself and one inside it
-# PMACH names another program than ../pmach.
+#   ECHO    reads keys, which the console echoes, until a full stop
+#   LOADS   calls two segments, which are loaded at the same address one after the other
+#   CASES   writes a word for each of three numbers, with a table jump
+#   NESTED  has a procedure inside a procedure, which changes a variable of the outer one
+#   KEEPS   calls a segment three times and keeps it in memory, so that it is loaded once
+#   PRIMES  writes the primes below 100, found with a sieve
+#   HANOI   moves a tower of disks with a procedure that calls itself and one inside it
+# The variable PMACH can name another program than ../pmach.
 . "$(dirname "$(readlink -f "$0")")/words.sh"
 set -e
 [ $# = 1 ] || {

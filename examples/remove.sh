@@ -1,9 +1,9 @@
 #!/bin/bash
-# Removes the files of a volume whose name fits a pattern of the filer: examples/remove.sh IMAGE PATTERN
+# Removes the files of a volume whose names match a pattern of the filer: examples/remove.sh IMAGE PATTERN
 #
-# = stands for any characters, and so does ?, which asks for each file. Case does not count. Each file that is removed
-# is told; one whose name cannot be typed, or is another's too, is told and left. Status 0: all that fit are removed, and
-# there was one.
+# = matches any characters; ? does too, and asks for each file. Upper and lower case are the same. The name of each
+# removed file is printed. A file is reported and not removed if its name cannot be typed or another file has the same
+# name. Status 0: at least one file matched, and all matching files were removed.
 . "$(dirname "$(readlink -f "$0")")/words.sh"
 [ $# = 2 ] || {
     echo "usage: remove.sh IMAGE PATTERN" >&2
@@ -25,17 +25,17 @@ for ((slot = 1; slot <= $(word 16); slot++)); do
     fits && removed+=("$name")
 done
 [ ${#removed[@]} != 0 ] || {
-    echo "remove.sh: no file was chosen" >&2
+    echo "remove.sh: no file of $image was chosen by $2" >&2
     exit 1
 }
 for name in "${removed[@]}"; do
     if [[ $name = *%* ]] || [ "${count[=${name^^}]}" != 1 ]; then
-        echo "remove.sh: $name is left: its name cannot be typed, or is another's too" >&2
+        echo "remove.sh: $name is not removed: its name cannot be typed, or another file has it too" >&2
         status=1
     elif "$pmach" files --image "$image" remove -- "$name" </dev/null; then
         echo "$name"
     else
-        echo "remove.sh: $name is left" >&2
+        echo "remove.sh: $name is not removed" >&2
         status=1
     fi
 done

@@ -1,11 +1,11 @@
 #!/bin/sh
-# Moves each segment of a code file of a volume to the slot of its number: examples/renumber.sh IMAGE NAME
-# A call names a slot, and the machine starts with that of slot 1. In some files a segment may stand in another slot
-# than that of its number, which is the low byte of its last word. The dictionary's rows of 16 slots change places,
-# those that the machine does not read too; no segment is moved. The file keeps its name and kind, and gets the volume's
-# last date. Status 2: no such file, or no code file; 3: each segment stands where it has to, or two have one number, or
-# one has a number above 15, and the file stays as it is; 4: no room, and it stays as it is. PMACH names another program
-# than ../pmach.
+# Moves each segment of a code file on a volume to the slot with its number: examples/renumber.sh IMAGE NAME
+# A call names a slot, and the machine starts with the segment in slot 1. In some files a segment is in another slot than
+# that of its number, which is the low byte of its last word. The script exchanges the entries of the dictionary, also
+# those that the machine does not read; it moves no segment. The file keeps its name and kind, and gets the volume's last
+# date. Status 2: no such file, or not a code file. Status 3: every segment is in its slot already, two segments have the
+# same number, or a number is above 15. Status 4: not enough free space. With each of these the file is unchanged. The
+# variable PMACH can name another program than ../pmach.
 . "$(dirname "$(readlink -f "$0")")/words.sh"
 set -e
 [ $# = 2 ] || {
@@ -24,16 +24,16 @@ for n in 0 1 2 3 4 5 6 7 8 9 10 11 12 13 14 15; do
     slot "$scratch/old" "$n"
     [ "$length" != 0 ] || continue
     number=$(od -An -t u1 -j $((512 * block + length - 2)) -N 1 "$scratch/old" | tr -d ' ')
-    [ "$number" -le 15 ] || fail "slot $n of $name has number $number, for which there is no slot; it stays as it is" 3
-    case $all in *" $number "*) fail "two slots of $name have number $number; it stays as it is" 3 ;; esac
+    [ "$number" -le 15 ] || fail "the segment in slot $n of $name has number $number, which is above 15; the file is unchanged" 3
+    case $all in *" $number "*) fail "two segments of $name have number $number; the file is unchanged" 3 ;; esac
     all="$all$number "
     to="$to $n=$number"
     [ "$n" = "$number" ] || moved=yes
 done
-[ -n "$moved" ] || fail "each segment of $name stands in the slot of its number; it stays as it is" 3
+[ -n "$moved" ] || fail "each segment of $name is in the slot of its number already; the file is unchanged" 3
 
-# The bytes of the dictionary as octal escapes: rows of 4, 8, 2, 2 and 2 bytes for each slot; an empty one has spaces as
-# its name.
+# The bytes of the new dictionary as octal escapes. It has five tables, with 4, 8, 2, 2 and 2 bytes for each slot. The name
+# of an empty slot is spaces.
 escapes=$(od -An -v -t u1 -N 512 "$scratch/old" | awk -v to="$to" '
     { for (i = 1; i <= NF; i++) old[n++] = $i }
     END {

@@ -1,14 +1,15 @@
 #!/bin/bash
-# Takes the files out of an image whose directory is damaged: examples/salvage.sh [--second] [--form FORM] IMAGE FOLDER
+# Copies the files of an image whose directory is damaged: examples/salvage.sh [--second] [--form FORM] IMAGE FOLDER
 #
-# With --form the image is brought into blocks first, as form.sh has it: dos, swapped, 2mg-blocks and so on.
-# Nothing of the header is believed, and no entry because of another: one is taken where its name has 1 to 15
-# characters, its blocks lie behind block 5 and in the image, and its last block has 1 to 512 bytes. With --second it is
-# the copy of the directory in blocks 6 to 9. The image is not written. FOLDER is one as export.sh makes it, for
-# import.sh: LIST has a seventh word where a file is doubted, ?N: it shares blocks with slot N, which stands before it,
-# or ?count: it stands behind the files that the header counts.
+# With --form the image is first converted to blocks by form.sh; FORM is dos, swapped, 2mg-blocks or another of its formats.
+# The header is not used, and each entry is judged by itself. A file is copied if its name has 1 to 15 characters, its
+# blocks are after block 5 and within the image, and its last block has 1 to 512 bytes. With --second the copy of the
+# directory in blocks 6 to 9 is used. The image is not changed. FOLDER has the form that export.sh makes and import.sh
+# reads. For a doubtful file LIST has a seventh field: ?N if the file shares blocks with an earlier slot N, or ?count if
+# the header counts fewer files.
 #
-# A line for each entry that is left out or doubted. Status 0: there was none; 1: wrong words; 3: there was one.
+# A line is printed for each file that is left out or doubtful. Status 0: there was none; 3: there was one; 1: invalid
+# command line.
 . "$(dirname "$(readlink -f "$0")")/words.sh"
 start=1024
 form=
@@ -29,7 +30,7 @@ here=$(dirname "$(readlink -f "$0")")
 image=$1
 folder=$2
 if [ -e "$folder" ]; then
-    echo "salvage.sh: $folder is there already: name a new folder" >&2
+    echo "salvage.sh: $folder exists; name a folder that does not exist" >&2
     exit 1
 fi
 if [ "$form" ]; then
@@ -45,7 +46,7 @@ status=0
 taken=0
 read_directory "$image" $start
 
-# tell WORDS: of the slot that was read
+# tell TEXT..: prints a message about the slot that was read
 tell() {
     echo "salvage.sh: slot $slot, '$name', blocks $first to $end of $blocks: $*" >&2
     status=3
@@ -58,7 +59,7 @@ for ((slot = 1; slot <= 77 && 26 * slot + 26 <= ${#directory[@]}; slot++)); do
     read_slot $slot
     [ "$first$end$length" = 000 ] && continue
     if ((length < 1 || length > 15 || first < 6 || end < first || end > blocks || end > first && (last < 1 || last > 512))); then
-        tell "left out, $length characters, $last bytes in the last block"
+        tell "left out: its name has $length characters, its last block $last bytes"
         continue
     fi
     doubt=
@@ -67,10 +68,10 @@ for ((slot = 1; slot <= 77 && 26 * slot + 26 <= ${#directory[@]}; slot++)); do
         doubt=${owner[$block]:-$doubt}
         owner[$block]=${owner[$block]:-$slot}
     done
-    take_slot "$image" || tell "not all of it could be written"
-    [ -z "$doubt" ] || tell "doubted, $([ "$doubt" = count ] && echo behind the count || echo "shares blocks with slot $doubt")"
+    take_slot "$image" || tell "the file could not be written completely"
+    [ -z "$doubt" ] || tell "doubtful: $([ "$doubt" = count ] && echo the header counts fewer files || echo "it shares blocks with slot $doubt")"
     printf '%s\t%s\t%s\t%s\tbytes\t%d%s\n' "$host" "$name" "$kind" "$date" "$slot" "${doubt:+	?$doubt}" >>LIST || tell "its line of LIST could not be written"
     taken=$((taken + 1))
 done
-echo "salvage.sh: $taken files in $folder" >&2
+echo "salvage.sh: copied $taken files to $folder" >&2
 exit $status

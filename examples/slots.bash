@@ -1,20 +1,20 @@
-# Slots of a directory, for export.sh and salvage.sh, which read it themselves.
+# Functions on the slots of a directory, for scripts that read the directory from the image themselves.
 
 kinds=(none badb code text info data graf foto secd 9 10 11 12 13 14 15)
 declare -A hosts
 
-# read_directory IMAGE PLACE: the directory that stands there, byte for byte
+# read_directory IMAGE OFFSET: sets $directory to the bytes of the directory at this offset
 read_directory() {
     read -r -d '' -a directory < <(od -An -v -tu1 -j"$2" -N2048 -- "$1" | tr -s ' \n' ' ')
 }
 
-# word PLACE: two bytes of the directory, the low one first
+# word OFFSET: prints a word of the directory, stored with the low byte first
 word() { echo $((directory[$1] + 256 * directory[$1 + 1])); }
 
 # date_of WORD
 date_of() { printf '%03d-%02d-%02d' $(($1 / 512)) $(($1 % 16)) $(($1 / 16 % 32)); }
 
-# spelled MORE BYTE..: the bytes as they stand in LIST; those of MORE too stand as digits
+# spelled MORE BYTE..: prints the bytes as LIST has them; the bytes in MORE are written as digits, too
 spelled() {
     local more=$1 byte text=
     shift
@@ -31,7 +31,7 @@ spelled() {
     printf '%s' "$text"
 }
 
-# read_slot N: the entry of a slot, as first, end, last, kind, date, name, and host for its name in a folder
+# read_slot N: reads the entry of a slot into first, end, last, kind, date, name, and host, its name in a folder
 read_slot() {
     local at=$((26 * $1)) letters plain n
     first=$(word $at) end=$(word $((at + 2))) last=$(word $((at + 22))) length=${directory[$((at + 6))]}
@@ -65,7 +65,7 @@ take_slot() {
     [ "$(stat -c %s -- "./$host")" = "$size" ]
 }
 
-# read_pattern PATTERN: one of the filer, in which = and ? stand for any characters, ? asking for each file that fits
+# read_pattern PATTERN: reads a pattern of the filer; = and ? match any characters, and ? asks for each matching file
 read_pattern() {
     local letter n
     pattern= asks=
@@ -79,7 +79,7 @@ read_pattern() {
     done
 }
 
-# fits: whether the name of the entry that was read fits the pattern, in either case, and is wanted where it asks
+# fits: whether the name of the entry that was read matches the pattern, in upper or lower case, and the user agrees if asked
 fits() {
     local answer
     # shellcheck disable=SC2254 # a pattern
@@ -92,7 +92,7 @@ fits() {
     [[ $answer = [yY]* ]]
 }
 
-# end_lines ENDS: standard input, whose lines end with byte 10, with these ends: lf, crlf or cr
+# end_lines ENDS: copies standard input, whose lines end with byte 10, with other line ends: lf, crlf or cr
 end_lines() {
     case $1 in
         lf) cat ;;

@@ -1,7 +1,7 @@
 #!/bin/sh
-# Makes a small volume, by the program alone: examples/volume.sh PATH
-# The image is 40 blocks: two text files, a file of data, and free blocks between them. PMACH names another program than
-# ../pmach.
+# Creates a small volume with pmach: examples/volume.sh PATH
+# The image of 40 blocks contains two text files and a data file, with free blocks between them. The variable PMACH can
+# name another program than ../pmach.
 . "$(dirname "$(readlink -f "$0")")/words.sh"
 set -e
 [ $# = 1 ] || {

@@ -1,10 +1,10 @@
 #!/bin/sh
-# Gives a code file of a volume the system segment: examples/with-system.sh IMAGE NAME
-# system/system.text is assembled and put behind the file's segments, and slot 0 of its dictionary says so. The file
-# keeps its name and kind, and gets the volume's last date. Nothing else in the volume changes but where it stands.
-# Status 2: no such file, or no code file; 3: its slot 0 is taken, and it stays as it is; 4: the volume has no room, and
-# stays as it is. PREFIX names the volume of titles that name none (* is that of unit 4, which holds without PREFIX);
-# PMACH another program than ../pmach.
+# Adds the system segment to a code file on a volume: examples/with-system.sh IMAGE NAME
+# system/system.text is assembled, appended to the segments of the file and entered into slot 0 of its dictionary. The file
+# keeps its name and kind, and gets the volume's last date and another position. Nothing else on the volume changes.
+# Status 2: no such file, or not a code file. Status 3: slot 0 of the file is in use. Status 4: not enough free space. With
+# each of these the volume is unchanged. The variable PREFIX names the volume for titles without a volume (default: *, the
+# volume on unit 4). The variable PMACH can name another program than ../pmach.
 . "$(dirname "$(readlink -f "$0")")/words.sh"
 set -e
 [ $# = 2 ] || {
@@ -19,12 +19,12 @@ image=$1 name=$2 self=with-system.sh
 . "$(dirname "$(readlink -f "$0")")/codefile.sh"
 
 case $prefix in
-    '' | ????????* | *[!A-Za-z0-9.#*-]*) fail "PREFIX is no name of a volume" 1 ;;
+    '' | ????????* | *[!A-Za-z0-9.#*-]*) fail "PREFIX is not a volume name: it needs 1 to 7 characters, letters, digits, . # * or -" 1 ;;
 esac
 prefix=$(printf %s "$prefix" | tr '[:lower:]' '[:upper:]')
 take
 slot "$scratch/old" 0
-[ "$length" = 0 ] || fail "slot 0 of $name is taken, by a segment of $length bytes; it stays as it is" 3
+[ "$length" = 0 ] || fail "slot 0 of $name is in use, by a segment of $length bytes; the file is unchanged" 3
 awk -v prefix="$prefix" '
     /; the prefix$/ {
         print "        LSA  \"" prefix "\""
@@ -34,5 +34,5 @@ awk -v prefix="$prefix" '
     { print }' "$here/system/system.text" | "$pmach" asm >"$scratch/system"
 cp "$scratch/old" "$scratch/new"
 add "$scratch/new" 0 "$scratch/system"
-"$pmach" dis <"$scratch/new" | sed -n 1p | grep -q '^\.SEG 0 ' || fail "the new file is none; $name stays" 4
+"$pmach" dis <"$scratch/new" | sed -n 1p | grep -q '^\.SEG 0 ' || fail "the new code file is not valid; $name is unchanged" 4
 put_back "$scratch/new" WITH.SYSTEM.NEW

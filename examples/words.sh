@@ -1,5 +1,5 @@
 # shellcheck shell=sh
-# What -h and --help say in the scripts of this folder, which read this text, the lines at the head of each; and how far one is.
+# For the scripts of this folder: -h and --help print the comment at the head of the script; far shows its progress.
 case ${1-} in
 -h | --help)
     awk 'NR > 1 && !/^#/ { exit } NR > 1 { sub(/^# ?/, ""); print }' "$0"
@@ -7,8 +7,8 @@ case ${1-} in
     ;;
 esac
 
-# far K N, of a script of bash: that K things of N are done, on a terminal, once it has run for two seconds. It stands below
-# the cursor, and is gone at the end.
+# far K N, for bash: shows on a terminal that K of N items are done, once the script has run for two seconds. The line is
+# below the cursor, and is erased at the end.
 far() {
     [ -t 2 ] && [ "${SECONDS:-0}" -ge 2 ] || return 0
     trap 'printf "\033[J" >&2; [ -z "${scratch:-}" ] || rm -rf "$scratch"' EXIT

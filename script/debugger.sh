@@ -1,12 +1,13 @@
 #!/bin/sh
-# `debugger.sh PROGRAM debug WORDS..`: the debugger on a terminal, where Ctrl-C ends a run and not the session, and long
-# answers have many lines. The program knows no signals, and the lines that it reads tell all that it does. It stands
-# behind two pipes, and a run of more steps than these is begun with so many, and goes on with so many, as `on` goes on.
-# With `--replay FOLDER STATUS` in front it begins where a run ended so, of which FOLDER has the bytes that were typed, and
-# ends with that status.
+# `debugger.sh PROGRAM debug ARG..`: the debugger on a terminal. Ctrl-C ends a run and not the session, and long answers are
+# printed on several lines. The program handles no signals; only the lines that it reads control it. So this script
+# connects it by two pipes, and splits a long run into slices of this many steps, the later ones by the command `on`.
+# With `--replay FOLDER STATUS` before PROGRAM it starts where a run ended with this status: FOLDER contains the bytes that
+# were typed. The script then ends with this status.
 slice=1000000
 
-# Where the shell has rlwrap, lines are edited, and those before come back. It refuses a terminal that tells no width.
+# With rlwrap, if it is installed, lines can be edited and earlier lines recalled. rlwrap requires a terminal that reports
+# its width.
 case ${TERM:-dumb},$(stty size 2>/dev/null),$1 in
     dumb,* | *' 0',* | *,--edited) ;;
     *) ! command -v rlwrap >/dev/null 2>&1 || exec rlwrap -C pmach "$0" --edited "$@" ;;
@@ -15,7 +16,7 @@ esac
 replayed='' ended=0
 [ "$1" != --replay ] || { replayed=$2 ended=$3 && shift 3; }
 
-# Reads a line of the program's into `answer`, in parts where Ctrl-C comes between. Fails where the program has ended.
+# Reads a line from the program into `answer`, in parts if Ctrl-C interrupts. Fails if the program has ended.
 hear() {
     answer=''
     while :; do
@@ -28,7 +29,7 @@ hear() {
     done
 }
 
-# Passes a line on, and reads its answer. What was written to the console stands in front of that, and is shown at once.
+# Sends a line to the program and reads its answer. Console output, which comes before the answer, is printed immediately.
 ask() {
     printf '%s\n' "$1" 2>/dev/null >&3
     while hear; do
@@ -40,18 +41,18 @@ ask() {
     return 1
 }
 
-# Prompts, goes to a new line, or tells, where the program itself would prompt.
+# Prints a prompt, a new line or a message, if the program itself would prompt.
 say() {
     [ "$quiet" = yes ] || [ ! -t 2 ] || printf '%b' "$1" >&2
 }
 
-# Ctrl-C, which is seen between two slices.
+# Ctrl-C; it takes effect between two slices.
 interrupt() {
     interrupts=$((interrupts + 1))
     say '\n'
 }
 
-# Reads a line that is typed, anew after Ctrl-C. Fails where the input has ended, unless it ends within a line.
+# Reads a line from the terminal, again after Ctrl-C. Fails at the end of the input, unless it ends within a line.
 read_line() {
     while :; do
         interrupts=0
@@ -63,8 +64,8 @@ read_line() {
     [ -n "$line" ]
 }
 
-# Whether words are a run of more than a slice, with its steps without leading zeros, and the words in front of them. All
-# else is passed on whole.
+# Whether a command is a run of more than one slice. Sets `steps`, without leading zeros, and `begun`, the words before
+# them. Any other command is passed to the program unchanged.
 is_long() {
     begun=${1-}
     case $#,$begun in
@@ -80,7 +81,7 @@ is_long() {
     [ "${#steps}" -le 10 ] && [ "${steps:-0}" -gt "$slice" ] && [ "$steps" -le 4294967295 ]
 }
 
-# Makes a run in slices, as long as each ends by its limit. The last answer is that of the whole.
+# Executes a run in slices, as long as each slice ends at its limit. The last answer is that of the whole run.
 run() {
     next=$slice
     ask "$begun $next" || return
@@ -94,8 +95,8 @@ run() {
     done
 }
 
-# Makes the steps of a run again, and where it waits gives it the next of the bytes in words, up to where it ends, where it
-# waits and no byte is left, or to Ctrl-C. `answer` is its last line then.
+# Repeats a run. When it waits, it gets the next of the bytes, the arguments. The repetition stops when the run ends, when
+# it waits and no byte is left, or at Ctrl-C. Sets `answer` to the last line of the run.
 play() {
     made=0
     while ask "go $slice"; do
@@ -113,22 +114,23 @@ play() {
     answer="${answer% *} $made"
 }
 
-# Begins where the run ended, and says where that is.
+# Starts where the run ended, and prints the position.
 replay() {
     [ "$ended" != 130 ] || say '\n'
-    say 'pmach: the run is made again, up to its end or Ctrl-C\n'
+    say 'pmach: repeating the run; Ctrl-C stops it\n'
     play $(od -An -v -tu1 "$replayed/typed" | tr '\n' ' ') || return
     rm -rf "$replayed"
     replayed=''
     printf '%s\n' "$answer"
     case $ended,$answer in
-        3,ended* | 3,waiting*) say 'pmach: an image is not what it was, or a file of the system\n' ;;
+        3,ended* | 3,waiting*) say 'pmach: the repeated run ended differently; an image or the file of --system has changed\n' ;;
     esac
     ask where && show where
 }
 
-# What is made of long answers: bytes, 16 a line, as pairs of digits and as characters, behind the address of the first;
-# words, 8 a line, behind that; one instruction a line, where no semicolon between quotes parts two; one part a line.
+# How long answers are printed. Bytes: 16 per line, as pairs of digits and as characters, after the address of the first.
+# Words: 8 per line, after the address of the first. Instructions: one per line; a semicolon between quotes separates none.
+# Lists: one member per line.
 bytes='{
     pairs = substr($0, 1, index($0, "  ") - 1)
     characters = substr($0, length(pairs) + 3)
@@ -150,7 +152,8 @@ instructions='{
 }'
 members='{ gsub(", ", "\n"); print }'
 
-# What may be wrong with a line whose first word this is: by `help`, how the command is used, or which ones begin so.
+# The hint for an invalid line, by its first word and the answer of `help`: the usage of the command, or the commands that
+# begin with this word.
 usage='{
     for (k = split($0, usage, ", "); k > 0; k--) {
         split(usage[k], words, " ")
@@ -160,7 +163,7 @@ usage='{
     print (text != "" ? "usage: " text : near != "" ? "one of: " near : "help lists the commands")
 }'
 
-# The words of the commands, by `help`, once each.
+# The names of the commands, from the answer of `help`, once each.
 words_of='{
     parts = split($0, usage, ", ")
     for (k = 1; k <= parts; k++) {
@@ -170,7 +173,7 @@ words_of='{
     }
 }'
 
-# The command of a word: that which alone begins with it, else the word itself.
+# Sets `full` to the only command that begins with this word, or to the word itself.
 expand() {
     full=$1 found=0 candidate=''
     for name in $commands; do
@@ -182,7 +185,7 @@ expand() {
     [ "$found" != 1 ] || full=$candidate
 }
 
-# The names of the procedures of segment 0, each behind its number, as `dis --names` writes them behind calls of them.
+# The numbers and names of the procedures of segment 0, from the comments of `dis --names`.
 names() {
     awk 'BEGIN {
         print ".SEG 1 NAMES\n.PROC 1 0 0 0"
@@ -191,7 +194,7 @@ names() {
     }' | "$program" asm | "$program" dis --names | awk '$1 == "CXP" && $4 == ";" { printf "%s %s ", $3, $5 }'
 }
 
-# Lines in which a segment, a procedure and an offset stand from this word on, with the name of a procedure of segment 0.
+# Adds the name of a procedure of segment 0 to lines with a segment, a procedure and an offset from word `at` on.
 named='BEGIN { for (n = split(names, part, " "); n > 1; n -= 2) name[part[n - 1]] = part[n] }
 { print $0 ($at == "0" && ($(at + 1) in name) ? " ; " name[$(at + 1)] : "") }'
 show_named() {
@@ -199,7 +202,7 @@ show_named() {
     awk -v at="$1" -v names="$system" "$named"
 }
 
-# Takes from the words of `debug` where the code of the program and that of the system stand, and whether it is quiet.
+# Reads the arguments of `debug`: the image, its form, the program's name, the file of --system, and --quiet.
 note() {
     option='' image='' form=blocks own='' file='' quiet=no
     for word; do
@@ -218,8 +221,8 @@ note() {
     done
 }
 
-# Shows the statement that begins at a segment, a procedure and an offset, if one does there, as `dis --statements` has it,
-# where the first of a procedure has its offset in the segment.
+# Prints the statement that begins at a segment, a procedure and an offset, if there is one, from `dis --statements`. Its
+# offsets are relative to the segment; the first statement of a procedure has the offset of the procedure's entry.
 statement='/^PROCEDURE/ { stands = ($2 == p && $5 == s ":"); entry = "" }
 stands && /^[0-9]/ && entry == "" { entry = $1 }
 stands && /^[0-9]/ && $1 - entry == o { print "  " substr($0, 7); exit }'
@@ -239,7 +242,7 @@ number() {
     esac
 }
 
-# Shows the answer to words.
+# Prints the answer to a command.
 show() {
     case ${1-},$answer in
         bytes,??' '*) printf '%s\n' "$answer" | awk -v at="$(number "$2")" "$bytes" ;;
@@ -253,7 +256,7 @@ show() {
     esac
 }
 
-# Answers a line. Fails where the program has ended.
+# Executes a line and prints its answer. Fails if the program has ended.
 answer_line() {
     set -- $line
     expand "${1-}"
@@ -262,7 +265,7 @@ answer_line() {
     show $line
 }
 
-# Whether the program has begun: then it answers `help`. What it says in place of that is shown.
+# Whether the program has started: then it answers `help`. Any other output is printed.
 has_begun() {
     ask help || return
     case $answer in
@@ -271,15 +274,15 @@ has_begun() {
     esac
 }
 
-# Ends the program where it has not ended, and leaves no folder.
+# Ends the program if it is still running, and deletes the temporary folders.
 leave() {
     [ -z "$process" ] || kill "$process" 2>/dev/null
     [ -z "$folder" ] || rm -rf "$folder"
     [ -z "$replayed" ] || rm -rf "$replayed"
 }
 
-# Starts the program, which ignores Ctrl-C as this shell does just then, behind pipes, whose names go as soon as both ends
-# are open. Fails where no pipes can be made.
+# Starts the program with pipes as its standard streams. It ignores Ctrl-C, because this shell does so at this moment. The
+# names of the pipes are deleted as soon as both ends are open. Fails if no pipes can be created.
 start() {
     folder=$(mktemp -d 2>/dev/null) && mkfifo "$folder/in" "$folder/out" 2>/dev/null || return
     (exec "$program" "$@") <"$folder/in" >"$folder/out" &
@@ -289,7 +292,7 @@ start() {
     folder=''
 }
 
-# The debugger from its start to its end. Before the first prompt Ctrl-C ends it with 130.
+# The main part. Before the first prompt Ctrl-C ends the script with status 130.
 program=$1 folder='' process='' system='' interrupts=0 more=yes IFS=' '
 shift
 note "$@"

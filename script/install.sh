@@ -1,15 +1,15 @@
 #!/bin/sh
-# `install.sh --install PREFIX` puts the program, proved if it is built so, with this script's neighbours, man page,
-# completions, examples and pages below PREFIX, each file by a rename; from then on no clone is needed. Where the library
-# is built, proved or not, it goes there too, with its header and a file for pkg-config. `install.sh --uninstall PREFIX`
-# takes these away, and no other file. The list of them is PREFIX/lib/pmach/installed.
-# Status 1: wrong words, or a file is in the way that no --install put there; nothing was changed. Status 70: it failed.
+# `install.sh --install PREFIX` installs the program (the proved one if it has been built), the scripts of this folder, the
+# man page, the completions, the examples and the pages below PREFIX, where they need no clone. Each file is put in place
+# by a rename. If the library has been built, proved or not, it is installed too, with its header and a file for
+# pkg-config. `install.sh --uninstall PREFIX` removes these files and no others. PREFIX/lib/pmach/installed lists them.
+# Status 1: invalid command line, or a file exists that --install did not install; nothing was changed. Status 70: failed.
 script=$(dirname "$(readlink -f "$0")")
 here=$(dirname "$script")
 umask 022
 export LC_ALL=C
 
-# stop STATUS WORD..: says why, and ends.
+# stop STATUS TEXT..: prints the reason and ends.
 stop() {
     status=$1
     shift
@@ -17,7 +17,7 @@ stop() {
     exit "$status"
 }
 
-# All files that are installed: from where, and to where below PREFIX.
+# All files that are copied: each with its source and its path below PREFIX.
 files() {
     echo "pmach bin/pmach"
     for part in ask console debugger files install resume watched words; do
@@ -29,14 +29,15 @@ files() {
     (cd "$here" && find README.md INDEX.md docs examples -type f ! -name '*.pyc') | sed 's|.*|& share/doc/pmach/&|'
 }
 
-# What else is made: the sentence of a program that is not proved, and a link by which the examples find the program.
+# The files that are generated: the sentence for an unproved program, the link by which the examples find the program, and
+# the library with its file for pkg-config.
 others() {
     [ "$which" = proved ] || echo lib/pmach/not-proved.txt
     echo share/doc/pmach/pmach
     [ -z "$library" ] || printf '%s\n' lib/libpm_c.a lib/pkgconfig/pmach.pc
 }
 
-# The folders above the paths on standard input, each behind those that it stands in.
+# The folders above the paths on standard input, parents first.
 folders() {
     while IFS= read -r path; do
         while [ "${path%/*}" != "$path" ]; do
@@ -46,7 +47,7 @@ folders() {
     done | sort -u
 }
 
-# The first path of the list that is there, and that no earlier --install put there.
+# The first path of the list that exists and was not installed by an earlier --install.
 in_the_way() {
     while IFS= read -r path; do
         [ -e "$prefix/$path" ] || [ -L "$prefix/$path" ] || continue
@@ -54,16 +55,16 @@ in_the_way() {
     done <"$scratch/new"
 }
 
-# put TARGET COMMAND..: the command makes a file beside the target, which then takes its place.
+# put TARGET COMMAND..: the command writes a temporary file next to the target, which then replaces the target.
 put() {
     target=$prefix/$1
     shift
     "$@" "$target.new$$" && mv -fT "$target.new$$" "$target" && return
     rm -f "$target.new$$"
-    stop 70 "$target could not be written; 'pmach --uninstall $prefix' takes away what is there"
+    stop 70 "cannot write $target; 'pmach --uninstall $prefix' removes what was installed"
 }
 
-# Takes away each path on standard input, and then the folders that an --install made, where nothing else is in them.
+# Removes each path on standard input, and the folders that --install created if they are empty.
 take_away() {
     while IFS= read -r path; do
         case /$path/ in
@@ -71,40 +72,40 @@ take_away() {
         esac
         case $path in
             */) rmdir "$prefix/$path" 2>/dev/null ;;
-            *) rm -f "$prefix/$path" || stop 70 "$prefix/$path could not be taken away" ;;
+            *) rm -f "$prefix/$path" || stop 70 "cannot remove $prefix/$path" ;;
         esac
     done
 }
 
-# copy SOURCE PLACE: a copy that everybody may read, and start where the source can be started.
+# copy SOURCE TARGET: a copy that everybody can read, and execute if the source is executable.
 copy() {
     mode=644
     [ ! -x "$1" ] || mode=755
     install -m "$mode" "$1" "$2"
 }
 
-# The sentence of an installed program that is not proved.
+# The sentence for an installed program that is not proved.
 write_not_proved() {
-    echo "pmach: not proved: a wrong index, sum or cast ends it by a signal. In a clone 'pmach --prove' and then" \
-        "'pmach --install PREFIX' put the proved one here" >"$1"
+    echo "pmach: not proved: an internal error would stop this build with a signal. To replace it by the proved program," \
+        "run 'pmach --prove' and then 'pmach --install PREFIX' in a clone" >"$1"
 }
 
-# The library, with what it calls for memory, which is the kit's and stands beside the one that rt makes.
+# The library, joined with the allocator that it calls: a library of the kit, separate from the one that rt builds.
 write_library() {
     [ "$made" = proved ] || { copy "$here/$library" "$1" && return; }
     kit=$(dirname "$(rt doc </dev/null)") &&
         printf '%s\n' "CREATE $1" "ADDLIB $here/$library" "ADDLIB $kit/c/liblibc_c.a" SAVE END | "$kit/toolchain/bin/llvm-ar" -M
 }
 
-# What pkg-config is told of it.
+# The file for pkg-config.
 write_config() {
     version=$(sed -n 's/^#define PMACH_VERSION_TEXT "\(.*\)"/\1/p' "$here/examples/library/pmach.h")
     printf '%s\n' "prefix=$prefix" "Name: pmach" "Description: the p-machine of UCSD Pascal version II, $made" \
         "Version: $version" 'Cflags: -I"${prefix}/include"' 'Libs: -L"${prefix}/lib" -lpm_c' >"$1"
 }
 
-# Which program is installed: the proved one, or one without a proof, which is built where it is not there. And which
-# library, if one is there.
+# Chooses the program to install: the proved one if it has been built, otherwise the unproved one, which is built if
+# needed. Chooses the library too, if one has been built.
 choose() {
     library=crates/pm_c/out/libpm_c.a made=proved
     [ -f "$here/$library" ] || library=out/unproved/libpm_c.a made='not proved'
@@ -116,26 +117,26 @@ choose() {
         "$script/build.sh" --build
 }
 
-# Writes the list: the files and folders of this --install, those that it made or an older one, after them.
+# Writes the list: the files, and then the folders that this or an earlier --install created.
 write_list() {
-    mkdir -p "$prefix/lib/pmach" || stop 70 "$prefix/lib/pmach could not be made"
+    mkdir -p "$prefix/lib/pmach" || stop 70 "cannot create $prefix/lib/pmach"
     cat "$@" >"$scratch/list" && put lib/pmach/installed copy "$scratch/list"
 }
 
 put_all() {
-    [ -d "$here/crates/pmach" ] || stop 70 "only a clone of the repository can install"
+    [ -d "$here/crates/pmach" ] || stop 70 "--install works only in a clone of the repository"
     choose || exit
-    mkdir -p "$prefix" && prefix=$(cd "$prefix" && pwd) || stop 70 "$prefix could not be made"
+    mkdir -p "$prefix" && prefix=$(cd "$prefix" && pwd) || stop 70 "cannot create $prefix"
     list=$prefix/lib/pmach/installed
     { files | sed 's/.* //' && others && echo lib/pmach/installed; } | sort >"$scratch/new" || exit 70
     path=$(in_the_way)
-    [ -z "$path" ] || stop 1 "$prefix/$path is there, and no --install put it there"
+    [ -z "$path" ] || stop 1 "$prefix/$path exists and was not installed by --install; nothing was changed"
     grep -v '/$' "$list" 2>/dev/null | sort >"$scratch/old"
     grep '/$' "$list" 2>/dev/null | sort >"$scratch/old-folders"
     folders <"$scratch/new" | while IFS= read -r folder; do
         [ -d "$prefix/$folder" ] && ! grep -qxF "$folder/" "$scratch/old-folders" || echo "$folder/"
     done | sort >"$scratch/folders"
-    # The list comes first, with what the older one has, so that what is stopped half way can be taken away.
+    # The list comes first, together with the old one, so that an interrupted --install can be removed.
     sort -u "$scratch/new" "$scratch/old" >"$scratch/files"
     sort -ru "$scratch/folders" "$scratch/old-folders" >"$scratch/both"
     write_list "$scratch/files" "$scratch/both"
@@ -152,21 +153,22 @@ put_all() {
     sort -r "$scratch/folders" >"$scratch/both"
     write_list "$scratch/new" "$scratch/both"
     case $which in
-        proved) echo "pmach: the proved program is $prefix/bin/pmach" ;;
-        *) echo "pmach: $prefix/bin/pmach is the program without a proof; 'pmach --prove' and then --install put the proved one there" ;;
+        proved) echo "pmach: the proved program is installed as $prefix/bin/pmach" ;;
+        *) echo "pmach: an unproved program is installed as $prefix/bin/pmach; for the proved one run 'pmach --prove' and --install again" ;;
     esac
 }
 
 take_all() {
-    prefix=$(cd "$prefix" 2>/dev/null && pwd) || stop 1 "there is no such folder"
+    folder=$(cd "$prefix" 2>/dev/null && pwd) || stop 1 "there is no folder $prefix"
+    prefix=$folder
     list=$prefix/lib/pmach/installed
-    [ -f "$list" ] || stop 1 "no --install put anything below $prefix"
+    [ -f "$list" ] || stop 1 "nothing was installed below $prefix by --install"
     cp "$list" "$scratch/list" || exit 70
     take_away <"$scratch/list" || exit
-    echo "pmach: taken away from $prefix"
+    echo "pmach: removed from $prefix"
 }
 
-[ $# = 2 ] && [ -n "$2" ] || stop 1 "$1 takes one word: the folder PREFIX"
+[ $# = 2 ] && [ -n "$2" ] || stop 1 "$1 requires one argument: the folder PREFIX"
 prefix=$2
 scratch=$(mktemp -d) || exit 70
 trap 'rm -rf "$scratch"' EXIT

@@ -1,16 +1,16 @@
 #!/bin/sh
-# `resume.sh PROGRAM run WORDS..`, one of them `--debug`: the console on a terminal, as console.sh has it, of a run that an
-# execution error or Ctrl-C does not end: it goes on in the debugger. A run is its steps and the bytes that it was given;
-# these are kept, in a folder of its own, and debugger.sh makes it again. The bytes come by way of `tee`, so Ctrl-D, which
-# ends the input, is a signal here. With `--escape` it is Ctrl-], and Ctrl-\ stands for Ctrl-C, which is a key.
+# `resume.sh PROGRAM run ARG..`, with the option `--debug`: the console on a terminal, as in console.sh. After an execution
+# error or Ctrl-C the run continues in the debugger. A run is determined by its number of steps and its input. So this
+# script records the input in a temporary folder, and debugger.sh repeats the run. The input passes through `tee`, so
+# Ctrl-D, which ends it, is a signal here. With `--escape` Ctrl-] ends it, and Ctrl-\ replaces Ctrl-C, which is a key.
 if ! [ -t 0 ] || ! [ -t 1 ]; then
-    echo "pmach: run --debug wants a terminal" >&2
+    echo "pmach: run --debug requires a terminal" >&2
     exit 1
 fi
 script=$(dirname "$(readlink -f "$0")") program=$1 folder='' process='' keys='' interrupted=no end='^d' stop='^c'
 shift
 
-# Puts the terminal back, and leaves no program and no folder.
+# Restores the terminal, ends both programs and deletes the folder.
 leave() {
     trap '' HUP INT QUIT TERM
     for started in $process $keys; do kill "$started" 2>/dev/null; done
@@ -24,7 +24,7 @@ interrupt() {
     kill "$process" 2>/dev/null
 }
 
-# The words of `run` without --debug.
+# The arguments of `run` without --debug.
 behind=no
 for word; do
     shift
@@ -41,12 +41,12 @@ trap 'exit 129' HUP
 trap 'exit 130' INT
 trap 'exit 143' TERM
 if ! folder=$(mktemp -d) || ! mkfifo "$folder/keys"; then
-    echo "pmach: run --debug keeps what is typed, and there is no folder for it" >&2
+    echo "pmach: run --debug records what you type, and cannot create a temporary folder for it" >&2
     exit 1
 fi
 stty -icanon -echo -icrnl noflsh susp undef intr "$stop" quit "$end" min 1 time 0
-# Both stand beside this shell, which waits for the program and for signals alike; so their input has to be named. `tee`
-# keeps a byte before the program has it.
+# Both programs run in the background, so that this shell can wait for the program and for signals. Their input is passed
+# as file descriptor 3. `tee` records a byte before the program receives it.
 exec 3<&0
 tee "$folder/keys" <&3 >"$folder/typed" 2>/dev/null &
 keys=$!
@@ -54,7 +54,7 @@ keys=$!
 process=$!
 trap interrupt INT
 trap 'kill "$keys" 2>/dev/null' QUIT
-while # again where a signal came between
+while # repeat if a signal interrupted it
     wait "$process" 2>/dev/null
     status=$?
     kill -0 "$process" 2>/dev/null
@@ -70,7 +70,7 @@ esac
 stty "$saved"
 exec 3<&-
 
-# The words of `debug`: those of `run` without the ones that `debug` has not.
+# The arguments of `debug`: those of `run` without the options that `debug` does not have.
 shift
 set -- debug "$@"
 option=''

@@ -1,28 +1,28 @@
 #!/bin/sh
-# `watched.sh PROGRAM WORDS..`, where a file is written and standard error is a terminal: does the command, and says
-# meanwhile, from the third second on, how long it has run and, where standard output is the file, how much that has. It
-# stands below the cursor, so that what the program says comes where it would, and is gone when it ends. While the program
-# waits, or another command has the terminal, nothing is said. The program knows no clock; its status, and what ends it,
-# are as without.
+# `watched.sh PROGRAM ARG..`, if a file is written and standard error is a terminal: runs the command. From the third
+# second on it shows how long the command has run and, if standard output is the file, the size of the file. The line is
+# below the cursor, so that it does not move the program's messages, and it is erased at the end. Nothing is shown while
+# the program waits or another command has the terminal. The program itself does not read a clock; its status and its
+# behaviour at a signal are the same as without this script.
 { command exec 3<&0; } 2>/dev/null || exec "$@"
 "$@" <&3 3<&- &
 process=$!
 ticker=''
 
-# stop STATUS: ends the program, and this script.
+# stop STATUS: ends the program and this script.
 stop() {
     trap '' HUP INT QUIT TERM
     kill "$process" 2>/dev/null
     leave "$1"
 }
 
-# leave STATUS: ends this script, once what was said is gone.
+# leave STATUS: ends this script after the line was erased.
 leave() {
     [ -z "$ticker" ] || { kill "$ticker" && wait "$ticker"; } 2>/dev/null
     exit "$1"
 }
-# Whether the program is at work, in the group that has the terminal: of its line in /proc the state, which stands behind
-# the name, its group, and that of the terminal.
+# Whether the program is running, in the process group that has the terminal. Its line in /proc has, after its name, its
+# state, its process group and that of the terminal.
 is_working() {
     read -r line <"/proc/$process/stat" || return
     set -- ${line##*) }
@@ -32,19 +32,19 @@ is_working() {
     esac
 } 2>/dev/null
 
-# How many bytes a file has, in words.
+# The size of a file as a text.
 size() {
     bytes=$(stat -L -c %s "$1" 2>/dev/null) || bytes=0
     if [ "$bytes" -ge 10000000 ]; then echo "$((bytes / 1000000)) MB"; else echo "$((bytes / 1000)) kB"; fi
 }
 
-# What was said goes.
+# Erases the line.
 clear_below() {
     [ "$said" = no ] || printf '\033[J'
     said=no
 }
 
-# Says how far the program is, each second, until it is ended.
+# Shows each second how long the program has run, until this function is ended by a signal.
 tick() {
     seconds=0 said=no
     trap 'clear_below; exit' TERM
@@ -60,7 +60,7 @@ tick() {
         fi
     done
 }
-# It begins before the signals are caught here: one that comes while it begins would be lost to it.
+# It starts before this shell catches signals: otherwise it would miss a signal that arrives during its start.
 tick </dev/null 3<&- >&2 &
 ticker=$!
 trap 'stop 129' HUP

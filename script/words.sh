@@ -1,5 +1,6 @@
-# shellcheck shell=sh disable=SC2034 # what is set is for who reads this
-# `set -- files WORDS..`, then this: `path` of the image, `form`, `verb`, and the words behind it, `first` and `second`.
+# shellcheck shell=sh disable=SC2034 # the variables are for the script that reads this file
+# Read this file after `set -- files ARG..`: it sets `path` (of the image), `form`, `verb`, and `first` and `second`, the
+# arguments after the verb.
 path='' form='' verb='' first='' second='' option=''
 for word; do
     case $option,$word in

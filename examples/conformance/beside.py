@@ -1,13 +1,13 @@
-"""beside.py: feeds two p-machines the same program, and stops at the first state in which they differ.
+"""beside.py: runs two p-machines on the same program, and stops at the first state in which they differ.
 
-    beside.py [--state] OURS [WORD..] -- THEIRS [WORD..] <INPUT
+    beside.py [--state] OURS [ARG..] -- THEIRS [ARG..] <INPUT
 
-Both commands get the same standard input and write a trace in the form of README.md on standard output: of bare code
-`pmach raw` is OURS and digits are the input; of a booted program `pmach trace --d4 IMAGE NAME`, and the input is what is
-typed. Both run side by side, and are ended at the first line that differs. Told are then the instruction that was made
-from the last state that both had, what either machine has behind it, which columns differ, and where the instruction's
-row stands in docs/. With --state the text of the next instruction does not count. Status: 0 no difference, 1 one, 2 wrong
-words."""
+Both commands get the same standard input and write a trace in the format of README.md to standard output. For bare code
+OURS is `pmach raw`, and the input is hexadecimal digits. For a booted program OURS is `pmach trace --d4 IMAGE NAME`, and
+the input is the console input. Both run in parallel, and are stopped at the first line that differs. Then the script
+prints the instruction that was executed in the last common state, the row of this instruction in docs/, the state after
+it in each machine, and the columns that differ. With --state the text of the next instruction is not compared. Status: 0
+no difference; 1 a difference, or an invalid command line, which prints this text."""
 import os
 import re
 import subprocess
@@ -18,7 +18,7 @@ DOCS = os.path.join(os.path.dirname(os.path.abspath(__file__)), "..", "..", "doc
 
 
 def row_of(text):
-    """The page and the line where the row of an instruction stands."""
+    """Returns the page and the line of the table row of an instruction."""
     mnemonic, _, rest = text.partition(" ")
     page, name = ("PROCEDURES.md", r"\| %s \|" % rest) if mnemonic == "CSP" else ("INSTRUCTIONS.md", r"\| %s( n)? \|" % mnemonic)
     try:
@@ -32,7 +32,7 @@ def row_of(text):
 
 
 def started(command, program):
-    """A command with this input, and the lines that it writes."""
+    """Starts a command with this input."""
     process = subprocess.Popen(command, stdin=subprocess.PIPE, stdout=subprocess.PIPE)
     if os.fork() == 0:
         try:
@@ -50,9 +50,9 @@ def counted(line, state):
 
 
 def told(line):
-    """A line in words: the columns of a state, or how the program ended."""
+    """Returns a line with the names of its columns, or how the program ended."""
     words = line.split(" ", 7)
-    return " ".join("%s %s" % pair for pair in zip(COLUMNS[1:], words[1:7])) if len(words) > 6 else line or "nothing more"
+    return " ".join("%s %s" % pair for pair in zip(COLUMNS[1:], words[1:7])) if len(words) > 6 else line or "(end of the trace)"
 
 
 def main(state, ours, theirs):
@@ -77,7 +77,7 @@ def main(state, ours, theirs):
         print("the first state differs")
     else:
         instruction = last[44:].strip()
-        print("behind step %d, %s, of %s" % (int(last[:8]), instruction, told(last)))
+        print("after step %d, %s, from %s" % (int(last[:8]), instruction, told(last)))
         print("  row     %s" % row_of(instruction))
     print("  ours    %s" % told(lines[0]))
     print("  theirs  %s" % told(lines[1]))

@@ -1,8 +1,7 @@
-"""cases.py: the list of cases of bare code, from which make.py makes bare.txt.
+"""cases.py: the list of cases of bare code, from which make.py generates bare.txt.
 
-A case is a name and items in the assembler's words, with `;` between them; behind them `XIT` ends the program, if it
-comes so far. Cases that differ in one word are made by a loop. The programs of code files are texts of their own, in
-the folder programs/."""
+A case is a name and assembler items, separated by `;`. make.py appends `XIT`, which ends the program if it gets so far.
+Loops generate cases that differ in one word. The programs of code files are separate texts in the folder programs/."""
 
 ORDERED = ["EQU", "GEQ", "GRT", "LEQ", "LES", "NEQ"]
 bare = []
@@ -13,13 +12,13 @@ def case(name, *items):
 
 
 def cases(text):
-    """A line with `;` names a case, and the lines behind it are its items."""
+    """Reads cases: a line with `;` at its start names a case, and the following lines are its items."""
     for block in text.strip().split("\n; "):
         name, _, items = block.partition("\n")
         case(name.removeprefix("; "), " ".join(items.split()))
 
 
-# ---- what goes well
+# ---- cases without an error
 
 cases(r"""
 ; constants of the code
@@ -130,7 +129,7 @@ for row in ORDERED:
             row_said = "%s %s %s" % (row, kind, n)
             case("each size of a comparison: %s" % row_said, "LDCI 2000; LDCI 3000; %s" % row_said)
 
-# ---- what there is not: error 11
+# ---- unimplemented instructions: error 11
 
 case("opcode 210", ".BYTE 210")
 case("a type byte that is none", ".BYTE 175, 3")
@@ -146,7 +145,7 @@ for row in ("GRT", "LES"):
 for number in [7, 8, *range(12, 21), *range(23, 32), 36, *range(41, 256)]:
     case("standard procedure %d" % number, "CSP %d" % number)
 
-# ---- what each row looks for by itself
+# ---- the checks of each instruction
 
 cases(r"""
 ; no word on the stack
@@ -321,7 +320,7 @@ LDCI 2000; LDCI 2001; CSP 9
 LDCI 65535; SLDC 0; LDCI 199; STB; LDCI 3000; STL 32764; LDCI 65535; STL 32767; RNP 0
 """)
 
-# ---- too few words: the six of the start are taken, and then one less than the row takes stands there
+# ---- too few words: the six words of the start are popped, and then one word less than the row pops is pushed
 
 EMPTY = "ADI; ADI; ADI; ADI; ADI; FJP empty; empty: "
 UNARY = ["ABI", "NGI", "LNOT", "SQI", "SGS", "FJP next", "XJP 1, 1, next, next", "INC 1", "IND 1", "SRO 1", "STL 1",
@@ -337,7 +336,7 @@ for count, rows in ((1, UNARY), (2, BINARY), (3, ["CHK", "LDP", "STB", "STM 2"])
     for row in rows:
         case("too few words: %s" % row, EMPTY + "SLDC 0; " * (count - 1) + row, "next: NOP")
 
-# ---- a full stack: NEW takes what is free but for the words that the row takes, and the row leaves more than these
+# ---- a full stack: NEW allocates the free space except for the words that the row pops; the row pushes more
 
 PUSHES = ["SLDC 1", "LDCN", "LDCI 5", "LAO 1", "LLA 1", "LDA 0, 1", "LDO 1", "LDL 1", "LOD 0, 1", 'LSA "a"', 'LPA "a"',
           "LDC 1", "CSP 34", "CSP 40"]

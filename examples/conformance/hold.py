@@ -1,11 +1,11 @@
-"""hold.py: holds another p-machine against the cases of bare code.
+"""hold.py: compares another p-machine with the cases of bare code.
 
-    hold.py [--state] COMMAND [WORD..]
+    hold.py [--state] COMMAND [ARG..]
 
 COMMAND is run once for each case of bare.txt, with the bytes of the case on standard input, in hexadecimal digits. It
-writes a trace in the form of README.md on standard output. For each case that differs, this script says the first line
-that does, as it is in bare.txt and as COMMAND wrote it; the instruction in the line before is the one to look at. With
---state the text of the instruction does not count. The status is 1 where a case differs."""
+writes a trace in the format of README.md to standard output. For each case that differs, this script prints the first
+different line, from bare.txt and from COMMAND; check the instruction in the line before it. With --state the text of the
+instruction is not compared. Status 1: a case differs."""
 import itertools
 import os
 import re
@@ -14,7 +14,7 @@ import sys
 
 
 def cases(path):
-    """Each case: its name, its bytes, the lines of its trace."""
+    """Yields each case: its name, its bytes, the lines of its trace."""
     with open(path, encoding="ascii") as file:
         blocks = file.read().strip().split("\n\n")[1:]
     for block in blocks:
@@ -24,7 +24,7 @@ def cases(path):
 
 
 def cut(line, state):
-    """What counts of a line: all of it, or of a line of the trace the columns before the instruction."""
+    """Returns the part of a line that is compared: all of it, or only the columns before the instruction."""
     return line[:44] if state and line[:8].isdigit() else line
 
 
@@ -37,7 +37,7 @@ def main(state, command):
         for want, got in itertools.zip_longest(wanted, made.split("\n")[:-1], fillvalue="(nothing)"):
             if cut(want, state) != cut(got, state):
                 differing += 1
-                print("%s\n  wanted %s\n  made   %s" % (name, want, got))
+                print("%s\n  expected %s\n  got      %s" % (name, want, got))
                 break
     print("%d of %d cases are the same" % (count - differing, count))
     sys.exit(1 if differing else 0)

@@ -1,10 +1,10 @@
-"""make.py: makes the cases of this folder anew, or says with the word `check` where pmach writes something else.
+"""make.py: generates the cases of this folder, or with `check` reports where the output of pmach differs.
 
     make.py [check] [PMACH]
 
-The list of bare code is cases.py, and the texts of programs are programs/*.text. Each case is run, and what pmach
-writes is its trace. Behind that stands what the cases reach, counted by the rows of docs/. The status is 1 where a case
-differs, or where something is reached by no case:
+cases.py has the list of bare code, and programs/*.text are the programs. Each case is run, and its trace is the output of
+pmach. Then the script prints what the cases cover, counted by the tables of docs/. Status 1: a case differs, or one of
+these is not covered by any case:
 
     opcodes     each of the 256 of docs/INSTRUCTIONS.md
     spellings   each mnemonic with each size of its number; of the forms of docs/INSTRUCTIONS.md, each that can vary
@@ -12,7 +12,7 @@ differs, or where something is reached by no case:
     procedures  each of the 256 numbers of docs/PROCEDURES.md
     few words   error 7 of each row and procedure that takes words from the stack
     full stack  error 4 of each that leaves more words than it takes, of each call, and of each return
-    errors      each execution error of docs/MACHINE.md but 9, to which no program comes by itself"""
+    errors      each execution error of docs/MACHINE.md except 9, which no program causes by itself"""
 import glob
 import os
 import re
@@ -45,7 +45,7 @@ def page(name):
 # ---- the cases
 
 def assembled(name, items):
-    """The bytes of some items with XIT behind them, by the assembler's listing; a NOP makes their length even."""
+    """Returns the bytes of some items followed by XIT, from the listing of the assembler; a NOP makes their length even."""
     text = "".join(item.strip() + "\n" for item in (items + "; XIT").split(";"))
     for behind in ("", "NOP\n"):
         whole = ".SEG 1 CASE\n.PROC 1 0 0 0\n%s%s.EXIT\n.END\n" % (text, behind)
@@ -72,7 +72,7 @@ def bare_file():
 
 
 def program_files():
-    """The code file and the trace of each text, as the one file of a volume of 40 blocks on unit 4."""
+    """Yields the code file and the trace of each text, run as the only file of a volume of 40 blocks on unit 4."""
     with tempfile.TemporaryDirectory() as folder:
         image = os.path.join(folder, "image")
         for path in sorted(glob.glob(os.path.join(here, "programs", "*.text"))):
@@ -89,7 +89,7 @@ def program_files():
 
 
 def written(files):
-    """Writes what is new, or counts what is not as it was."""
+    """Writes the files that have changed, or with `check` counts them."""
     wrong = 0
     for name, data in sorted(files.items()):
         path = os.path.join(here, name)
@@ -111,14 +111,14 @@ SHORT = {"SLDL": 215, "SLDO": 231, "SIND": 248, "SLDC": 0}
 
 
 def rows():
-    """Each row of the table of instructions: its opcodes, its name, its form, the words that it takes and leaves."""
+    """Yields each row of the table of instructions: its opcodes, its name, its form, the words that it pops and pushes."""
     row = r"^\| (\d+)(?:\.\.(\d+))? \| [0-9A-F.]+ \| *([A-Z]* ?n?) *\| (\w+) \|([^|]*)\|"
     for first, last, name, form, stack in re.findall(row, page("INSTRUCTIONS"), re.M):
         yield range(int(first), int(last or first) + 1), name.strip(), form, stack.strip()
 
 
 def procedures():
-    """Each procedure of the table: its number, and the words that it takes and leaves."""
+    """Yields each procedure of the table: its number, and the words that it pops and pushes."""
     table = page("PROCEDURES").split("## The table")[1].split("\n## ")[0]
     for cell, stack in re.findall(r"^\| (\d[\d, to]*) \|[^|]*\|([^|]*)\|", table, re.M):
         ends = [int(word) for word in re.findall(r"\d+", cell)]
@@ -127,14 +127,14 @@ def procedures():
 
 
 def spoken(opcode, name):
-    """An instruction's text, or its beginning: the mnemonic, and the number in the opcode."""
+    """Returns the text of an instruction, or its beginning: the mnemonic, and the number in the opcode."""
     if name.endswith(" n"):
         return "%s %d" % (name[:-2], opcode - SHORT[name[:-2]])
     return name or ".BYTE 210"
 
 
 def sizes(name, form):
-    """The spellings of each size of a row's number, as patterns of its text."""
+    """Returns the spellings of each size of the number in a row, as patterns of its text."""
     number = {"B": "", "UbB": r"\d+, ", "DbB": r"\d+, "}.get(form)
     if number is not None:
         return [name + " " + number + size for size in (r"\d+$", r"\d+!$", r"(12[89]|1[3-9]\d|[2-9]\d\d|\d{4,5})$")]
@@ -147,7 +147,7 @@ def sizes(name, form):
 
 
 def takes_and_leaves(stack):
-    """How many words a row takes and leaves; a place is two, and a set or words count as they are fewest."""
+    """Returns how many words a row pops and pushes; a place is two words, and a set or words count at their minimum."""
     if "->" not in stack:
         return 0, 0
     taken, left = (side.split() for side in stack.split("->"))
@@ -156,7 +156,7 @@ def takes_and_leaves(stack):
 
 
 def wanted_errors():
-    """The words of a row before error 7, for want of words on the stack, and before error 4, for want of room."""
+    """Returns the rows that can give error 7 (too few words on the stack), and those that can give error 4 (stack full)."""
     few, full = [], []
     for opcodes, name, _, stack in rows():
         taken, left = takes_and_leaves(stack)
@@ -176,7 +176,7 @@ def begins(text, word):
 
 
 def missing(text):
-    """What no case reaches, and how much there is to reach."""
+    """Yields, for each kind, how many there are and which of them no case covers."""
     reached = set(re.findall(r"^\d{8}(?: \S+){6} (.*)$", text, re.M))
     ends = re.findall(r"^\d{8}(?: \S+){6} (.*)\nerror (\d+) ", text, re.M)
     few, full = wanted_errors()

@@ -1,14 +1,14 @@
-"""steps.py: how far another p-machine is, by the cases whose answers come from an independent reference.
+"""steps.py: reports how far another p-machine is, with cases whose answers come from an independent reference.
 
-    steps.py [--state] [--step N] COMMAND [WORD..]
+    steps.py [--state] [--step N] COMMAND [ARG..]
     steps.py --list
 
 COMMAND is run once for each case of bare code in crates/test_cases/data/bare.cases, with its bytes on standard input, in
-hexadecimal digits, and --limit N behind its words, of steps. It writes a trace in the form of README.md on standard
-output. A case belongs to the last of the steps below that one of its instructions wants, as they stand one
-behind another. Each step has a line: how many of its cases are the same, and the first that is not, with its bytes and
-the last lines, that which is wanted and that which was made. With --state the last line alone is compared, and not the digest of the whole trace; with
---step the cases of one step. --list says how many cases each step opens. The status is 1 where a case differs."""
+hexadecimal digits, and with the option --limit N (steps) added. It writes a trace in the format of README.md to standard
+output. A case belongs to the last of the steps below that one of its instructions requires. For each step a line is
+printed with the number of cases that agree, and then the first case that does not: its bytes, the expected last line and
+the last line of COMMAND. With --state only the last line is compared, not the digest of the whole trace. With --step only
+the cases of one step are run. --list prints the number of cases of each step. Status 1: a case differs."""
 import concurrent.futures
 import os
 import re
@@ -18,7 +18,7 @@ import sys
 HERE = os.path.dirname(os.path.abspath(__file__))
 ROOT = os.path.join(HERE, "..", "..")
 
-# the order in which a machine can be made: each step wants the ones before it
+# the order in which a machine can be written: each step requires the ones before it
 STEPS = [
     ("the start, constants, the end", "SLDC LDCI LDCN NOP BPT XIT ABR ADR DVR FLO FLT MPR NGR SBR SQR LDE LAE STE"),
     ("integers and Booleans", "ABI ADI DVI MODI MPI NGI SBI SQI CHK LAND LOR LNOT EQUI GEQI GRTI LEQI LESI NEQI"),
@@ -36,7 +36,7 @@ STEP_OF = {name: at for at, (_, names) in enumerate(STEPS) for name in names.spl
 
 
 def opcodes():
-    """The mnemonic and the form of each opcode, from the page of the instructions."""
+    """Returns the mnemonic and the form of each opcode, from the page of the instructions."""
     table = {}
     with open(os.path.join(ROOT, "docs", "INSTRUCTIONS.md"), encoding="utf-8") as page:
         for line in page:
@@ -51,7 +51,7 @@ TABLE = opcodes()
 
 
 def length(code, at):
-    """How many bytes the instruction at a place has, as the page's section on operands says."""
+    """Returns the length of the instruction at an offset, by the rules of the page's section on operands."""
     form = TABLE[code[at]][1]
     byte = lambda k: code[at + k] if at + k < len(code) else 0
     word = lambda k: byte(k) + 256 * byte(k + 1)
@@ -78,7 +78,7 @@ def length(code, at):
 
 
 def step_of(code):
-    """The last step that an instruction of the code wants, read one behind another from its first byte."""
+    """Returns the last step that an instruction of the code requires; instructions are read in order from the first byte."""
     at, step = 0, 0
     while at < len(code):
         step = max(step, STEP_OF.get(TABLE[code[at]][0], 0))
@@ -95,7 +95,7 @@ def digest(text):
 
 
 def cases():
-    """Each case: its name, its bytes, its limit, the last line, the digest of the trace if there is one."""
+    """Yields each case: its name, its bytes, its limit, the last line, the digest of the trace if it has one."""
     with open(os.path.join(ROOT, "crates", "test_cases", "data", "bare.cases"), encoding="ascii") as file:
         blocks = file.read().split("\n\n")[1:]
     for block in blocks:
@@ -109,12 +109,12 @@ def cases():
 
 
 def ran(command, state, case):
-    """Whether a machine ends as a case says, and by the same trace; and its last line."""
+    """Returns whether a machine ends as expected, with the same trace; and its last line."""
     _, code, limit, end, trace = case
     try:
         made = subprocess.run(command + ["--limit", limit], input=code.hex(" ").upper().encode(), capture_output=True, timeout=60).stdout
     except subprocess.TimeoutExpired:
-        return False, "nothing within a minute"
+        return False, "no end within a minute"
     last = "".join(made.decode("ascii", "replace").split("\n")[-2:-1])
     return last == end and (state or trace is None or digest(made) == trace), last
 
@@ -137,8 +137,8 @@ def main(state, only, command):
         differing += len(these) - same
         for (title, code, _, end, _), (good, last) in zip(these, made):
             if not good:
-                print("   first: %s\n     code %s\n     wanted %s" % (title, code.hex(" ").upper(), end))
-                print("     made   %s" % (last if last != end else "the same end, but another trace: hold.py shows lines"))
+                print("   first: %s\n     code     %s\n     expected %s" % (title, code.hex(" ").upper(), end))
+                print("     got      %s" % (last if last != end else "the same end, but another trace: hold.py shows lines"))
                 break
     sys.exit(1 if differing else 0)
 

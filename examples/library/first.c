@@ -1,4 +1,5 @@
-/* The first steps: each instruction of a small program before it is made, and how it ends. docs/LIBRARY.md has the command. */
+/* A first example: prints the trace line of each step of a small program, and how it ends. docs/LIBRARY.md has the command
+   that compiles it. */
 #include "pmach.h"
 #include <stdio.h>
 

@@ -1,4 +1,4 @@
-"""The first steps from Python: first.py LIBRARY. Each instruction of a small program before it is made, and how it ends."""
+"""A first example in Python: first.py LIBRARY. It prints the trace line of each step of a small program, and how it ends."""
 import sys
 
 import pmach

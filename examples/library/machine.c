@@ -1,5 +1,5 @@
-/* Assembles a program, puts it on a new disk, runs it there, and shows what became of it: machine TEXT NAME KEYS.
-   TEXT is the path of a text of the assembler, NAME the name of its file on the disk, KEYS what is typed. */
+/* Assembles a program, adds it to a new disk, runs it there and prints the result: machine TEXT NAME KEYS.
+   TEXT is the path of an assembler text, NAME the name of its code file on the disk, KEYS the console input. */
 #include "pmach.h"
 #include <stdio.h>
 #include <stdlib.h>
@@ -37,19 +37,19 @@ int main(int argc, char **argv) {
     const uint8_t *name = (const uint8_t *)argv[2];
     size_t name_len = strlen(argv[2]);
 
-    /* how long the code file is, and the code file */
-    stop_unless(PMACH_TOO_SHORT, pmach_assemble(text, text_len, false, code, 0, &wanted), "assemble, no room");
+    /* the length of the code file, and then the code file */
+    stop_unless(PMACH_TOO_SHORT, pmach_assemble(text, text_len, false, code, 0, &wanted), "assemble without a buffer");
     stop_unless(PMACH_DONE, pmach_assemble(text, text_len, false, code, sizeof code, &code_len), "assemble");
-    printf("code %lu %s\n", (unsigned long)code_len, code_len == wanted ? "as wanted" : "NOT AS WANTED");
+    printf("code %lu %s\n", (unsigned long)code_len, code_len == wanted ? "as expected" : "NOT AS EXPECTED");
 
-    /* a disk with that file */
+    /* a disk with this file */
     stop_unless(PMACH_DONE, pmach_volume((const uint8_t *)"OWN", 3, 40, blank, sizeof blank, &blank_len), "volume");
     stop_unless(PMACH_DONE, pmach_put(blank, blank_len, name, name_len, 2, code, code_len, disk, sizeof disk, &disk_len),
         "put");
     stop_unless(PMACH_DONE, pmach_list(disk, disk_len, told, sizeof told, &len), "list");
     fwrite(told, 1, len, stdout);
 
-    /* the program on it; where it waits, the next key is typed */
+    /* runs the program on the disk; when it waits, it gets the next key */
     struct pmach h = {0};
     stop_unless(PMACH_NO_MACHINE, pmach_step(&h), "step of an empty handle");
     stop_unless(PMACH_DONE, pmach_boot(&h, disk, disk_len, name, name_len, 0), "boot");

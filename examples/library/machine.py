@@ -1,7 +1,7 @@
 """The library from Python: machine.py LIBRARY [PMACH].
 
-Without PMACH it shows what a few calls answer. With the path of the program it compares the two: the texts of examples/,
-assembled and disassembled, and the trace of 401 programs of bare code, step by step.
+Without PMACH it prints what a few calls return. With the path of the program it compares library and program: on the texts
+of examples/, assembled and disassembled, and on the traces of 401 programs of bare code, step by step.
 """
 import glob
 import os
@@ -16,14 +16,14 @@ STEPS = 500
 
 
 def disk(name, path):
-    """A volume with the code file of a text."""
+    """Returns a volume with the code file of a text."""
     with open(path, "rb") as file:
         code = pmach.job("assemble", file.read(), False)
     return pmach.job("put", pmach.job("volume", b"KEPT", 40), name, 2, code)
 
 
 def traced(code, limit):
-    """The lines of a trace, and how it ended, by single steps of a machine; what else shows it agrees with each line."""
+    """Returns the lines of a trace and how it ended, by single steps of a machine; checks other calls against each line."""
     with pmach.Machine.raw(code) as machine:
         lines, end = [], "limit %d" % limit
         for _ in range(limit):
@@ -47,7 +47,7 @@ def traced(code, limit):
 
 
 def places(image, name, steps):
-    """Where a program stands before each of its first steps: segment, procedure and offset."""
+    """Returns the position of a program before each of its first steps: segment, procedure and offset."""
     with pmach.Machine.boot(image, name) as machine:
         found = []
         for _ in range(steps):
@@ -62,7 +62,7 @@ unwatch 65000|unwatch 65000|clear 2 1 0|break 1 1 3 if 65000 = 7|go 4000|console
 
 
 def session(image, name):
-    """Lines of the debugger one by one, behind a handle: as many as are answered as the same lines at once, by the job."""
+    """Sends lines to the debugger one by one, checks that the answers are those of the whole session as one job; counts them."""
     with pmach.Machine.boot(image, name) as machine:
         each = [machine.command(line) for line in LINES]
     status, answers = pmach.told("debug", image, name, "".join(line + "\n" for line in LINES).encode())

@@ -1,14 +1,14 @@
-"""The p-machine from Python, by the library's own header: every call of pmach.h with its prototype, and a class of machines.
+"""The p-machine for Python. It reads the prototypes of all calls from pmach.h, and has a class for machines.
 
     import pmach
-    pmach.load("out/unproved/libpm_c.a")         # which `./pmach --library` makes
-    code = pmach.job("assemble", text, False)    # the bytes of the answer; Refused where it is refused
+    pmach.load("out/unproved/libpm_c.a")         # built by `./pmach --library`
+    code = pmach.job("assemble", text, False)    # returns the bytes of the answer; raises Refused if the job is refused
     with pmach.Machine.raw(bytes.fromhex("020382D6")) as machine:
         while machine.step() == 0:
             print(machine.line())
 
-A job is the name of a call of pmach.h without `pmach_`, and its parameters in their order but for the lengths, the buffer
-and `needed`, which are made here: bytes, numbers, True or False."""
+The arguments of a job are the name of a call of pmach.h without `pmach_`, and its parameters in order: bytes, numbers,
+True or False. This module adds the lengths, the buffer and `needed`."""
 import ctypes
 import os
 import re
@@ -31,7 +31,7 @@ class Shown(ctypes.Structure):
 
 
 class Place(ctypes.Structure):
-    """Where a machine stands in the code."""
+    """The position of a machine in the code."""
     _fields_ = [("segment", ctypes.c_uint8), ("procedure", ctypes.c_uint8), ("offset", ctypes.c_uint16)]
 
 
@@ -39,7 +39,7 @@ STRUCTS = {"struct pmach": Handle, "struct pmach_shown": Shown, "struct pmach_pl
 
 
 class Refused(Exception):
-    """A call that was not done: its status, and the message of the program where it is a job's."""
+    """A call failed: its status, and for a job the message of the program."""
 
     def __init__(self, call, status, message=b""):
         super().__init__("%s: status %d, %s" % (call, status, message.decode("ascii", "replace") or sentence(status)))
@@ -47,7 +47,7 @@ class Refused(Exception):
 
 
 def prototypes(header):
-    """Each call of the header: its name, the type of its answer, those of its parameters."""
+    """Yields each call of the header: its name, the type of its result, the types of its parameters."""
     text = re.sub(r"/\*.*?\*/", "", header, flags=re.S)
     for answer, name, given in re.findall(r"(\w+) pmach_(\w+)\(([^)]*)\);", text):
         types = []
@@ -63,7 +63,7 @@ def prototypes(header):
 
 
 def shared(archive):
-    """The shared library of an archive that has all that it calls, made by the C compiler; its file is taken away again."""
+    """Makes a shared library of an archive with the C compiler, and loads it; its file is deleted again."""
     with tempfile.TemporaryDirectory() as folder:
         made = os.path.join(folder, "pm_c.so")
         subprocess.run([os.environ.get("CC", "cc"), "-shared", "-o", made, "-Wl,--whole-archive", archive,
@@ -72,7 +72,7 @@ def shared(archive):
 
 
 def load(library, header=None):
-    """Takes a shared library into use, or an archive, by the prototypes of the header, which is the one beside this file."""
+    """Loads a shared library or an archive, with the prototypes of the header (default: pmach.h next to this file)."""
     path = header or os.path.join(os.path.dirname(os.path.abspath(__file__)), "pmach.h")
     loaded = shared(library) if library.endswith(".a") else ctypes.CDLL(os.path.abspath(library))
     with open(path, encoding="utf-8") as file:
@@ -86,7 +86,7 @@ CALLS = {}
 
 
 def told(call, *given):
-    """The status of a call that gives bytes, and these, in a buffer of just the length that it wants."""
+    """Returns the status of a call that writes bytes, and these bytes; the buffer gets the length that the call needs."""
     words = []
     for it in given:
         words += [bytes(it), len(it)] if isinstance(it, (bytes, bytearray)) else [it]
@@ -99,12 +99,12 @@ def told(call, *given):
 
 
 def sentence(status):
-    """The words of a status."""
+    """Returns the text for a status."""
     return told("sentence", status)[1].decode()
 
 
 def job(call, *given):
-    """The answer of a whole job; Refused where its status is 2, or where it has none."""
+    """Returns the answer of a job; raises Refused if its status is 2 or it has no answer."""
     status, answer = told(call, *given)
     if status not in (0, 3, 6):
         raise Refused(call, status, answer)
@@ -112,7 +112,7 @@ def job(call, *given):
 
 
 class Machine:
-    """A machine; `with` frees it."""
+    """A machine; `with` frees it at its end."""
 
     def __init__(self, call, *words):
         self.handle = Handle()
@@ -120,16 +120,16 @@ class Machine:
 
     @classmethod
     def raw(cls, code):
-        """A machine at the start of bare code."""
+        """Returns a machine at the start of bare code."""
         return cls("new", code, len(code))
 
     @classmethod
     def boot(cls, image, name, clock=0):
-        """A machine at the start of the code file of a name on the volume that an image is, on unit 4."""
+        """Returns a machine at the start of the code file NAME on the volume IMAGE, on unit 4."""
         return cls("boot", image, len(image), name, len(name), clock)
 
     def call(self, call, *words):
-        """The status of a call on this machine."""
+        """Returns the status of a call on this machine."""
         return CALLS[call](ctypes.byref(self.handle), *words)
 
     def done(self, call, *words):
@@ -144,11 +144,11 @@ class Machine:
         return answer
 
     def step(self):
-        """One step: 0 it went, 1 the program waits for a key, 2 it has ended, 100 and the number of the error."""
+        """Executes a step: 0 success, 1 the program waits for a key, 2 it has ended, 100 plus the number of the error."""
         return self.call("step")
 
     def run(self, limit):
-        """At most so many steps: the status of the last, and how many counted."""
+        """Executes at most LIMIT steps; returns the status of the last, and the number of steps."""
         steps = ctypes.c_uint64()
         return self.call("run", limit, ctypes.byref(steps)), steps.value
 
@@ -162,12 +162,12 @@ class Machine:
         self.done("mount", unit, image, len(image))
 
     def eject(self, unit):
-        """The image of the disk that is taken out of a unit."""
+        """Ejects the disk of a unit and returns its image."""
         self.done("eject", unit)
         return self.told("ejected")
 
     def command(self, line):
-        """What the debugger of the program answers to a line, without its last line feed."""
+        """Returns the answer of the debugger to a line, without its last line feed."""
         line = line.encode()
         self.done("command", line, len(line))
         return self.told("answer").decode()[:-1]
@@ -179,8 +179,8 @@ class Machine:
         self.done("watch", address, on)
 
     def go(self, limit):
-        """At most so many steps up to a breakpoint, 15, or a watched word that has changed, 16: the status, how many counted,
-        and the address of that word."""
+        """Executes at most LIMIT steps, up to a breakpoint (15) or a changed watched word (16); returns the status, the
+        number of steps, and the address of this word."""
         steps, address = ctypes.c_uint64(), ctypes.c_uint16()
         return self.call("go", limit, ctypes.byref(steps), ctypes.byref(address)), steps.value, address.value
 
@@ -195,16 +195,16 @@ class Machine:
         return word.value
 
     def place(self):
-        """Segment, procedure and offset in bytes; None where the machine stands nowhere."""
+        """Returns segment, procedure and offset in bytes; None if the machine is outside the code."""
         place = Place()
         return (place.segment, place.procedure, place.offset) if self.call("place", ctypes.byref(place)) == DONE else None
 
     def line(self):
-        """The line of a trace for the step that is made next."""
+        """Returns the trace line of the next step."""
         return self.told("line").decode()
 
     def instruction(self, address):
-        """The text of what stands at an address."""
+        """Returns the text of the instruction at an address."""
         return self.told("instruction", address).decode()
 
     def console(self, start=0):

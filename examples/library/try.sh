@@ -1,8 +1,8 @@
 #!/bin/sh
-# Builds the examples in C and Python over the library, runs them, and compares what they say: examples/library/try.sh
-# LIBPM_C names a libpm_c.a that is there already; else `rt lib` makes one, which checks every proof first. HEAP names
-# the kit's liblibc_c.a, else it is looked for beside rt. CC is the C compiler. Where PMACH is set, the library is also
-# compared with that program.
+# Builds the C and Python examples for the library, runs them and compares their output: examples/library/try.sh
+# Variables: LIBPM_C names an existing libpm_c.a (default: `rt lib` builds one, and checks every proof first). HEAP names
+# liblibc_c.a of the kit (default: the one of the kit that rt belongs to). CC is the C compiler. If PMACH is set, the
+# library is also compared with this program.
 . "$(dirname "$(readlink -f "$0")")/../words.sh"
 set -eu
 here=$(dirname "$(readlink -f "$0")")
@@ -15,22 +15,22 @@ if [ -z "${LIBPM_C:-}" ]; then
 fi
 heap=${HEAP:-$(dirname "$(readlink -f "$(command -v rt)")")/../c/liblibc_c.a}
 
-echo "the library $LIBPM_C"
+echo "library: $LIBPM_C"
 
 same() {
     if diff "$made/wanted" "$made/said"; then
-        echo "$1: as wanted"
+        echo "$1: as expected"
     else
-        echo "$1: NOT AS WANTED"
+        echo "$1: NOT AS EXPECTED"
         exit 1
     fi
 }
 
 $cc -std=c99 -Wall -Wextra -Werror -O1 -I"$here" "$here/machine.c" "$LIBPM_C" "$heap" -o "$made/machine"
 
-# ECHO makes 13 steps for each key up to the full stop, and then a NOP and a RBP.
+# ECHO executes 13 steps for each key up to the full stop, and then a NOP and a RBP.
 cat >"$made/wanted" <<'END'
-code 1024 as wanted
+code 1024 as expected
 OWN:
 ECHO            code     6     2 512 000-00-00
 files 1 free 32 largest 32
@@ -42,9 +42,9 @@ END
 "$made/machine" "$here/../echo.text" ECHO HI. >"$made/said"
 same 'C, with keys'
 
-# the moves and the steps are those of README.md
+# the moves and the number of steps are those in README.md
 cat >"$made/wanted" <<'END'
-code 1024 as wanted
+code 1024 as expected
 OWN:
 HANOI           code     6     2 512 000-00-00
 files 1 free 32 largest 32
@@ -58,7 +58,7 @@ same 'C'
 
 $cc -shared -o "$made/pm_c.so" -Wl,--whole-archive "$LIBPM_C" -Wl,--no-whole-archive "$heap"
 
-# the first steps from C, and from Python
+# the first example in C, and in Python
 cat >"$made/wanted" <<'END'
 00000000 01024 65492 65492 65492 01028 65492 SLDC 2
 00000001 01025 65490 65492 65492 01028 00002 SLDC 3
@@ -72,7 +72,7 @@ same 'first steps in C'
 python3 "$here/first.py" "$made/pm_c.so" >"$made/said"
 same 'first steps in Python'
 
-# the trace and the session are those of README.md
+# the trace and the session are those in README.md
 cat >"$made/wanted" <<'END'
 2 b'refused asm 2 1'
 2 b'refused code 1'

@@ -1,12 +1,13 @@
-"""Pages of a disk, out of pmach's own answers.
+"""Makes web pages of a disk image, from the output of pmach.
 
     site.py IMAGE FOLDER [--run NAME [--input FILE] [--limit N]]
 
-makes FOLDER/index.html: the volume, a map of its blocks, what `check` says of it, and a page for each file. An image in another form is
-brought into blocks by form.sh, and of a hurt one the pages have what `salvage` takes. Whatever bytes stand on the disk are shown as what
-they are: nothing of it is markup, a path or a script, which a policy in each page forbids besides. The same image gives the same pages.
+It writes FOLDER/index.html with the volume, a map of its blocks and the output of `check`, and a page for each file. An image in another
+format is converted by form.sh. For a damaged image the pages show the files that `salvage` copies. All bytes of the disk are shown as text:
+they never become markup, a path or a script, and a policy in each page forbids scripts. The same image gives the same pages.
 
-FOLDER is new, or made by this script before: then its pages are written anew. Status 0; 1 wrong words; 2 no volume, and no file either."""
+FOLDER is new, or was made by this script: then its pages are replaced. Status 0: success; 1: invalid command line; 2: neither a volume nor
+a file was found."""
 import argparse
 import ctypes
 import html
@@ -39,12 +40,12 @@ KEY = {"directory": "#8d99ae", "code": "#6a994e", "text": "#e0a458", "data": "#5
 
 
 def told(text):
-    """Text of any kind as text of a page: no markup, and each control character by its number."""
+    """Returns any text as the text of a page: without markup, and with each control character as its number."""
     return html.escape(re.sub(r"[^\n\x20-\x7e]", lambda c: "\\x%02x" % ord(c[0]), text), quote=True)
 
 
 def pmach(words, given=b""):
-    """What the program writes and says, and its status."""
+    """Returns the exit status of pmach, its output and its messages."""
     done = subprocess.run([PMACH, *words], input=given, stdout=subprocess.PIPE, stderr=subprocess.PIPE)
     return done.returncode, done.stdout, done.stderr.decode("latin-1").strip()
 
@@ -80,7 +81,7 @@ def lines_of(words, given):
 
 
 class Entry:
-    """A file of the directory, by its slot."""
+    """A file of the directory, with its slot."""
 
     def __init__(self, slot, name, kind, first, blocks, last, date):
         self.slot, self.name, self.kind, self.first, self.blocks, self.last, self.date = slot, name, kind, first, blocks, last, date
@@ -96,7 +97,7 @@ class Entry:
 
 
 class Disk:
-    """A volume: its image in the order of blocks, the list of its files, and what was said of it."""
+    """A volume: its image with blocks in order, the list of its files, and messages about it."""
 
     def __init__(self, path, scratch):
         self.notes, self.path, self.form = [], path, "blocks"
@@ -118,7 +119,7 @@ class Disk:
         return True
 
     def brought(self, scratch):
-        """Brings an image in another form into blocks, where one form fits or `check` names one."""
+        """Converts an image in another format to blocks, if one format fits or `check` names one."""
         new = os.path.join(scratch, "blocks")
         form = os.path.join(EXAMPLES, "form.sh")
         run = lambda *words: subprocess.run([form, *words], stdin=subprocess.DEVNULL, stdout=subprocess.PIPE, stderr=subprocess.PIPE, env=dict(os.environ, PMACH=PMACH))
@@ -129,32 +130,32 @@ class Disk:
                 if words[0] == "--as":
                     self.form = words[1]
                 else:
-                    self.form = latin(run(self.path).stdout).split(" ")[0] or "another form"
-                self.notes.append("The image is in the form %s. Brought into blocks by: examples/form.sh%s IMAGE NEW" % (self.form, " --as " + self.form if words[0] == "--as" else ""))
+                    self.form = latin(run(self.path).stdout).split(" ")[0] or "another format"
+                self.notes.append("The image has the format %s. It was converted to blocks by: examples/form.sh%s IMAGE NEW" % (self.form, " --as " + self.form if words[0] == "--as" else ""))
                 self.path = new
                 self.findings = latin(pmach(["files", "--image", new, "check"])[1]).splitlines()
                 return
 
     def saved(self, scratch):
-        """Of a hurt image: what salvage takes, as a volume of its own."""
+        """Reads the files of a damaged image: those that salvage copies to a new volume."""
         new = os.path.join(scratch, "saved")
         hurt, message = self.path, self.message
         status, out, said = pmach(["files", "--image", hurt, "salvage", new])
         self.salvage = latin(out).splitlines()
         self.path = new
         if status or not self.listed() or not self.files:
-            print("site.py: no volume, and no file that salvage takes: %s" % (message or said), file=sys.stderr)
+            print("site.sh: %s is not a volume, and salvage finds no file on it: %s" % (hurt, message or said), file=sys.stderr)
             sys.exit(2)
         self.message = message
         with open(hurt, "rb") as file:
             image = file.read()
         self.blocks_of_image = len(image) // 512
         place(self, image)
-        self.notes.append("The directory is damaged: %s. The pages have what salvage takes: pmach files --image IMAGE salvage NEW" % message)
+        self.notes.append("The directory is damaged: %s. The pages show the files that salvage copies: pmach files --image IMAGE salvage NEW" % message)
 
 
 def place(disk, image):
-    """Where the files stand in the hurt image, by the slots that salvage names: those that it took, and those that it left out."""
+    """Sets the positions of files in the damaged image, from the slots in the output of salvage: the copied files and those left out."""
     taken, left = [], []
     for line in disk.salvage:
         m = re.match(r"slot (\d+) (.*)", line)
@@ -170,14 +171,14 @@ def place(disk, image):
 
 
 def date_of(disk):
-    """The last date of the volume, as the list has dates."""
+    """Returns the last date of the volume in the form of the list."""
     with open(disk.path, "rb") as file:
         word = int.from_bytes(file.read(1024 + 26)[1024 + 20 : 1024 + 22], "little")
     return "%03d-%02d-%02d" % (word // 512, word % 16, word // 16 % 32)
 
 
 def with_gaps(disk):
-    """The files in their order, and what is free before, between and behind them, as rows of the table."""
+    """Returns the rows of the table: the files in order, and the free areas before, between and after them."""
     rows, place = [], 6 if not disk.files or disk.files[0].first < 10 else 10
     if hasattr(disk, "salvage"):
         return [row_of(e) for e in disk.files]
@@ -197,7 +198,7 @@ def row_of(e):
 
 
 def blocks_of(disk):
-    """How many blocks the volume has."""
+    """Returns the number of blocks of the volume."""
     if hasattr(disk, "blocks_of_image"):
         return disk.blocks_of_image
     with open(disk.path, "rb") as file:
@@ -219,14 +220,14 @@ def page(title, body, back=True):
 
 
 def table(heads, rows):
-    """A table; the cells are markup already, a number stands right."""
+    """Returns a table. The cells are markup; numbers are aligned to the right."""
     cells = lambda row: "".join('<td class="n">%d</td>' % c if isinstance(c, int) else "<td>%s</td>" % c for c in row)
     head = "".join('<th scope="col">%s</th>' % told(h) for h in heads)
     return '<div class="scroll"><table><thead><tr>%s</tr></thead><tbody>%s</tbody></table></div>' % (head, "".join("<tr>%s</tr>" % cells(r) for r in rows))
 
 
 def block_map(disk):
-    """The blocks of the volume as a picture: rows of cells, each run of one file a rectangle."""
+    """Returns a picture of the blocks of the volume: rows of cells, with a rectangle for each run of blocks of a file."""
     count = max(blocks_of(disk), 6)
     columns = 40 if count <= 400 else 80 if count <= 3200 else 256
     size = 1000 / columns
@@ -257,17 +258,17 @@ def block_map(disk):
     last = '<rect class="gap" style="stroke:var(--ink)" x="0" y="0" width="1000" height="%.2f"/>' % high
     key = "".join('<span style="background:%s"></span>%s' % (color, look) for look, color in KEY.items())
     return (
-        '<svg viewBox="-1 -1 1002 %.2f" role="img" aria-label="Map of %d blocks, %d in a row: the directory and %d files">%s%s</svg>\n<p class="key">%s; what has no color is free</p>'
+        '<svg viewBox="-1 -1 1002 %.2f" role="img" aria-label="Map of %d blocks, %d in a row: the directory and %d files">%s%s</svg>\n<p class="key">%s; free blocks have no color</p>'
         % (high + 2, count, columns, len(disk.files), "".join(shapes), last, key)
     )
 
 
 def mending(disk):
-    """Which command mends what was said."""
+    """Returns the command that repairs the volume."""
     if "refused volume 13" in disk.message:
-        return "The second copy of the directory is good: pmach files --image IMAGE repair"
+        return "The second copy of the directory is good. To repair the first: pmach files --image IMAGE repair"
     if hasattr(disk, "salvage"):
-        return "pmach files --image IMAGE salvage NEW, which gave the files below"
+        return "The files below were copied by: pmach files --image IMAGE salvage NEW"
     return ""
 
 
@@ -278,18 +279,18 @@ def index(disk, image_name, run_name):
     body.append("<h2>Its files</h2>\n" + table(["slot", "name", "kind", "first block", "blocks", "last bytes", "date"], with_gaps(disk)))
     if run_name:
         body.append('<p><a href="run.html">A run of %s</a></p>' % told(run_name))
-    body.append("<h2>What check says</h2>\n<pre>%s</pre>" % told("\n".join(disk.findings[:400])))
+    body.append("<h2>Output of check</h2>\n<pre>%s</pre>" % told("\n".join(disk.findings[:400])))
     if len(disk.findings) > 400:
-        body.append("<p>%d lines more</p>" % (len(disk.findings) - 400))
+        body.append("<p>%d more lines</p>" % (len(disk.findings) - 400))
     if mending(disk):
         body.append("<p>%s</p>" % told(mending(disk)))
     if hasattr(disk, "salvage"):
-        body.append("<h2>What salvage says</h2>\n<pre>%s</pre>" % told("\n".join(disk.salvage[:400])))
+        body.append("<h2>Output of salvage</h2>\n<pre>%s</pre>" % told("\n".join(disk.salvage[:400])))
     return page("Volume " + (disk.name or "without a name"), "\n".join(body), back=False)
 
 
 def dump(data):
-    """Bytes with their offsets and characters."""
+    """Returns bytes in hexadecimal and as characters, with their offsets."""
     lines = []
     for at in range(0, min(len(data), DUMPED), 16):
         part = data[at : at + 16]
@@ -315,7 +316,7 @@ STANDARD = re.compile(r"^\s+((?:CSP \d+)|(?:CXP 0, \d+))\s*; (\S+)")
 
 
 class Code:
-    """The segments, procedures and lines of a code file, and who calls whom."""
+    """The segments, procedures and lines of a code file, and its calls."""
 
     def __init__(self, data):
         status, out, self.message, _ = bounded(["dis"], data)
@@ -331,7 +332,7 @@ class Code:
         for line in statements:
             m = re.match(r"PROCEDURE (\d+) OF SEGMENT (\d+): (shown above)?", line)
             if m and m[3]:
-                continue  # another number of a table that stands above, by the number in it
+                continue  # this table was shown above, under the number that it contains
             if m:
                 here = (int(m[2]), int(m[1]))
                 own = self.statements.setdefault(here, []) if here not in self.statements else []
@@ -366,14 +367,14 @@ class Code:
         return "%d.%d" % here
 
     def link(self, to):
-        """A procedure as a link, where it is in the file; one of the system's with its name."""
+        """Returns a procedure as a link if it is in the file; one of the system's with its name."""
         if to in self.procedures:
             return '<a href="#p%d-%d">%s</a>' % (*to, self.procedure(to))
         name = self.called.get("CXP 0, %d" % to[1]) if to[0] == 0 else None
         return told(self.procedure(to) + (" " + name if name else ""))
 
     def line(self, slot, line, seen):
-        """A line of the listing: labels lead to their line, calls to what they call."""
+        """Returns a line of the listing, with links from labels to their lines and from calls to procedures."""
         place, words = line.split("  ", 1) if "  " in line else (line, "")
         at = int(place[7:12])
         shown = told(words)
@@ -389,7 +390,7 @@ class Code:
         return "<span%s>%s</span>  %s%s" % (mark, told("%-32s" % place), shown, told("  ; " + name) if name else "")
 
     def statement(self, slot, line):
-        """A statement: its offset leads to its line of the listing, and so do labels; a call to what is called."""
+        """Returns a statement, with links from its offset and labels to lines of the listing and from calls to procedures."""
         m = re.match(r"(\d{5}) (.*)$", line)
         place, words = (m[1], m[2]) if m else ("", line)
         shown = told(words)
@@ -413,9 +414,9 @@ class Code:
                 self.places.setdefault(int(line[0:2]), set()).add(int(line[7:12]))
         parts = ["<h2>Segments</h2>", table(["slot", "name", "procedures"], [
             [int(slot), told(name), " ".join(self.link(p) for p in self.procedures if p[0] == int(slot))] for slot, name in self.names.items()])]
-        rows = [[self.link(p), ", ".join(self.link(t) + (" ×%d" % n if n > 1 else "") for t, n in sorted(self.calls.get(p, {}).items())) or "nobody",
-                 ", ".join(self.link(c) for c in self.callers.get(p, [])) or "nobody here"] for p in self.procedures]
-        parts += ["<h2>Who calls whom</h2>", table(["procedure", "calls", "is called by"], rows), self.graph()]
+        rows = [[self.link(p), ", ".join(self.link(t) + (" ×%d" % n if n > 1 else "") for t, n in sorted(self.calls.get(p, {}).items())) or "none",
+                 ", ".join(self.link(c) for c in self.callers.get(p, [])) or "none in this file"] for p in self.procedures]
+        parts += ["<h2>Calls</h2>", table(["procedure", "calls", "is called by"], rows), self.graph()]
         seen, shown = set(), 0
         if self.is_cut:
             parts.append("<p>The disassembly is longer than %d bytes. The rest of it is left out.</p>" % DISASSEMBLED)
@@ -423,9 +424,9 @@ class Code:
             slot, number = here
             own = self.listing[here]
             parts.append('<h3 id="p%d-%d">Procedure %d of segment %d %s</h3>' % (slot, number, number, slot, told(self.names.get(str(slot), ""))))
-            parts.append("<p>Called by %s.</p>" % (", ".join(self.link(c) for c in self.callers.get(here, [])) or "nobody in this file"))
+            parts.append("<p>Called by %s.</p>" % (", ".join(self.link(c) for c in self.callers.get(here, [])) or "no procedure in this file"))
             if shown + len(own) > LISTED:
-                parts.append("<p>%d lines, which are left out: the page has %d.</p>" % (len(own), shown))
+                parts.append("<p>%d lines are left out: the page has %d lines already.</p>" % (len(own), shown))
                 continue
             shown += len(own)
             if self.statements.get(here):
@@ -437,7 +438,7 @@ class Code:
         return "\n".join(parts)
 
     def graph(self):
-        """The calls as a picture, where graphviz is there."""
+        """Returns the calls as a picture if graphviz is installed."""
         edges = sorted((a, b) for a, those in self.calls.items() for b in those if b in self.procedures)
         if not edges or len(edges) > 400:
             return ""
@@ -474,7 +475,7 @@ def file_page(disk, entry):
 
 
 class Calls:
-    """The steps of a run by the stack of procedures, out of a trace of calls and returns with their places."""
+    """The steps of a run for each stack of procedures, from a trace of calls and returns with positions."""
 
     def __init__(self, lines):
         self.root = {"name": "all", "self": 0, "in": {}}
@@ -524,7 +525,7 @@ def run_page(disk, name, given, limit):
     trace = latin(pmach(["trace", "--calls", "--places", *words], given)[1]).splitlines()
     body = ["<p>%s (status %d)</p>" % (told(said), status), "<h2>Its console</h2>\n<pre>%s</pre>" % told(latin(out[:DUMPED]).replace("\r", "\n"))]
     if len(trace) > 1:
-        body.append("<h2>Where its steps stood</h2>\n<p>Each bar is a procedure, segment and number, below the one that called it; its width is its share of the steps up to the last call or return.</p>")
+        body.append("<h2>Steps by procedure</h2>\n<p>Each bar is a procedure (segment.number), below the procedure that called it. Its width is its share of the steps up to the last call or return.</p>")
         body.append(Calls(trace[:-1]).picture())
     return page("A run of " + name, "\n".join(body))
 
@@ -603,7 +604,7 @@ def exchange(parent, one, other):
 
 
 class Far:
-    """How many pages are made, on a terminal, once that takes two seconds; below the cursor, and gone at the end."""
+    """Shows the number of finished pages on a terminal after two seconds: below the cursor, and erased at the end."""
 
     def __init__(self, count):
         self.count, self.began, self.said = count, time.monotonic(), False
@@ -624,9 +625,9 @@ def main():
     words.exit_on_error = False
     words.add_argument("image")
     words.add_argument("folder")
-    words.add_argument("--run", metavar="NAME", help="a program of the disk to run")
-    words.add_argument("--input", metavar="FILE", help="its console's bytes, else none")
-    words.add_argument("--limit", type=int, default=STEPS, metavar="N", help="at most so many steps (%(default)s)")
+    words.add_argument("--run", metavar="NAME", help="run this program of the disk")
+    words.add_argument("--input", metavar="FILE", help="console input of the program (default: empty)")
+    words.add_argument("--limit", type=int, default=STEPS, metavar="N", help="maximum number of steps (default: %(default)s)")
     try:
         given = words.parse_args()
     except SystemExit as end:
@@ -635,7 +636,7 @@ def main():
         print("site.sh: %s" % fault, file=sys.stderr)
         sys.exit(1)
     if not os.path.isfile(given.image) or given.image.startswith("-"):
-        print("site.sh: no such image: %s" % given.image, file=sys.stderr)
+        print("site.sh: %s is not a file" % given.image, file=sys.stderr)
         sys.exit(1)
     if not os.path.isdir(os.path.dirname(os.path.abspath(given.folder))):
         refuse("there is no directory for %s" % given.folder)

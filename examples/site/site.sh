@@ -1,9 +1,9 @@
 #!/bin/sh
-# Pages of a disk, which a browser opens from FOLDER/index.html: examples/site/site.sh IMAGE FOLDER
+# Makes web pages of a disk image; open FOLDER/index.html in a browser: examples/site/site.sh IMAGE FOLDER
 #
-#     examples/site/site.sh IMAGE FOLDER --run NAME [--input FILE] [--limit N]    with a run of that program too
+#     examples/site/site.sh IMAGE FOLDER --run NAME [--input FILE] [--limit N]    adds a page with a run of this program
 #
-# FOLDER is new, or one that this script made. -h says more. Needs python3; PMACH names another program than ./pmach.
+# FOLDER is new, or was made by this script. Requires python3. The variable PMACH can name another program than ./pmach.
 . "$(dirname "$(readlink -f "$0")")/../words.sh"
 here=$(dirname "$(readlink -f "$0")")
 exec python3 "$here/site.py" "$@"

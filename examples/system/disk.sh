@@ -1,13 +1,13 @@
 #!/bin/sh
-# Makes a disk with the programs of this folder, each with the system segment: examples/system/disk.sh PATH
+# Creates a disk with the programs of this folder, each with the system segment: examples/system/disk.sh PATH
 #   TABLE     a table, with widths              GUESS     a game: type numbers
-#   STRINGS   COPY, CONCAT, DELETE, INSERT, POS REVERSE   lines backward, until an empty one
-#   SIEVE     the primes to 200                 TOWERS    segment procedures that call themselves
+#   STRINGS   COPY, CONCAT, DELETE, INSERT, POS REVERSE   prints lines backward, until an empty one
+#   SIEVE     the primes up to 200              TOWERS    segment procedures that call themselves
 #   PEOPLE    records in a file, with SEEK      COPYTEXT  copies a text, with line numbers
-#   LISTER    lists a text                      KEYS      KEYBOARD: what is typed is not shown
+#   LISTER    lists a text                      KEYS      KEYBOARD: typed characters are not echoed
 #   DICE      RANDOM and KEYPRESS of a unit
-# PEOPLE and DICE call units of Apple's library, which ../with-units.sh puts in.
-# PMACH names another program than ../../pmach.
+# PEOPLE and DICE call units of Apple's library, which ../with-units.sh adds.
+# The variable PMACH can name another program than ../../pmach.
 . "$(dirname "$(readlink -f "$0")")/../words.sh"
 set -e
 [ $# = 1 ] || {

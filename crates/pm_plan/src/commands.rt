@@ -1,4 +1,4 @@
-//! The commands as clap is told of them: their words, and the texts of the help.
+//! The definitions of the commands for clap: names, arguments, options and help texts.
 use clap::{Arg, ArgAction, Command};
 use std::alloc::{AllocError, Global};
 
@@ -33,267 +33,247 @@ type CommandRow = (&'static str, &'static str, &'static [WordRow]);
 const LIMIT: WordRow = (
     "limit",
     Form::Free("N"),
-    "The most steps that are made [default: 10000000]",
+    "Maximum number of steps [default: 10000000]",
 );
 
 const UNLIMITED: WordRow = (
     "unlimited",
     Form::Flag,
-    "Makes steps without a limit; not beside --limit",
+    "Run without a step limit; cannot be used with --limit",
 );
 
 const FROM: WordRow = (
     "from",
     Form::Free("N"),
-    "Leaves out the lines of the first N steps",
+    "Omit the lines of the first N steps",
 );
 
 const SEGMENT: WordRow = (
     "segment",
     Form::Free("S"),
-    "Writes the lines of steps in this segment alone",
+    "Print only the lines of steps in segment S",
 );
 
 const PROCEDURE: WordRow = (
     "procedure",
     Form::Free("P"),
-    "Writes the lines of steps in this procedure of the segment alone",
+    "Print only the lines of steps in procedure P of segment S; requires --segment",
 );
 
 const CALLS: WordRow = (
     "calls",
     Form::Flag,
-    "Writes the lines of calls and returns alone, two blanks in front for each level of depth",
+    "Print only the lines of calls and returns, indented by two spaces for each level of calls",
 );
 
 const PLACES: WordRow = (
     "places",
     Form::Flag,
-    "Writes segment, procedure and offset in front of each line",
+    "Print segment, procedure and offset before each line",
 );
 
 const SYSTEM: WordRow = (
     "system",
     Form::Free("PATH"),
-    "The code file whose slot 0 is the operating system, for a program whose slot 0 is empty",
+    "Code file whose slot 0 is the operating system, for a program whose slot 0 is empty",
 );
 
-const D4: WordRow = (
-    "d4",
-    Form::Needed("IMAGE"),
-    "The image of the disk on unit 4",
-);
+const D4: WordRow = ("d4", Form::Needed("IMAGE"), "Disk image for unit 4");
 
-const D5: WordRow = ("d5", Form::Free("IMAGE"), "The image of the disk on unit 5");
+const D5: WordRow = ("d5", Form::Free("IMAGE"), "Disk image for unit 5");
 
-const D9: WordRow = ("d9", Form::Free("IMAGE"), "The image of the disk on unit 9");
+const D9: WordRow = ("d9", Form::Free("IMAGE"), "Disk image for unit 9");
 
-const D10: WordRow = (
-    "d10",
-    Form::Free("IMAGE"),
-    "The image of the disk on unit 10",
-);
+const D10: WordRow = ("d10", Form::Free("IMAGE"), "Disk image for unit 10");
 
-const D11: WordRow = (
-    "d11",
-    Form::Free("IMAGE"),
-    "The image of the disk on unit 11",
-);
+const D11: WordRow = ("d11", Form::Free("IMAGE"), "Disk image for unit 11");
 
-const D12: WordRow = (
-    "d12",
-    Form::Free("IMAGE"),
-    "The image of the disk on unit 12",
-);
+const D12: WordRow = ("d12", Form::Free("IMAGE"), "Disk image for unit 12");
 
-const PROGRAM: WordRow = ("NAME", Form::Word, "The name of the code file on unit 4");
+const PROGRAM: WordRow = ("NAME", Form::Word, "Name of the code file on unit 4");
 
 const SAVE: WordRow = (
     "save",
     Form::Flag,
-    "Writes the image of unit 4 back to its file; nothing else that is written to a disk is kept",
+    "Write the image of unit 4 back to its file; changes to other disks are not saved",
 );
 
 const SAVE_ALL: WordRow = (
     "save-all",
     Form::Flag,
-    "Writes the image of unit 4 back, and those of the other units that have changed; with --system these alone",
+    "Write back the image of unit 4 and the changed images of other units; with --system, only those of other units",
 );
 
 const ESCAPE: WordRow = (
     "escape",
     Form::Flag,
-    "On a terminal Ctrl-C and Ctrl-D are bytes 3 and 4 for the program, and Ctrl-] ends the input",
+    "On a terminal, pass Ctrl-C and Ctrl-D to the program as bytes 3 and 4; Ctrl-] ends the input",
 );
 
 const PRINTER: WordRow = (
     "printer",
     Form::Free("PATH"),
-    "The file that gets the printer's bytes, in the place of what it has",
+    "Write the printer's output to this file, replacing its contents",
 );
 
 /// The option `--image`, which stands before a verb or behind it.
-const IMAGE: WordRow = (
-    "image",
-    Form::Free("PATH"),
-    "The file that has the volume's image",
-);
+const IMAGE: WordRow = ("image", Form::Free("PATH"), "Disk image to work on");
 
 /// The option `--form`, which stands there too.
 const FORM: WordRow = (
     "form",
     Form::Free("FORM"),
-    "The form of the images, blocks, dos, swapped or 2mg: turned when read, and back when written [default: blocks]",
+    "Format of the images: blocks, dos, swapped or 2mg; converted when read, and back when written [default: blocks]",
 );
 
-const FILE: WordRow = ("NAME", Form::Word, "The file's name, in either case");
+const FILE: WordRow = ("NAME", Form::Word, "File name, in upper or lower case");
 
 /// The file's name, or else its slot.
 const FILE_OR_SLOT: WordRow = (
     "NAME",
     Form::Unless("slot"),
-    "The file's name, in either case; not beside --slot",
+    "File name, in upper or lower case; cannot be used with --slot",
 );
 
 const SLOT: WordRow = (
     "slot",
     Form::Free("N"),
-    "The file's place in the list, from 1, in place of its name",
+    "Select the file by its position in the list, from 1, instead of its name",
 );
 
 const KIND: WordRow = (
     "KIND",
     Form::Word,
-    "none, badb, code, text, info, data, graf, foto, secd, or a number 0 to 15",
+    "Kind: none, badb, code, text, info, data, graf, foto, secd, or a number from 0 to 15",
 );
 
-const VOLUME: WordRow = ("NAME", Form::Word, "The volume's name, up to 7 characters");
+const VOLUME: WordRow = ("NAME", Form::Word, "Volume name, 1 to 7 characters");
 
 const VERBS: &[CommandRow] = &[
     (
         "list",
-        "Lists the files",
+        "List the files",
         &[
             IMAGE,
             FORM,
             (
                 "all",
                 Form::Flag,
-                "Says the number of each kind and the slot too, and which blocks are free; not beside --matching",
+                "Also show the number of each kind, the slots and the free areas; cannot be used with --matching",
             ),
             (
                 "matching",
                 Form::Free("PATTERN"),
-                "Lists the files whose names fit the pattern, in which = stands for any characters",
+                "List only the files whose names match PATTERN; = matches any characters",
             ),
         ],
     ),
     (
         "get",
-        "Writes a file's bytes to standard output",
+        "Write the bytes of a file to standard output",
         &[IMAGE, FORM, FILE_OR_SLOT, SLOT, WRITTEN],
     ),
     (
         "put",
-        "Adds a file with the bytes of standard input",
+        "Add a file with the bytes of standard input",
         &[IMAGE, FORM, FILE, KIND],
     ),
     (
         "gettext",
-        "Writes the text of a text file to standard output",
+        "Write the text of a text file to standard output",
         &[IMAGE, FORM, FILE_OR_SLOT, SLOT, WRITTEN],
     ),
     (
         "puttext",
-        "Adds a text file with the text of standard input",
+        "Add a text file with the text of standard input",
         &[IMAGE, FORM, FILE],
     ),
     (
         "krunch",
-        "Moves the files together; bad blocks stay where they are, and between them gaps may stay too",
+        "Move the files together; bad blocks are not moved, and gaps may remain between them",
         &[IMAGE, FORM],
     ),
     (
         "date",
-        "Sets the volume's last date",
+        "Set the volume's last date",
         &[
             IMAGE,
             FORM,
-            ("Y", Form::Word, "The year, 0 to 127"),
-            ("M", Form::Word, "The month, 1 to 12"),
-            ("D", Form::Word, "The day, 1 to 31"),
+            ("Y", Form::Word, "Year, 0 to 127 (84 for 1984)"),
+            ("M", Form::Word, "Month, 1 to 12"),
+            ("D", Form::Word, "Day, 1 to 31"),
         ],
     ),
     (
         "zero",
-        "Forgets all files and gives the volume a name",
+        "Delete all files and rename the volume",
         &[IMAGE, FORM, VOLUME],
     ),
     (
         "remove",
-        "Removes a file, or all whose names fit a pattern",
+        "Remove a file, or all files whose names match a pattern",
         &[
             IMAGE,
             FORM,
             (
                 "NAME",
                 Form::Maybe,
-                "The file's name, in either case; not beside --slot or --matching",
+                "File name, in upper or lower case; cannot be used with --slot or --matching",
             ),
             SLOT,
             (
                 "matching",
                 Form::Free("PATTERN"),
-                "Removes the files whose names fit the pattern, in which = stands for any characters",
+                "Remove all files whose names match PATTERN; = matches any characters",
             ),
             (
                 "dry-run",
                 Form::Flag,
-                "Lists the files that --matching would remove, and removes none",
+                "List the files that --matching would remove; remove nothing",
             ),
         ],
     ),
     (
         "change",
-        "Gives a file another name",
+        "Rename a file",
         &[
             IMAGE,
             FORM,
             (
                 "OLD",
                 Form::Word,
-                "The file's name, in either case; beside --slot its other name",
+                "File name, in upper or lower case; with --slot, the new name",
             ),
             (
                 "NEW",
                 Form::Unless("slot"),
-                "The other name; not beside --slot",
+                "New name; cannot be used with --slot",
             ),
             SLOT,
         ],
     ),
     (
         "kind",
-        "Gives a file another kind",
+        "Change the kind of a file",
         &[
             IMAGE,
             FORM,
             (
                 "NAME",
                 Form::Word,
-                "The file's name, in either case; beside --slot its kind",
+                "File name, in upper or lower case; with --slot, the new kind",
             ),
             (
                 "KIND",
                 Form::Unless("slot"),
-                "The kind, by its word in a list or its number 0 to 15; not beside --slot",
+                "New kind: its name as in the list, or a number from 0 to 15; cannot be used with --slot",
             ),
             SLOT,
         ],
     ),
     (
         "copy",
-        "Adds a file of the volume whose image standard input is, with its kind and date",
+        "Copy a file, with its kind and date, from the volume image on standard input",
         &[
             IMAGE,
             FORM,
@@ -301,55 +281,55 @@ const VERBS: &[CommandRow] = &[
             (
                 "slot",
                 Form::Free("N"),
-                "The file's place in the list of that volume, from 1; NAME is then its new name",
+                "Select the file by its position in the list of that volume, from 1; NAME is then its new name",
             ),
         ],
     ),
     (
         "new",
-        "Makes a new volume without files, in the place of what the file has",
+        "Create a new volume without files, replacing the contents of the image",
         &[
             IMAGE,
             FORM,
             VOLUME,
-            ("BLOCKS", Form::Word, "The number of blocks, 6 to 65535"),
+            ("BLOCKS", Form::Word, "Number of blocks, 6 to 65535"),
         ],
     ),
     (
         "duplicate",
-        "Makes a second copy of the directory in blocks 6 to 9, which must be free",
+        "Write a second copy of the directory to blocks 6 to 9, which must be free",
         &[IMAGE, FORM],
     ),
     (
         "single",
-        "Drops the second copy of the directory, so that blocks 6 to 9 are free",
+        "Drop the second copy of the directory, so that blocks 6 to 9 are free",
         &[IMAGE, FORM],
     ),
     (
         "repair",
-        "Puts the second copy of the directory in the place of a damaged first (refused volume 13)",
+        "Replace a damaged first copy of the directory (refused volume 13) by the second copy",
         &[IMAGE, FORM],
     ),
     (
         "check",
-        "Says what is wrong with the image, line by line, whether it is a volume or not",
+        "Print what is wrong with the image, one problem per line, even if it is not a volume",
         &[IMAGE, FORM],
     ),
     (
         "salvage",
-        "Makes a new volume of the files whose entries make sense by themselves; the image stays",
+        "Copy all files with valid directory entries to a new volume; the image is not changed",
         &[
             IMAGE,
             FORM,
             (
                 "NEWPATH",
                 Form::Word,
-                "The new volume's file, which must not be there",
+                "File for the new volume, which must not exist",
             ),
             (
                 "second",
                 Form::Flag,
-                "Goes by the second copy of the directory, in blocks 6 to 9",
+                "Use the second copy of the directory, in blocks 6 to 9",
             ),
         ],
     ),
@@ -357,64 +337,64 @@ const VERBS: &[CommandRow] = &[
 
 /// The commands of the debugger.
 const DEBUG_HELP: &str = "\
-Commands, one a line, numbers in decimal, or as $1F with at most four hexadecimal digits:
-  break S P O    sets a breakpoint: segment, procedure, distance in bytes from its entry; with if A = W behind,
-                 one that stops where the word at the even address A is W; it takes the place of one there
-  clear S P O    takes it away
-  reads A N, writes A N   sets a breakpoint on N words from an even address on: a run stops before a step that reads, or
-                 writes, one of them; with if B = W behind, where the word at the even address B is W
-  clear reads A N, clear writes A N   takes it away
-  go N           makes at most N steps
-  poke A W       writes a word at an even address
-  key B          lets a byte wait on the console
-  type \"TEXT\"    lets those of a text wait, as the assembler spells it
-  stack N        the words on the stack, at most N
-  static N       the frames by their static links, at most N
-  dynamic N      the frames by their dynamic links, at most N
-  local D B      variable B of the procedure D static links up
-  regs           the registers
-  place N        where the segment of slot N stands, for how many calls and keeps
-  trace          the line of a trace for the next step
-  peek A N       at most N words of memory from an even address on
-  bytes A N      at most N bytes of memory, in hexadecimal digits and as characters
-  where          segment, procedure and offset of IPC, as break takes them, and the instruction
-  breaks         the breakpoints, and behind them how many more are passed over
-  frames N       the frames by their dynamic links, each with where it returns to, at most N
-  list N         the next N instructions, each behind its offset
-  console N      the last N bytes of the console, as the assembler spells a text
-  console on     shows before each answer what the command wrote to the console
-  console off    shows it no more
-  step [N]       makes one instruction, with all that it calls, by at most N steps
-  finish [N]     makes what is left of the running procedure, with its return, by at most N steps
-  until S P O    makes steps up to this place; with N behind, at most so many
-  on N           goes on with the last run, where its limit stopped it, by at most N steps more
-  ignore K       lets runs pass over K breakpoints that would stop them
-  watch A        stops a run before a step where the word at an even address has changed
-  unwatch A      watches it no more
-  watches        the addresses of the watched words
-  help           the commands
-  quit           ends the session
-Answers: ok, numbers, ended K, error N K, limit K, waiting K, break K, stop K, changed K A; `?` is no command,
-and refused N: 1 beside 64 breakpoints or watched words, 2 no such one, 3 an odd address, 5 a depth above 127,
-6 nothing is left of the last run
+Commands, one per line. Numbers are decimal, or $ and at most four hexadecimal digits, as in $1F:
+  break S P O    set a breakpoint at offset O, in bytes from the entry of procedure P of segment S; with `if A = W`
+                 after it, stop only if the word at the even address A is W; replaces one at the same position
+  clear S P O    remove this breakpoint
+  reads A N, writes A N   set a breakpoint on the N words from the even address A: a run stops before a step that reads,
+                 or writes, one of them; with `if B = W` after it, only if the word at the even address B is W
+  clear reads A N, clear writes A N   remove this breakpoint
+  go N           run at most N steps
+  poke A W       write the word W to the even address A
+  key B          append the byte B to the console input
+  type \"TEXT\"    append the bytes of a text to the console input, spelled as in the assembler
+  stack N        print at most N words on the stack
+  static N       print at most N frames, following the static links
+  dynamic N      print at most N frames, following the dynamic links
+  local D B      print variable B of the procedure D static links up
+  regs           print the registers
+  place N        print the address of the segment in slot N, its calls in progress and its keeps
+  trace          print the trace line of the next step
+  peek A N       print at most N words of memory from the even address A
+  bytes A N      print at most N bytes of memory from address A, in hexadecimal and as characters
+  where          print segment, procedure and offset of IPC, as for break, and the next instruction
+  breaks         print the breakpoints, and how many more are ignored
+  frames N       print at most N frames, following the dynamic links, each with the position to which it returns
+  list N         print the next N instructions, each with its offset
+  console N      print the last N bytes written to the console, spelled as in the assembler
+  console on     before each answer, print what the command wrote to the console
+  console off    stop printing it
+  step [N]       run one instruction and everything that it calls, at most N steps
+  finish [N]     run the rest of the current procedure and its return, at most N steps
+  until S P O    run up to this position; with N after it, at most N steps
+  on N           continue the last run that its limit stopped, for at most N more steps
+  ignore K       do not stop at the next K breakpoints
+  watch A        stop a run before a step if the word at the even address A has changed
+  unwatch A      stop watching this word
+  watches        print the addresses of the watched words
+  help           print the commands
+  quit           end the session
+Answers: ok, numbers, ended K, error N K, limit K, waiting K, break K, stop K, changed K A; `?` for an unknown command;
+refused 1: 64 breakpoints or watched words are set already; refused 2: not set; refused 3: odd address;
+refused 5: depth above 127; refused 6: no run to continue
 `--limit` has no effect here.
 ";
 
 const RAW: CommandRow = (
     "raw",
-    "Runs the program that standard input spells in hexadecimal digits, and writes its trace",
+    "Run the program given in hexadecimal digits on standard input, and print its trace",
     &[LIMIT, FROM, SEGMENT, PROCEDURE, CALLS, PLACES],
 );
 
 const FILES: CommandRow = (
     "files",
-    "Lists, gets and changes the files of a volume",
+    "List, read and change the files of a volume",
     &[IMAGE, FORM],
 );
 
 const RUN: CommandRow = (
     "run",
-    "Runs a code file of the disk on unit 4, with the standard streams as its console",
+    "Run a code file on unit 4; standard input and output are its console",
     &[
         D4, D5, D9, D10, D11, D12, FORM, LIMIT, UNLIMITED, SYSTEM, PROGRAM, SAVE, SAVE_ALL,
         PRINTER, ESCAPE,
@@ -423,7 +403,7 @@ const RUN: CommandRow = (
 
 const TRACE: CommandRow = (
     "trace",
-    "Runs a code file of the disk on unit 4, with standard input as its console, and writes its trace",
+    "Run a code file on unit 4, with standard input as its console, and print its trace",
     &[
         D4, D5, D9, D10, D11, D12, FORM, LIMIT, UNLIMITED, SYSTEM, PROGRAM, FROM, SEGMENT,
         PROCEDURE, CALLS, PLACES, WRITTEN,
@@ -433,12 +413,12 @@ const TRACE: CommandRow = (
 const INPUT: WordRow = (
     "input",
     Form::Free("PATH"),
-    "The file whose bytes wait on the console from the start on",
+    "Put the bytes of this file into the console input at the start",
 );
 
 const DEBUG: CommandRow = (
     "debug",
-    "Debugs a code file of the disk on unit 4, by the commands of standard input",
+    "Debug a code file on unit 4 with commands from standard input",
     &[
         D4, D5, D9, D10, D11, D12, FORM, LIMIT, SYSTEM, INPUT, PROGRAM,
     ],
@@ -447,57 +427,53 @@ const DEBUG: CommandRow = (
 const NAMES: WordRow = (
     "names",
     Form::Flag,
-    "Writes notes behind lines: the names of what they call, and what is no p-code",
+    "Add comments to lines: the names of what they call, and what is not p-code",
 );
 
 const OWN_LISTING: WordRow = (
     "list",
     Form::Flag,
-    "Writes the listing in place of the text, by the file's own bytes and offsets; not beside --names",
+    "Print the listing, with the file's own bytes and offsets, instead of the text; cannot be used with --names",
 );
 
 const STATEMENTS: WordRow = (
     "statements",
     Form::Flag,
-    "Writes the code as statements, in the terms of Pascal; not beside --names or --list",
+    "Print the code as statements in the style of Pascal; cannot be used with --names or --list",
 );
 
 const INDENT: WordRow = (
     "indent",
     Form::Flag,
-    "Writes the code as statements, each behind two blanks for each jump around it; not beside --names or --list",
+    "Print statements, indented by two spaces for each jump around them; cannot be used with --names or --list",
 );
 
 const BLOCKS: WordRow = (
     "blocks",
     Form::Flag,
-    "Writes the code as statements in blocks: IF, ELSE, WHILE, REPEAT, CASE; not beside --names, --list or --indent",
+    "Print statements in blocks: IF, ELSE, WHILE, REPEAT, CASE; cannot be used with --names, --list or --indent",
 );
 
 /// The file that is read.
 const READ: WordRow = (
     "FILE",
     Form::Maybe,
-    "The file that is read, in the place of standard input; beside --image a file of that volume",
+    "Read this file instead of standard input; with --image, a file on that volume",
 );
 
 /// The image that has the file that is read.
-const ON_IMAGE: WordRow = (
-    "image",
-    Form::Free("PATH"),
-    "The image whose volume has the file that is read",
-);
+const ON_IMAGE: WordRow = ("image", Form::Free("PATH"), "Disk image that contains FILE");
 
 /// The file that is written.
 const WRITTEN: WordRow = (
     "output",
     Form::Lettered('o', "PATH"),
-    "The file that gets what is written, whole or not at all, in the place of standard output",
+    "Write to this file, completely or not at all, instead of standard output",
 );
 
 const DIS: CommandRow = (
     "dis",
-    "Writes the text of a code file: its segments, procedures and items",
+    "Disassemble a code file: print its segments, procedures and instructions",
     &[
         NAMES,
         OWN_LISTING,
@@ -514,24 +490,24 @@ const DIS: CommandRow = (
 const LIST: WordRow = (
     "list",
     Form::Flag,
-    "Writes the listing in place of the code file",
+    "Print the listing instead of writing the code file",
 );
 
 const ALL: WordRow = (
     "all",
     Form::Flag,
-    "Writes all faults of the text, a line each, and no code file; not beside --list",
+    "Print all errors of the text, one per line, and write no code file; cannot be used with --list",
 );
 
 const SYMBOLS: WordRow = (
     "symbols",
     Form::Flag,
-    "Writes where each procedure and label stands, a line each, and no code file; not beside --list or --all",
+    "Print a line for each procedure and label with its position, no code file; cannot be used with --list or --all",
 );
 
 const ASM: CommandRow = (
     "asm",
-    "Writes the code file of a text of the assembler",
+    "Assemble a text, and write its code file",
     &[LIST, ALL, SYMBOLS, ON_IMAGE, FORM, READ, WRITTEN],
 );
 
@@ -561,7 +537,7 @@ fn args<'a>(alloc: Global, rows: &[WordRow]) -> Result<Vec<Arg<'a>>, AllocError>
 const QUIET: WordRow = (
     "quiet",
     Form::Flag,
-    "Says nothing on standard error; the status tells",
+    "Print nothing on standard error; the exit status shows the result",
 );
 
 fn command_of<'a>(alloc: Global, row: CommandRow) -> Result<Command<'a>, AllocError> {
@@ -614,7 +590,7 @@ pub fn all_commands<'a>(alloc: Global) -> Result<Command<'a>, AllocError> {
     let commands = commands(alloc)?;
     Command::new(alloc, "pmach")
         .version(VERSION)
-        .about("The p-machine of UCSD Pascal version II. With no words it does `raw`")
-        .after_help("docs/COMMANDS.md has all commands, messages and numbers.\n")
+        .about("The p-machine of UCSD Pascal version II. Without arguments it does `raw`")
+        .after_help("docs/COMMANDS.md explains all commands, messages and numbers.\n")
         .subcommands(commands)
 }

@@ -16,7 +16,7 @@ use pm_filer::kind_word;
 use std::alloc::Global;
 
 /// What is wrong with the word for a slot.
-const SLOT: &str = "the slot is a number of decimal digits, at most 65535";
+const SLOT: &str = "invalid --slot: it must be a decimal number, at most 65535";
 
 /// A command on the image that a file has, or a new image for it.
 #[derive(Drop)]
@@ -122,7 +122,7 @@ fn kind_of(matches: &ArgMatches<'_>, id: &str) -> Result<u8, WordsError>
     ensures refused { IsThere (word_found (words_of matches.now) id.now) → IfErr result IsWrong }
 {
     kind(needed(matches, id)?).ok_or(WordsError::Wrong(
-        "KIND is none, badb, code, text, info, data, graf, foto, secd, or a number 0 to 15",
+        "invalid KIND: it must be none, badb, code, text, info, data, graf, foto, secd, or a number from 0 to 15",
     ))
 }
 
@@ -133,7 +133,7 @@ fn blocks_of(matches: &ArgMatches<'_>) -> Result<u16, WordsError>
     ensures refused { IsThere (word_found (words_of matches.now) (codes "BLOCKS")) → IfErr result IsWrong }
 {
     short_number(needed(matches, "BLOCKS")?).ok_or(WordsError::Wrong(
-        "BLOCKS is a number of decimal digits, at most 65535",
+        "invalid BLOCKS: it must be a decimal number, at most 65535",
     ))
 }
 
@@ -181,7 +181,7 @@ fn name_or_slot(alloc: Global, matches: &ArgMatches<'_>, id: &str) -> Result<Cho
             let slot = short_number(text).ok_or(WordsError::Wrong(SLOT))?;
             Ok(Chosen::InSlot(slot))
         }
-        (Some(_), Some(_)) => Err(WordsError::Wrong("--slot stands in place of the file's name")),
+        (Some(_), Some(_)) => Err(WordsError::Wrong("with --slot, omit the file's name")),
         (None, None) => Err(WordsError::NoCommand),
     }
 }
@@ -224,7 +224,7 @@ fn list(alloc: Global, matches: &ArgMatches<'_>) -> Result<Verb, WordsError>
             let pattern = String::from_str(alloc, pattern)?;
             Ok(Verb::Command(FileCommand::ListFitting(pattern)))
         }
-        (Some(_), true) => Err(WordsError::Wrong("--all does not stand beside --matching")),
+        (Some(_), true) => Err(WordsError::Wrong("--all cannot be used with --matching")),
     }
 }
 
@@ -241,9 +241,7 @@ fn remove_fitting(
 {
     use pm_filer::FileCommand;
     if found(matches, "NAME").is_some() || found(matches, "slot").is_some() {
-        return Err(WordsError::Wrong(
-            "--matching stands in place of the file's name and of --slot",
-        ));
+        return Err(WordsError::Wrong("--matching cannot be used with a file name or --slot"));
     }
     let pattern = String::from_str(alloc, pattern)?;
     let command = if is_set(matches, "dry-run") {
@@ -264,7 +262,7 @@ fn remove(alloc: Global, matches: &ArgMatches<'_>) -> Result<Verb, WordsError>
         return remove_fitting(alloc, matches, pattern);
     }
     if is_set(matches, "dry-run") {
-        return Err(WordsError::Wrong("--dry-run stands beside --matching"));
+        return Err(WordsError::Wrong("--dry-run requires --matching"));
     }
     Ok(Verb::Command(match name_or_slot(alloc, matches, "NAME")? {
         Chosen::Named(name) => FileCommand::Remove(name),
@@ -370,8 +368,8 @@ fn path_of(before: Option<String>, behind: Option<String>) -> Result<String, Wor
     match (before, behind) {
         (Some(path), None) => Ok(path),
         (None, Some(path)) => Ok(path),
-        (Some(_), Some(_)) => Err(WordsError::Wrong("the option --image is given twice")),
-        (None, None) => Err(WordsError::Wrong("the option --image is wanted")),
+        (Some(_), Some(_)) => Err(WordsError::Wrong("--image is given twice")),
+        (None, None) => Err(WordsError::Wrong("missing option: --image PATH")),
     }
 }
 

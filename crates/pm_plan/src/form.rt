@@ -12,7 +12,7 @@ use pm_check::Order;
 
 /// What is wrong with the word for a form.
 const FORM: &str =
-    "FORM is blocks, dos, swapped or 2mg; examples/form.sh makes an image of another form readable";
+    "invalid --form: it must be blocks, dos, swapped or 2mg; examples/form.sh converts images in other formats";
 
 /// How an image stands in its file.
 #[derive(Clone, Copy)]
@@ -60,6 +60,6 @@ pub fn form_asked(matches: &ArgMatches<'_>) -> Result<Form, WordsError>
     match (found(matches, "form"), word_below(matches)) {
         (None, None) => Ok(Form::In(Order::Blocks)),
         (Some(word), None) | (None, Some(word)) => Form::named(word).ok_or(WordsError::Wrong(FORM)),
-        (Some(_), Some(_)) => Err(WordsError::Wrong("the option --form is given twice")),
+        (Some(_), Some(_)) => Err(WordsError::Wrong("--form is given twice")),
     }
 }

@@ -54,7 +54,7 @@ fn run_limit_of(matches: &ArgMatches<'_>) -> Result<u64, WordsError>
     }
     match found(matches, "limit") {
         None => Ok(u64::MAX),
-        Some(_) => Err(WordsError::Wrong("--limit and --unlimited do not go together")),
+        Some(_) => Err(WordsError::Wrong("--limit and --unlimited cannot be used together")),
     }
 }
 
@@ -125,7 +125,7 @@ fn saving_of(matches: &ArgMatches<'_>) -> Result<Saving, WordsError>
         (false, false) => Ok(Saving::Nothing),
         (true, false) => Ok(Saving::First),
         (false, true) => Ok(all_own(matches)),
-        (true, true) => Err(WordsError::Wrong("--save and --save-all do not go together")),
+        (true, true) => Err(WordsError::Wrong("--save and --save-all cannot be used together")),
     }
 }
 
@@ -137,7 +137,7 @@ fn unsaved(matches: &ArgMatches<'_>) -> Result<(), WordsError>
 {
     if is_set(matches, "save") && found(matches, "system").is_some() {
         return Err(WordsError::Wrong(
-            "--save would keep the segment of --system in the image; examples/with-system.sh puts it there for good",
+            "--save would save the segment of --system too; examples/with-system.sh adds it to the image permanently",
         ));
     }
     Ok(())

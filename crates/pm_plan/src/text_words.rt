@@ -42,7 +42,7 @@ fn text_input(alloc: Global, matches: &ArgMatches<'_>) -> Result<TextInput, Word
         (None, Some(path)) => Ok(TextInput::File(path)),
         (Some(image), Some(name)) => Ok(TextInput::OnImage { image, name }),
         (Some(_), None) => Err(WordsError::Wrong(
-            "beside --image stands the name of a file that the volume has",
+            "--image requires FILE, the name of a file on that volume",
         )),
     }
 }

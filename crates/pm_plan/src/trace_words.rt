@@ -23,7 +23,7 @@ fn first_of(matches: &ArgMatches<'_>) -> Result<u32, WordsError>
 {
     match found(matches, "from") {
         Some(text) => number(text).ok_or(WordsError::Wrong(
-            "the first step of --from is a number of decimal digits, at most 4294967295",
+            "invalid --from: it must be a decimal number, at most 4294967295",
         )),
         None => Ok(0),
     }
@@ -60,7 +60,7 @@ fn code_of(matches: &ArgMatches<'_>) -> Result<Code, WordsError>
 {
     let code = code_by(found(matches, "segment"), found(matches, "procedure"));
     code.ok_or(WordsError::Wrong(
-        "--segment and --procedure are numbers of decimal digits, at most 255, and --procedure stands beside --segment",
+        "--segment and --procedure must be decimal numbers, at most 255, and --procedure requires --segment",
     ))
 }
 

@@ -26,7 +26,7 @@ use std::{fmt, io};
 const LIMIT: u32 = 10_000_000;
 
 /// What is wrong with the words of a date.
-pub(crate) const DATE: &str = "Y, M and D are numbers of decimal digits, at most 255";
+pub(crate) const DATE: &str = "invalid date: Y, M and D must be decimal numbers, at most 255";
 
 /// What the words ask for.
 #[derive(Drop)]
@@ -90,14 +90,14 @@ impl fmt::Display for WordsError {
             WordsError::Usage(error) | WordsError::Meant(error, _) => write!(f, "{error}"),
             WordsError::Tried(error, line) => writeln!(f, "{error}{line}"),
             WordsError::NoCommand => f.write_str(
-                "error: no command among the words; --help lists them\n",
+                "error: missing command; 'pmach --help' lists the commands\n",
             ),
             WordsError::Wrong(text) => write!(f, "error: {text}\n"),
             WordsError::Version(error) => write!(f, "{error}"),
             WordsError::NoValue => f.write_str(
-                "error: an option has no value; --help tells what it takes\n",
+                "error: the value of an option is empty, as in --image=; --help shows which values it takes\n",
             ),
-            WordsError::NotText => f.write_str("error: a word is not UTF-8\n"),
+            WordsError::NotText => f.write_str("error: an argument is not valid UTF-8\n"),
             WordsError::NoMemory => writeln!(f, "{}", Fault::NoMemory.text()),
         }
     }
@@ -108,7 +108,9 @@ impl WordsError {
     pub fn hint(&self) -> Option<&'static str> {
         match self {
             WordsError::Meant(_, line) => Some(line),
-            WordsError::Wrong(text) if *text == DATE => Some("a year is 0 to 127, as 84 for 1984"),
+            WordsError::Wrong(text) if *text == DATE => Some(
+                "Y is 0 to 127 (84 for 1984), M 1 to 12, D 1 to 31",
+            ),
             _ => None,
         }
     }
@@ -207,7 +209,7 @@ pub fn limit_of(matches: &ArgMatches<'_>) -> Result<u32, WordsError>
 {
     match found(matches, "limit") {
         Some(text) => number(text).ok_or(WordsError::Wrong(
-            "the limit is a number of decimal digits, at most 4294967295",
+            "invalid --limit: it must be a decimal number, at most 4294967295",
         )),
         None => Ok(LIMIT),
     }
@@ -240,7 +242,7 @@ fn asm_output(matches: &ArgMatches<'_>) -> Result<AsmOutput, WordsError>
         (false, true, false) => Ok(AsmOutput::Listing),
         (true, false, false) => Ok(AsmOutput::Faults),
         (false, false, true) => Ok(AsmOutput::Symbols),
-        _ => Err(WordsError::Wrong("of --list, --all and --symbols one alone may stand")),
+        _ => Err(WordsError::Wrong("--list, --all and --symbols cannot be used together")),
     }
 }
 
@@ -258,14 +260,14 @@ fn dis_output(matches: &ArgMatches<'_>) -> Result<DisOutput, WordsError>
     if is_set(matches, "blocks") {
         if is_set(matches, "names") || is_set(matches, "list") || is_set(matches, "indent") {
             return Err(WordsError::Wrong(
-                "--blocks does not stand beside --names, --list or --indent",
+                "--blocks cannot be used with --names, --list or --indent",
             ));
         }
         return Ok(DisOutput::Blocks);
     }
     if is_set(matches, "indent") {
         if is_set(matches, "names") || is_set(matches, "list") {
-            return Err(WordsError::Wrong("--indent does not stand beside --names or --list"));
+            return Err(WordsError::Wrong("--indent cannot be used with --names or --list"));
         }
         return Ok(DisOutput::Indented);
     }
@@ -279,8 +281,8 @@ fn dis_output(matches: &ArgMatches<'_>) -> Result<DisOutput, WordsError>
         (true, false, false) => Ok(DisOutput::Names),
         (false, true, false) => Ok(DisOutput::Listing),
         (false, false, true) => Ok(DisOutput::Statements),
-        (true, true, false) => Err(WordsError::Wrong("--names and --list do not go together")),
-        _ => Err(WordsError::Wrong("of --names, --list and --statements one alone may stand")),
+        (true, true, false) => Err(WordsError::Wrong("--names and --list cannot be used together")),
+        _ => Err(WordsError::Wrong("--names, --list and --statements cannot be used together")),
     }
 }
 
@@ -346,25 +348,25 @@ fn plan_asked(alloc: Global, matches: &ArgMatches<'_>) -> Result<Asked, WordsErr
     })
 }
 
-/// What may be meant by words of a command that it does not take.
+/// Returns a hint for arguments that a command does not accept, if it is known what can be meant.
 fn meant_by(words: &[String]) -> Option<&'static str> {
     let has = |option| words.iter().any(|word| word.as_str().starts_with(option));
     match words.get(1)?.as_str() {
         "asm" => Some(
-            "pmach asm takes one file, and what it writes behind -o: pmach asm TEXT -o CODE",
+            "pmach asm reads one file; name the file to write with -o: pmach asm TEXT -o CODE",
         ),
-        "dis" => Some("pmach dis takes one file: pmach dis CODE"),
+        "dis" => Some("pmach dis reads one file: pmach dis CODE"),
         "files" if !has("--image") => {
-            Some("the image stands behind --image: pmach files --image IMAGE list")
+            Some("name the image with --image: pmach files --image IMAGE list")
         }
         "run" | "trace" | "debug" if !has("--d4") => {
-            Some("the image of unit 4 stands behind --d4: pmach run --d4 IMAGE NAME")
+            Some("name the image of unit 4 with --d4: pmach run --d4 IMAGE NAME")
         }
         _ => None,
     }
 }
 
-/// The command that may be meant by a first word that is none, if it is a verb or a name of a job in other words.
+/// Returns a hint for an unknown command, if it is a verb of `files` or a common name of a command.
 fn command_for(word: &str) -> Option<&'static str> {
     match word {
         "list"
@@ -384,20 +386,49 @@ fn command_for(word: &str) -> Option<&'static str> {
         | "single"
         | "repair"
         | "check"
-        | "salvage" => { Some("it is a verb of files: pmach files --image IMAGE list") }
-        "ls" | "dir" | "cat" | "catalog" => Some("pmach files --image IMAGE list lists the files"),
-        "assemble" | "as" => Some("pmach asm TEXT -o CODE assembles"),
-        "disassemble" | "disasm" => Some("pmach dis CODE disassembles"),
+        | "salvage" => {
+            Some(
+                "this is a verb of 'pmach files', which is used as in: pmach files --image IMAGE list",
+            )
+        }
+        "ls" | "dir" | "cat" | "catalog" => Some(
+            "to list the files: pmach files --image IMAGE list",
+        ),
+        "assemble" | "as" => Some("to assemble: pmach asm TEXT -o CODE"),
+        "disassemble" | "disasm" => Some("to disassemble: pmach dis CODE"),
         _ => None,
     }
 }
 
-/// The refusal of words by clap, with the line that says what may be meant where a word is one that it does not take.
+/// Returns a hint for an unknown verb of `files`, if it is known what can be meant. clap may suggest a similar word
+/// that does something else, such as `remove` for `rename`.
+fn verb_for(words: &[String]) -> Option<&'static str> {
+    let has = |name: &str| words.iter().any(|word| word.as_str() == name);
+    if has("rename") || has("ren") || has("mv") {
+        Some("to rename a file, use the verb change: pmach files --image IMAGE change OLD NEW")
+    } else if has("rm") || has("del") || has("delete") {
+        Some("to remove a file: pmach files --image IMAGE remove NAME")
+    } else if has("cat") || has("type") {
+        Some("to print a text file: pmach files --image IMAGE gettext NAME")
+    } else if has("ls") || has("dir") {
+        Some("to list the files: pmach files --image IMAGE list")
+    } else {
+        None
+    }
+}
+
+/// Returns the error for arguments that clap rejects, with a hint if it is known what can be meant.
 fn refused(error: clap::Error, words: &[String]) -> WordsError {
     let line = match error.kind() {
         ErrorKind::UnknownArgument => meant_by(words),
         ErrorKind::InvalidSubcommand => {
-            return match words.get(1).and_then(|word| command_for(word.as_str())) {
+            let command = words.get(1).map(|word| word.as_str());
+            let hint = match command {
+                Some("files") => verb_for(words),
+                Some(word) => command_for(word),
+                None => None,
+            };
+            return match hint {
                 Some(line) => WordsError::Meant(error, line),
                 None => WordsError::from(error),
             };

@@ -1,16 +1,49 @@
-//! Which file a refused program is about: what a terminal is told.
-use pm_plan::{Plan, Program};
-use pm_tool::About;
+//! The files that a refusal is about, by the names that the user typed: for the second line on a terminal.
+use crate::say::Plain;
+use pm_filer::{FileCommand, FilerFault};
+use pm_plan::{Form, Order, Plan, Program, TextInput, Verb};
+use pm_tool::{About, Hint, Outcome, Refusal};
+use pm_volume::VolumeFault;
 use std::alloc::{AllocError, Global};
+use std::fmt;
 
-/// The paths of a program's disks, in the order of their units, and that of the system's code file.
+/// The most characters of a file's name that a message repeats.
+const MOST: usize = 120;
+
+/// A file's name in a message, cut after 120 characters.
+#[derive(Clone, Copy)]
+struct Short<'a>(&'a str);
+
+impl fmt::Display for Short<'_> {
+    fn fmt<W: fmt::Write>(&self, f: &mut fmt::Formatter<W>) -> fmt::Result {
+        for (count, letter) in self.0.chars().enumerate() {
+            if count == MOST {
+                return f.write_str(" ..");
+            }
+            f.write_char(if letter.is_control() { '?' } else { letter })?;
+        }
+        Ok(())
+    }
+}
+
+/// A program's name, the paths of its disks in the order of their units, and the path of the system's code file.
 #[derive(Drop)]
 pub struct Disks {
+    name: String,
     paths: [Option<String>; 6],
     system: Option<String>,
 }
 
-/// A copy of a path, where there is one.
+/// The files of a command that a refusal can be about.
+#[derive(Drop)]
+pub enum Named {
+    /// The files of a program that is run, traced or debugged.
+    Program(Disks),
+    /// The image that a verb of `files` reads or changes, or that contains the file that `asm` or `dis` reads.
+    Image(String),
+}
+
+/// Returns a copy of a path, if there is one.
 pub(crate) fn copy_of(alloc: Global, path: &Option<String>) -> Result<Option<String>, AllocError> {
     match path {
         Some(path) => Ok(Some(String::from_str(alloc, path.as_str())?)),
@@ -18,10 +51,11 @@ pub(crate) fn copy_of(alloc: Global, path: &Option<String>) -> Result<Option<Str
     }
 }
 
-/// The paths of a program's disks.
-fn paths_of(alloc: Global, program: &Program) -> Result<Disks, AllocError> {
+/// Returns the name and the paths of a program.
+fn disks_of(alloc: Global, program: &Program) -> Result<Disks, AllocError> {
     let [fifth, ninth, tenth, eleventh, twelfth] = &program.others;
     Ok(Disks {
+        name: String::from_str(alloc, program.name.as_str())?,
         paths: [
             Some(String::from_str(alloc, program.disk.as_str())?),
             copy_of(alloc, fifth)?,
@@ -34,17 +68,35 @@ fn paths_of(alloc: Global, program: &Program) -> Result<Disks, AllocError> {
     })
 }
 
-/// The paths of the disks of a plan, if it is one of a program and there is memory for them.
-pub fn disks_of(alloc: Global, plan: &Plan) -> Option<Disks> {
+/// Returns the path of the image of a plan. `None` for `check`, which prints the faults itself, and for verbs whose
+/// refusal can be about another volume: `new`, which creates one, and `copy`, which reads one from standard input.
+fn image_of(plan: &Plan) -> Option<&str> {
     match plan {
-        Plan::Run(program, _) | Plan::Trace(program, ..) | Plan::Debug(program, _) => {
-            paths_of(alloc, program).ok()
-        }
+        Plan::Files(plan) => match &plan.verb {
+            Verb::New(..) | Verb::Check => None,
+            Verb::Command(FileCommand::Copy(..) | FileCommand::CopySlot(..)) => None,
+            _ => Some(plan.path.as_str()),
+        },
+        Plan::Salvage(plan) => Some(plan.path.as_str()),
+        Plan::Asm(_, files) | Plan::Dis(_, files) => match &files.input {
+            TextInput::OnImage { image, .. } => Some(image.as_str()),
+            _ => None,
+        },
         _ => None,
     }
 }
 
-/// A unit and its path.
+/// Returns the files of a plan that a refusal can be about. `None` if there are none, or if memory is refused.
+pub fn named_in(alloc: Global, plan: &Plan) -> Option<Named> {
+    match plan {
+        Plan::Run(program, _) | Plan::Trace(program, ..) | Plan::Debug(program, _) => {
+            Some(Named::Program(disks_of(alloc, program).ok()?))
+        }
+        _ => Some(Named::Image(String::from_str(alloc, image_of(plan)?).ok()?)),
+    }
+}
+
+/// Returns the path of the image on a unit, with the unit.
 fn on_unit(alloc: Global, disks: &Disks, unit: u8) -> Option<String> {
     let path = match unit {
         4 => disks.paths[0].as_ref()?,
@@ -54,14 +106,52 @@ fn on_unit(alloc: Global, disks: &Disks, unit: u8) -> Option<String> {
         11 => disks.paths[4].as_ref()?,
         _ => disks.paths[5].as_ref()?,
     };
-    format!(in alloc; "unit {unit}: {path}").ok()
+    format!(in alloc; "{path} (unit {unit})").ok()
 }
 
-/// The file that a refusal is about: its unit and its path, or the path of the system's code file. `None` where there
-/// is no memory for the text.
-pub fn about(alloc: Global, disks: &Disks, about: About) -> Option<String> {
-    match about {
-        About::Unit(unit) => on_unit(alloc, disks, unit),
-        About::System => copy_of(alloc, &disks.system).ok()?,
+/// Returns the file that a refusal is about: its path, and its unit if it is a disk of a program. `None` if it is about
+/// none, or if memory is refused.
+pub fn about(alloc: Global, named: &Named, outcome: &Outcome) -> Option<String> {
+    match (named, outcome.about, outcome.refusal) {
+        (Named::Program(disks), Some(About::Unit(unit)), _) => on_unit(alloc, disks, unit),
+        (Named::Program(disks), Some(About::System), _) => copy_of(alloc, &disks.system).ok()?,
+        // an invalid name is about an argument
+        (_, _, Some(Refusal::Filer(FilerFault::Volume(VolumeFault::BadName)))) => None,
+        (Named::Image(path), _, Some(Refusal::Volume(_) | Refusal::Filer(FilerFault::Volume(_)))) =>
+            { String::from_str(alloc, path.as_str()).ok() }
+        _ => None,
+    }
+}
+
+/// Returns the option for a form in a suggested command, with a space before it; an empty text for blocks in order.
+fn form_option(form: Form) -> &'static str {
+    match form {
+        Form::In(Order::Blocks) => "",
+        Form::In(Order::Dos) => " --form dos",
+        Form::In(Order::Swapped) => " --form swapped",
+        Form::Headed => " --form 2mg",
+    }
+}
+
+/// Returns the message for a program that is not found (`refused boot 1`) or is not a code file (`refused boot 2`),
+/// with the command that helps. `None` for any other refusal, or if memory is refused.
+pub fn no_program(alloc: Global, named: &Named, form: Form, outcome: &Outcome) -> Option<String> {
+    let (Named::Program(disks), Some(Refusal::Boot(fault))) = (named, outcome.refusal) else {
+        return None;
+    };
+    let name = Short(disks.name.as_str());
+    let image = Plain(disks.paths[0].as_ref()?.as_str());
+    let option = form_option(form);
+    match (fault.number(), &outcome.hint) {
+        (1, Some(Hint::Named(other))) => {
+            format!(in alloc; "{image} (unit 4) has no file {name}, but it has {other}").ok()
+        }
+        (1, _) => format!(in alloc;
+            "{image} (unit 4) has no file {name}; list its files with: pmach files --image {image}{option} list"
+        ).ok(),
+        (2, _) => format!(in alloc;
+            "{name} on {image} (unit 4) is not a code file; 'files list' shows its kind, 'files put NAME code' adds one"
+        ).ok(),
+        _ => None,
     }
 }

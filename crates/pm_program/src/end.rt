@@ -1,55 +1,58 @@
-//! How the program ends.
+//! The end of the program: its exit status and its message.
 use pm_files::DiskFault;
 use pm_tool::{Exit, Outcome};
 
-/// What is wrong with paths or streams that do not go together.
+/// A conflict between paths, or between output and a terminal.
 #[derive(Clone, Copy)]
 pub enum Conflict {
-    /// An image that is to be saved is also that of another unit.
+    /// An image that is to be saved is also on another unit.
     SavedTwice,
-    /// The printer's bytes would be written over an image of the run.
+    /// The printer's output would overwrite an image of the run.
     PrinterIsImage,
-    /// The printer's bytes would be written over the system's code file.
+    /// The printer's output would overwrite the system's code file.
     PrinterIsSystem,
-    /// The printer's bytes would go to a folder.
+    /// The path for the printer's output is a folder.
     PrinterIsFolder,
-    /// A file of the job stands where the new file for another is made.
+    /// A file of the job has the path of the temporary file for another one.
     FileInTheWay,
-    /// A new volume would take the place of a file.
+    /// The file for a new volume exists.
     TargetIsThere,
-    /// What is written would take the place of what is read.
+    /// The output would overwrite a file that is read.
     OutputIsInput,
-    /// Bytes that are no text would go to a terminal.
+    /// Binary data would be written to a terminal.
     BytesOnTerminal,
 }
 
 impl Conflict {
-    /// What is said of it.
+    /// The line that reports it on standard error.
     pub fn text(self) -> &'static str {
         match self {
-            Conflict::SavedTwice => "error: the image that --save writes is that of two units",
-            Conflict::PrinterIsImage => "error: the path behind --printer is that of an image",
-            Conflict::PrinterIsSystem => "error: the path behind --printer is that behind --system",
-            Conflict::PrinterIsFolder => "error: the path behind --printer is that of a folder",
+            Conflict::SavedTwice =>
+                "error: an image to be saved (--save, --save-all) is on two units; use another image for one unit",
+            Conflict::PrinterIsImage =>
+                "error: --printer names a disk image of the run; name another file",
+            Conflict::PrinterIsSystem => "error: --printer and --system name the same file",
+            Conflict::PrinterIsFolder => "error: --printer names a folder; name a file",
             Conflict::FileInTheWay =>
-                "error: a path is that of another with .pmach-new, which is taken away where that is written",
-            Conflict::TargetIsThere => "error: the path of the new volume is that of a file",
+                "error: one file is the temporary file (PATH.pmach-new) of another, and would be deleted; rename it",
+            Conflict::TargetIsThere =>
+                "error: the file for the new volume exists; name a file that does not exist",
             Conflict::OutputIsInput =>
-                "error: the path behind --output is that of the file that is read",
+                "error: --output names a file that the command reads; name another file",
             Conflict::BytesOnTerminal =>
-                "error: these bytes are no text for a terminal; >FILE behind the command puts them into a file",
+                "error: refusing to write binary data to a terminal; write to a file with -o FILE or >FILE",
         }
     }
 }
 
-/// How the program ends: its status, and what it says on standard error.
+/// How the program ends: gives its exit status and its message on standard error.
 #[derive(Drop)]
 pub enum End {
-    /// A job was done, and came to this; and the unit and the file that its refusal is about, where that is known.
+    /// The result of a job, and the file (with its unit) that its refusal is about, if known.
     Outcome(Outcome, Option<String>),
-    /// A file could not be read or written: why, and which, where that is known.
+    /// A file could not be read or written: the reason, and its path if known.
     File(DiskFault, Option<String>),
-    /// The words do not go together: what is wrong with them.
+    /// The arguments are in conflict.
     Words(Conflict),
 }
 

@@ -5,12 +5,13 @@ ghost use Rattle.pm_plan.specs.Asked.{paths_in};
 ghost use Rattle.pm_program.specs.Conflicts.{are_shared, conflict_of, is_other, is_taken_away, names_image};
 ghost use Rattle.pm_program.specs.Conflicts.{others_take_away, printer_conflict, takes_away};
 
-use crate::about::{Disks, about, copy_of, disks_of};
+use crate::about::{Named, about, copy_of, named_in, no_program};
 use crate::console::{END, ESCAPE, Failed, Keys, Lined, Lines, Prompted};
 use crate::end::{Conflict, End};
 use crate::got::do_get;
 use crate::saved::{Printing, SavedOfRun, do_debug, do_files, do_run, do_salvage, do_trace};
 use crate::texts::do_text;
+use pm_filer::FileCommand;
 use pm_files::{DiskFault, Host, HostStore, Store, Stream};
 use pm_jobs::{AsmOutput, Reader, Saving, Sink, Source, Writer};
 use pm_plan::{
@@ -22,9 +23,9 @@ use std::alloc::{AllocError, Global};
 use std::io;
 use std::io::{Input, Read};
 
-/// What a terminal is told of a file of kind .2mg in which no volume has room.
+/// The second line on a terminal for a .2mg file that is too short for a volume.
 const HEADLESS: &str =
-    "no header of kind .2mg that fits begins the file, or it says fewer than 6 blocks";
+    "the file does not begin with a valid .2mg header, or the header gives fewer than 6 blocks";
 
 /// The name of standard output's file.
 const OUTPUT: &str = "/dev/stdout";
@@ -57,7 +58,7 @@ impl Terminals {
         }
     }
 
-    /// What is said before a plan's input is read.
+    /// The prompt for the input of a plan.
     fn prompt(self, plan: &Plan) -> Prompt {
         if self.input && self.error {
             prompt_of(plan)
@@ -67,7 +68,7 @@ impl Terminals {
     }
 }
 
-/// What is said before input is read from a terminal.
+/// A prompt on standard error, before input is read from a terminal.
 #[derive(Clone, Copy)]
 enum Prompt {
     Once(&'static str),
@@ -76,23 +77,33 @@ enum Prompt {
 
 fn prompt_of(plan: &Plan) -> Prompt {
     match plan {
-        Plan::Raw { .. } => Prompt::Once("pmach: reads hexadecimal digits; Ctrl-D ends them\n"),
+        Plan::Raw { .. } => Prompt::Once(
+            "pmach: reading hexadecimal digits from the terminal; end with Ctrl-D\n",
+        ),
         Plan::Asm(
             _,
             TextFiles {
                 input: TextInput::Standard,
                 ..
             },
-        ) => Prompt::Once("pmach: reads a text of the assembler; Ctrl-D ends it\n"),
+        ) => Prompt::Once("pmach: reading assembler text from the terminal; end with Ctrl-D\n"),
         Plan::Dis(
             _,
             TextFiles {
                 input: TextInput::Standard,
                 ..
             },
-        ) => { Prompt::Once("pmach: reads a code file; Ctrl-D ends it\n") }
+        ) => { Prompt::Once("pmach: reading a code file from the terminal; end with Ctrl-D\n") }
+        Plan::Files(
+            FilesPlan {
+                verb: Verb::Command(FileCommand::Copy(..) | FileCommand::CopySlot(..)),
+                ..
+            },
+        ) => Prompt::Once(
+            "pmach: reading the other volume's image from the terminal; end with Ctrl-D\n",
+        ),
         Plan::Files(plan) if plan.verb.reads() => Prompt::Once(
-            "pmach: reads the file; Ctrl-D ends it\n",
+            "pmach: reading the file's contents from the terminal; end with Ctrl-D\n",
         ),
         Plan::Debug(..) => Prompt::EachLine("> "),
         _ => Prompt::Once(""),
@@ -438,16 +449,21 @@ fn conflict_in<S: Store>(store: &S, plan: &Plan) -> Option<Conflict> {
     }
 }
 
-/// The end of a job that was done, with what its refusal is about. Where an image is too short for a volume, and its
-/// form that of a header, it may be the header that is missing.
-fn end_of_job(alloc: Global, disks: &Option<Disks>, form: Form, mut outcome: Outcome) -> End {
+/// Returns the end of a job with the file that its refusal is about. If an image with `--form 2mg` is too short for a
+/// volume, its header may be missing.
+fn end_of_job(alloc: Global, named: &Option<Named>, form: Form, mut outcome: Outcome) -> End {
     if let (Form::Headed, Some(Refusal::Volume(VolumeFault::TooShort))) = (form, outcome.refusal) {
         outcome.line = String::from_str(alloc, HEADLESS).ok();
     }
-    let about = match (disks, outcome.about) {
-        (Some(disks), Some(file)) => about(alloc, disks, file),
-        _ => None,
+    let Some(named) = named else {
+        return End::Outcome(outcome, None);
     };
+    if let Some(line) = no_program(alloc, named, form, &outcome) {
+        outcome.hint = None;
+        outcome.line = Some(line);
+        return End::Outcome(outcome, None);
+    }
+    let about = about(alloc, named, &outcome);
     End::Outcome(outcome, about)
 }
 
@@ -499,7 +515,7 @@ fn in_form<S: Drop>(
     })
 }
 
-/// Does the job of a plan, and answers its end: where that is told, with what a refusal is about.
+/// Does the job of a plan and returns its end; with the file that a refusal is about if standard error is a terminal.
 fn end_of_plan<R: Host + AllocGlobal, I: Source, O: Sink>(
     rt: &R,
     store: HostStore<R>,
@@ -511,8 +527,8 @@ fn end_of_plan<R: Host + AllocGlobal, I: Source, O: Sink>(
     requires well { AreWell (both (I.seen source.old) (O.seen sink.old)) }
 {
     let Asked { plan, form, .. } = asked;
-    let disks = if is_told {
-        disks_of(rt.alloc(), &plan)
+    let named = if is_told {
+        named_in(rt.alloc(), &plan)
     } else {
         None
     };
@@ -521,7 +537,7 @@ fn end_of_plan<R: Host + AllocGlobal, I: Source, O: Sink>(
         Err(_) => return End::File(DiskFault::NoMemory, None),
     };
     match act(rt.alloc(), &mut files, source, sink, plan) {
-        Ok(outcome) => end_of_job(rt.alloc(), &disks, form, outcome),
+        Ok(outcome) => end_of_job(rt.alloc(), &named, form, outcome),
         Err(fault) => End::File(fault, files.store.into_refused()),
     }
 }

@@ -5,10 +5,10 @@ use crate::end::End;
 use pm_tool::{Ending, Outcome, Reason, Refusal, RunReason, Whereabouts};
 use std::fmt;
 
-/// A text of one line on a terminal: a question mark stands for each character that would move or colour something
-/// there.
+/// A text on one line of a terminal: a question mark replaces each character that would move the cursor or change
+/// colours.
 #[derive(Clone, Copy)]
-struct Plain<'a>(&'a str);
+pub struct Plain<'a>(pub &'a str);
 
 impl fmt::Display for Plain<'_> {
     fn fmt<W: fmt::Write>(&self, f: &mut fmt::Formatter<W>) -> fmt::Result {
@@ -34,8 +34,71 @@ impl fmt::Display for PlainLines<'_> {
     }
 }
 
-/// Why an input was refused, with the unit and the file that it is about before it, and behind it what helps; of a text
-/// of the assembler the lines that are wrong, with what helps there.
+/// The most characters of a quoted line that a message prints.
+const MOST: usize = 120;
+
+/// The space before a quoted line and before its mark.
+const INDENT: &str = "    ";
+
+/// At most 120 characters of a line, from a position on.
+#[derive(Clone, Copy)]
+struct Part<'a> {
+    line: &'a str,
+    from: usize,
+}
+
+impl fmt::Display for Part<'_> {
+    fn fmt<W: fmt::Write>(&self, f: &mut fmt::Formatter<W>) -> fmt::Result {
+        f.write_str(INDENT)?;
+        for (place, letter) in self.line.chars().enumerate() {
+            if place >= self.from && place - self.from < MOST {
+                let acts = letter.is_control() && letter != '\t';
+                f.write_char(if acts { '?' } else { letter })?;
+            }
+        }
+        Ok(())
+    }
+}
+
+/// Returns the first position of a quoted line that is printed: 0, or 60 characters before a mark that is far right.
+fn start_of(mark: &str) -> usize {
+    let count = mark.len();
+    if count > MOST { count - MOST / 2 } else { 0 }
+}
+
+/// The message for a refused assembler text. Each line that it quotes, with the mark below it, is cut to the part
+/// around the mark.
+#[derive(Clone, Copy)]
+struct Excerpt<'a>(&'a str);
+
+impl fmt::Display for Excerpt<'_> {
+    fn fmt<W: fmt::Write>(&self, f: &mut fmt::Formatter<W>) -> fmt::Result {
+        let mut quoted: Option<&str> = None;
+        let mut is_first = true;
+        for line in self.0.split('\n') {
+            match (line.strip_prefix(INDENT), quoted) {
+                (Some(mark), Some(text)) => {
+                    let from = start_of(mark);
+                    write!(f, "\n{}\n", Part { line: text, from })?;
+                    write!(f, "{}", Part { line: mark, from })?;
+                    quoted = None;
+                }
+                (Some(text), None) => quoted = Some(text),
+                (None, _) => {
+                    if !is_first {
+                        f.write_char('\n')?;
+                    }
+                    write!(f, "{}", Plain(line))?;
+                }
+            }
+            is_first = false;
+        }
+        Ok(())
+    }
+}
+
+/// Why an input was refused: the file that it is about, the reason, and what helps. For an assembler text, the wrong
+/// lines and what helps there.
 #[derive(Clone, Copy)]
 struct Refused<'a> {
     refusal: Refusal,
@@ -51,6 +114,9 @@ impl fmt::Display for Refused<'_> {
         let reason = Reason(self.refusal);
         match (&self.outcome.hint, &self.outcome.line) {
             (Some(hint), _) => write!(f, "{reason}; {hint}"),
+            (None, Some(line)) if matches!(self.refusal, Refusal::Asm(_)) => {
+                write!(f, "{}", Excerpt(line.as_str()))
+            }
             (None, Some(line)) => write!(f, "{}", PlainLines(line.as_str())),
             (None, None) => write!(f, "{reason}"),
         }

@@ -64,17 +64,30 @@ put() {
     stop 70 "cannot write $target; 'pmach --uninstall $prefix' removes what was installed"
 }
 
-# Removes each path on standard input, and the folders that --install created if they are empty.
+# parent PATH: the folder of a path, from the root and without links; nothing if there is no such folder.
+parent() { (cd -P "$(dirname "$prefix/$1")" 2>/dev/null && pwd); }
+
+# Removes each path on standard input, with what a stopped --install left beside it, and the folders that --install created
+# if they are empty. A path that leads through a link is not followed: it is named, and the others are removed.
 take_away() {
+    links=no
     while IFS= read -r path; do
         case /$path/ in
             //* | */../*) stop 70 "$list names $path, which is not below $prefix" ;;
         esac
+        folder=$(parent "$path")
+        [ -n "$folder" ] || continue
+        if [ "$folder" != "$(dirname "$prefix/$path")" ]; then
+            echo "pmach: not removed: $prefix/$path leads through a link to $folder" >&2
+            links=yes
+            continue
+        fi
         case $path in
-            */) rmdir "$prefix/$path" 2>/dev/null ;;
-            *) rm -f "$prefix/$path" || stop 70 "cannot remove $prefix/$path" ;;
+            */) [ -L "$prefix/${path%/}" ] || rmdir "$prefix/$path" 2>/dev/null ;;
+            *) rm -f "$prefix/$path" "$prefix/$path".new[0-9]* || stop 70 "cannot remove $prefix/$path" ;;
         esac
     done
+    [ "$links" = no ]
 }
 
 # copy SOURCE TARGET: a copy that everybody can read, and execute if the source is executable.
@@ -126,7 +139,7 @@ write_list() {
 put_all() {
     [ -d "$here/crates/pmach" ] || stop 70 "--install works only in a clone of the repository"
     choose || exit
-    mkdir -p "$prefix" && prefix=$(cd "$prefix" && pwd) || stop 70 "cannot create $prefix"
+    mkdir -p "$prefix" && prefix=$(cd -P "$prefix" && pwd) || stop 70 "cannot create $prefix"
     list=$prefix/lib/pmach/installed
     { files | sed 's/.* //' && others && echo lib/pmach/installed; } | sort >"$scratch/new" || exit 70
     path=$(in_the_way)
@@ -159,12 +172,14 @@ put_all() {
 }
 
 take_all() {
-    folder=$(cd "$prefix" 2>/dev/null && pwd) || stop 1 "there is no folder $prefix"
+    folder=$(cd -P "$prefix" 2>/dev/null && pwd) || stop 1 "there is no folder $prefix"
     prefix=$folder
     list=$prefix/lib/pmach/installed
-    [ -f "$list" ] || stop 1 "nothing was installed below $prefix by --install"
+    [ -f "$list" ] && [ ! -L "$list" ] && [ "$(parent lib/pmach/installed)" = "$prefix/lib/pmach" ] ||
+        stop 1 "nothing was installed below $prefix by --install"
+    [ -O "$list" ] || stop 1 "$list belongs to another user, who has to remove what it lists"
     cp "$list" "$scratch/list" || exit 70
-    take_away <"$scratch/list" || exit
+    take_away <"$scratch/list" || exit 70
     echo "pmach: removed from $prefix"
 }
 

@@ -1,7 +1,7 @@
 #!/bin/bash
 # `package.sh CLONE [DEBIAN]` tries the packages that `pmach --package` makes in a clone where the program is built: the same
 # bytes from a second clone at another path, the archive where it is unpacked, the Debian package in a new Debian (the
-# directory DEBIAN, made by debootstrap; as root), and lintian if it is installed. Run by hand; no part of the gate. The
+# directory DEBIAN, made by debootstrap; as root), and lintian if it is installed. Run manually; not part of the gate. The
 # clone must have no uncommitted changes.
 clone=$(readlink -f "$1") debian=${2:-}
 scratch=$(mktemp -d)

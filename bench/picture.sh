@@ -1,6 +1,6 @@
 #!/bin/bash
 # `picture.sh` makes docs/disk.png, the picture of the README: the first page that examples/site/site.sh makes of a sample
-# disk, as Chromium shows it. Requires chromium. Run by hand after the pages of site.sh have changed.
+# disk, as Chromium shows it. Requires chromium. Run manually after the pages of site.sh have changed.
 here=$(readlink -f "$(dirname "$0")/..")
 scratch=$(mktemp -d)
 trap 'rm -rf "$scratch"' EXIT

@@ -1,6 +1,6 @@
 #!/bin/bash
 # `readme.sh [PAGE ..]` runs the commands of the pages on the built program and compares their output. Without pages: the
-# README and all of docs/ and examples/. PMACH names another program than ./pmach. Run by hand; no part of the gate.
+# README and all of docs/ and examples/. PMACH names another program than ./pmach. Run manually; not part of the gate.
 #
 # A command is an indented line that begins with a dollar sign. The lines after it with the same indentation are its output,
 # on both streams. The commands of a page run one after another in an empty directory, where examples/ and ./pmach are the

@@ -1,0 +1,207 @@
+//! The cases, as lines that `trial` does.
+
+/// The cases in their order.
+pub const CASES: [&str; 15] = [
+    PLAIN,
+    MODES,
+    LINKS,
+    TAKEN_AWAY,
+    IN_THE_WAY,
+    TWO_STORES,
+    REMOVED,
+    REPLACED,
+    LED_ELSEWHERE,
+    MOVED,
+    APPEARED,
+    CLOSED,
+    UNREAD,
+    LONG_NAMES,
+    NO_FILES,
+];
+
+/// A file that is not there, one that is, and one that is prepared and not held.
+const PLAIN: &str = "\
+a new file: |replace a
+|make a old 644
+a file: |replace a
+|make a old 644||node a||new
+a file that is not held: |write a||new|; |tell a
+";
+
+/// Files that few may read, or write.
+const MODES: &str = "\
+|make a old 600
+a file with a mode: |replace a
+|make a old 640
+a file with a mode: |replace a
+|make a old 666
+a file with a mode: |replace a
+|make a old 200
+a file with a mode: |replace a
+|make a old 755
+a file with a mode: |replace a
+|make a old 444
+a file with a mode: |replace a
+|make a old 200||new
+a file that may not be read: |hold a|, |read a
+";
+
+/// A further name of the file, and symbolic links to it, to nothing, in a circle and to a folder.
+const LINKS: &str = "\
+|make a old 644||link a b
+a file with two names: |replace a
+its other name: |text b
+|remove b||make a old 640||symlink a l||symlink l m
+a link to a link: |replace m
+the links: |kind m|, |kind l
+one file: |same a m|, |same a b
+|symlink nothing n
+a link to nothing: |replace n
+the link: |kind n
+|symlink c c
+a circle: |replace c
+the circle: |kind c
+|symlink . d
+a link to a folder: |replace d
+";
+
+/// Where the new file is made there is another program's file, which it has open; a link to it, to nothing, to the
+/// file itself, in a circle and to a folder; a further name of it: each is taken away, and their file is as it was.
+const TAKEN_AWAY: &str = "\
+|make a old 600||make a.pmach-new theirs 666||open a.pmach-new
+their file stands there: |replace a
+it became the image: |theirs a
+|make theirs theirs 600
+|make a old 644||symlink theirs a.pmach-new
+a link stands there: |replace a
+|make a old 644||symlink none a.pmach-new
+a link stands there: |replace a
+|make a old 644||symlink a a.pmach-new
+a link stands there: |replace a
+|make a old 644||symlink a.pmach-new a.pmach-new
+a link stands there: |replace a
+|make a old 644||symlink . a.pmach-new
+a link stands there: |replace a
+|make a old 644||link theirs a.pmach-new
+a further name stands there: |replace a
+their file: |text theirs|; where the link led: |kind none
+";
+
+/// A folder there cannot be taken away.
+const IN_THE_WAY: &str = "\
+|make a old 644||folder a.pmach-new
+a folder stands there: |replace a
+|unfolder a.pmach-new
+it is gone: |replace a
+";
+
+/// A second store is refused as long as the first is there, by whichever name.
+const TWO_STORES: &str = "\
+|new||make a old 644||node a
+the first holds: |hold a
+|swap||new
+the second holds: |hold a
+by a link: |hold l
+it reads: |read a
+it writes: |put a theirs
+|swap
+the first writes: |put a new||new|; |tell a
+|swap
+the second holds then: |hold a||new
+";
+
+/// The name of a file that is held is taken away: no file is made.
+const REMOVED: &str = "\
+|new||make a old 640||node a
+held: |hold a
+|remove a
+removed, it reads: |read a
+and writes: |put a new|; |tell a
+";
+
+/// The name of a file that is held becomes that of another file, which stays.
+const REPLACED: &str = "\
+|new||make a old 644||make theirs theirs 644||node theirs
+held: |hold a
+|rename theirs a
+replaced, it reads: |read a
+and writes: |put a new|; |tell a
+";
+
+/// The link by which a file is held leads to another one, and both stay.
+const LED_ELSEWHERE: &str = "\
+|new||make b old 644||symlink b k
+held by a link: |hold k
+|remove k||symlink a k
+led elsewhere, it reads: |read k
+and writes: |put k new
+the one file: |text b
+the other: |text a
+";
+
+/// The folder of a file that is held is moved away, and a link to another folder takes its place: neither folder gets a
+/// file, and the image stays.
+const MOVED: &str = "\
+|new||folder u||folder v||make u/w old 644
+its folder held: |hold u/w
+|rename u x||symlink v u
+moved away, it reads: |read u/w
+and writes: |put u/w new
+the folder that was linked has: |kind v/w
+the image: |text x/w
+";
+
+/// A file, a link to one, and a folder appear where nothing was: each stays, and is not written.
+const APPEARED: &str = "\
+|new||make theirs theirs 644
+nothing is held: |hold n1
+nothing is prepared: |prepare n2
+once more: |hold n3
+|make n1 theirs 666||symlink theirs n2||folder n3
+a file appeared: |put n1 new
+it has: |text n1
+a link appeared: |put n2 new
+it leads to: |text n2
+a folder appeared: |put n3 new
+beside them: |kind n1.pmach-new
+";
+
+/// In a folder that takes no new name a file is written in place, and none is made.
+const CLOSED: &str = "\
+|folder f||make f/w old 644||mode f 555
+in a closed folder: |replace f/w
+a new file there: |replace f/x
+|mode f 755||make f/w old 644
+in an open folder: |replace f/w
+by a path with more in it: |replace ./f/../f/w
+in no folder: |replace g/w
+";
+
+/// A file in a folder that may not be read is written in place, to more bytes and to fewer, and a new one is made.
+const UNREAD: &str = "\
+|new||folder r||make r/w new 644||mode r 333
+more bytes in place: |put r/w old|, |text r/w|; a new file: |put r/x old|, |text r/x
+|new
+in a folder that may not be read: |replace r/w
+|mode r 755
+";
+
+/// A name of 250 letters, after which no longer one can be made: it is written in place.
+const LONG_NAMES: &str = "\
+|new
+a new name of 250 letters: |none LONG|, |put LONG old
+|new
+written again: |replace LONG
+";
+
+/// A device is written; a file of more than 33,554,432 bytes is not read.
+const NO_FILES: &str = "\
+|new
+a device: |put /dev/null old
+a full device: |put /dev/full old
+a folder: |put . old|, |text .
+|size big 33554433
+33,554,433 bytes: |text big
+|size big 33554432
+33,554,432 bytes: |text big
+";

@@ -1,0 +1,285 @@
+//! What a line of a case does. Its pieces are separated by `|`: a text that is printed, a call whose answer is printed,
+//! a text, and so on. A line that begins with `|` prints nothing of its own and has no line feed.
+//!
+//! - `make FILE BYTES MODE` makes a file again; `link FILE NAME`, `symlink TO LINK`, `remove FILE`, `rename FILE NAME`,
+//!   `folder PATH`, `unfolder PATH`, `mode PATH MODE`, `size FILE COUNT`: what the system does with these paths.
+//! - `hold FILE`, `prepare FILE`, `put FILE BYTES`, `read FILE`: calls of a store. `new` is another store in its place,
+//!   and `swap` exchanges it with a second one.
+//! - `write FILE`: the store prepares a path and then writes the new bytes to it. `replace FILE`: a store of its own holds
+//!   a path and then writes them; after that as `tell`.
+//! - `node FILE` notes which file a path names, and `tell FILE` answers what it names now: that file or another one.
+//! - `text FILE`, `kind PATH`, `same FILE FILE`, `none FILE`: what is there. `open FILE` keeps a file open, and `theirs
+//!   FILE` answers whether a path names that one.
+//!
+//! BYTES are `old`, `new` or `theirs`, a MODE has octal digits, and the path `LONG` is a name of 250 letters.
+use pm_files::{DiskFault, Host, HostStore, Kind, Node, Store};
+use std::fs::{File, OpenOptions, Permissions};
+use std::io::Write;
+use std::os::unix::fs as fs_unix;
+use std::os::unix::fs::{OpenOptionsExt, PermissionsExt};
+use std::{fs, io, mem};
+
+/// What is in a file before a case.
+const OLD: &[u8] = b"the old image";
+
+/// What a case writes.
+const NEW: &[u8] = b"a new one";
+
+/// What is in the file of another program.
+const THEIRS: &[u8] = b"the file of another program";
+
+/// The path at which the new file of `a` is made.
+const BESIDE: &str = "a.pmach-new";
+
+/// A name beside which no longer one can be made.
+const LONG: &str = "\
+nnnnnnnnnnnnnnnnnnnnnnnnnnnnnnnnnnnnnnnnnnnnnnnnnnnnnnnnnnnnnnnnnnnnnnnnnnnnnnnnnnnnnnnnnnnnnnnnnnnn\
+nnnnnnnnnnnnnnnnnnnnnnnnnnnnnnnnnnnnnnnnnnnnnnnnnnnnnnnnnnnnnnnnnnnnnnnnnnnnnnnnnnnnnnnnnnnnnnnnnnnn\
+nnnnnnnnnnnnnnnnnnnnnnnnnnnnnnnnnnnnnnnnnnnnnnnnnn";
+
+/// What the cases have at hand.
+#[derive(Drop)]
+pub struct Trial<'a> {
+    rt: &'a HostRuntime,
+    store: HostStore<'a, HostRuntime>,
+    second: HostStore<'a, HostRuntime>,
+    /// The file that a path named before.
+    old: Option<Node>,
+    /// The file that is kept open.
+    theirs: Option<File>,
+}
+
+/// The bytes of a word.
+fn bytes_of(word: &str) -> &'static [u8] {
+    match word {
+        "old" => OLD,
+        "new" => NEW,
+        _ => THEIRS,
+    }
+}
+
+/// What came of a call of a store.
+fn said(done: Result<(), DiskFault>) -> &'static str {
+    match done {
+        Ok(()) => "done",
+        Err(fault) => fault.reason(),
+    }
+}
+
+/// Which bytes were read.
+fn named(read: Result<Vec<u8>, DiskFault>) -> &'static str {
+    match read {
+        Ok(bytes) => match bytes.as_slice() {
+            OLD => "the old bytes",
+            NEW => "the new bytes",
+            THEIRS => "their bytes",
+            _ => "other bytes",
+        },
+        Err(fault) => fault.reason(),
+    }
+}
+
+/// Which bytes a file has.
+fn text(rt: &HostRuntime, path: &str) -> &'static str {
+    named(HostStore::new(rt).read(rt.alloc(), path))
+}
+
+fn truth(holds: bool) -> &'static str {
+    if holds { "true" } else { "false" }
+}
+
+/// What is at a path, its links not followed.
+fn kind_at(rt: &HostRuntime, path: &str) -> &'static str {
+    match rt.node_at(path, false) {
+        Ok(Some(node)) => match node.kind {
+            Kind::File => "a file",
+            Kind::Link => "a link",
+            Kind::Other => "a folder",
+        },
+        Ok(None) => "nothing",
+        Err(_) => "an error",
+    }
+}
+
+/// What a path names, its links followed.
+fn node_of(rt: &HostRuntime, path: &str) -> Option<Node> {
+    match rt.node_at(path, true) {
+        Ok(node) => node,
+        Err(_) => None,
+    }
+}
+
+/// Makes a file again, with a mode.
+fn make(rt: &HostRuntime, path: &str, bytes: &[u8], mode: u32) -> io::Result<()> {
+    let _ = fs::remove_file(rt, path);
+    let mut file = OpenOptions::new()
+        .write(true)
+        .create_new(true)
+        .mode(mode)
+        .open(rt, path)?;
+    file.write_all(bytes)?;
+    file.set_permissions(Permissions::from_mode(mode))
+}
+
+/// Gives a file so many bytes.
+fn set_size(rt: &HostRuntime, path: &str, count: &str) -> io::Result<()> {
+    let file = OpenOptions::new().write(true).create(true).open(rt, path)?;
+    file.set_len(count.parse().unwrap_or(0))
+}
+
+/// Does what the system does with paths.
+fn act(rt: &HostRuntime, word: &str, path: &str, second: &str, third: &str) -> io::Result<()> {
+    let mode = u32::from_str_radix(third, 8).unwrap_or(0);
+    match word {
+        "make" => make(rt, path, bytes_of(second), mode),
+        "link" => fs::hard_link(rt, path, second),
+        "symlink" => fs_unix::symlink(rt, path, second),
+        "remove" => fs::remove_file(rt, path),
+        "rename" => fs::rename(rt, path, second),
+        "folder" => fs::create_dir(rt, path),
+        "unfolder" => fs::remove_dir(rt, path),
+        "mode" => fs::set_permissions(rt, path, Permissions::from_mode(mode)),
+        "size" => set_size(rt, path, second),
+        _ => Err(io::Error::from(io::ErrorKind::InvalidInput)),
+    }
+}
+
+impl<'a> Trial<'a> {
+    /// Nothing at hand yet.
+    pub fn new(rt: &'a HostRuntime) -> Trial<'a> {
+        Trial {
+            rt,
+            store: HostStore::new(rt),
+            second: HostStore::new(rt),
+            old: None,
+            theirs: None,
+        }
+    }
+
+    /// Prints what a path names now: the file that was noted, or another one.
+    fn tell(&self, path: &str) -> io::Result<()> {
+        let rt = self.rt;
+        let Some(now) = node_of(rt, path) else {
+            return print!(rt; "no file");
+        };
+        let file = match self.old {
+            Some(old) if old.is(now) => "the same file",
+            _ => "another file",
+        };
+        let text = text(rt, path);
+        let beside = kind_at(rt, BESIDE);
+        print!(rt;
+            "{text}, mode {:o}, names {}, {file}; beside it {beside}",
+            now.mode, now.names
+        )
+    }
+
+    /// Whether a path names the file that is kept open.
+    fn is_theirs(&self, path: &str) -> bool {
+        let Some(file) = &self.theirs else {
+            return true;
+        };
+        match (self.rt.node(file), node_of(self.rt, path)) {
+            (Ok(theirs), Some(now)) => theirs.is(now),
+            _ => true,
+        }
+    }
+
+    /// Holds a path in a store of its own, and writes the new bytes to it.
+    fn replace(&mut self, path: &str) -> &'static str {
+        self.old = node_of(self.rt, path);
+        self.store = HostStore::new(self.rt);
+        let done = match self.store.hold(path) {
+            Ok(()) => said(self.store.put(path, NEW)),
+            Err(fault) => fault.reason(),
+        };
+        self.store = HostStore::new(self.rt);
+        done
+    }
+
+    /// The answer of a call; "" of one that has none.
+    fn answer(
+        &mut self,
+        word: &str,
+        path: &str,
+        second: &str,
+        third: &str,
+    ) -> io::Result<&'static str> {
+        let rt = self.rt;
+        match word {
+            "hold" => Ok(said(self.store.hold(path))),
+            "prepare" => Ok(said(self.store.prepare(path))),
+            "write" => match self.store.prepare(path) {
+                Ok(()) => Ok(said(self.store.put(path, NEW))),
+                Err(fault) => Ok(fault.reason()),
+            },
+            "put" => Ok(said(self.store.put(path, bytes_of(second)))),
+            "read" => Ok(named(self.store.read(rt.alloc(), path))),
+            "text" => Ok(text(rt, path)),
+            "kind" => Ok(kind_at(rt, path)),
+            "same" => Ok(truth(rt.is_same(path, second))),
+            "none" => Ok(truth(node_of(rt, path).is_none())),
+            "theirs" => Ok(truth(self.is_theirs(path))),
+            "new" => {
+                self.store = HostStore::new(rt);
+                Ok("")
+            }
+            "swap" => {
+                mem::swap(&mut self.store, &mut self.second);
+                Ok("")
+            }
+            "node" => {
+                self.old = node_of(rt, path);
+                Ok("")
+            }
+            "open" => {
+                self.theirs = Some(File::open(rt, path)?);
+                Ok("")
+            }
+            _ => {
+                act(rt, word, path, second, third)?;
+                Ok("")
+            }
+        }
+    }
+
+    /// Makes a call, and prints its answer.
+    fn call(&mut self, call: &str) -> io::Result<()> {
+        let mut words = call.split(' ');
+        let word = words.next().unwrap_or("");
+        let path = match words.next().unwrap_or("") {
+            "LONG" => LONG,
+            path => path,
+        };
+        let second = words.next().unwrap_or("");
+        let third = words.next().unwrap_or(second);
+        if word == "replace" {
+            let done = self.replace(path);
+            print!(self.rt; "{done}; ")?;
+        }
+        if word == "replace" || word == "tell" {
+            return self.tell(path);
+        }
+        let answer = self.answer(word, path, second, third)?;
+        print!(self.rt; "{answer}")
+    }
+
+    /// Does the lines of a case.
+    pub fn case(&mut self, case: &str) -> io::Result<()> {
+        for line in case.lines() {
+            let mut prints = true;
+            for piece in line.split('|') {
+                if prints {
+                    print!(self.rt; "{piece}")?;
+                } else {
+                    self.call(piece)?;
+                }
+                prints = !prints;
+            }
+            if !line.starts_with('|') {
+                println!(self.rt)?;
+            }
+        }
+        Ok(())
+    }
+}

@@ -194,7 +194,7 @@ check "and stay" ends 0 "$here/examples/form.sh" --back dos.long po dos.longback
 check "where they were" cmp dos.long dos.longback
 gzip -c po >po.gz
 check "what is compressed" ends 2 "$here/examples/form.sh" po.gz
-check "is named" grep -q 'for gunzip' err
+check "is named" grep -q 'decompress it with gunzip' err
 { printf 'WOZ2' && head -c 5000 /dev/zero; } >flux.woz
 check "a .woz" ends 2 "$here/examples/form.sh" flux.woz
 check "is named so" grep -q 'looks like .woz' err

@@ -25,7 +25,7 @@ for ((slot = 1; slot <= $(word 16); slot++)); do
     fits && removed+=("$name")
 done
 [ ${#removed[@]} != 0 ] || {
-    echo "remove.sh: no file of $image was chosen by $2" >&2
+    echo "remove.sh: no file on $image was selected by the pattern $2" >&2
     exit 1
 }
 for name in "${removed[@]}"; do

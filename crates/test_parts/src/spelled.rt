@@ -15,21 +15,30 @@ pub fn unreadable() -> io::Error {
 pub fn number(text: &str) -> io::Result<usize>
     ensures number { ParsesUnsigned 64 10 text.now result }
 {
-    text.parse::<usize>().map_err(|_| unreadable())
+    match text.parse::<usize>() {
+        Ok(number) => Ok(number),
+        Err(_) => Err(unreadable()),
+    }
 }
 
 /// The number of steps that a word spells.
 pub fn steps(text: &str) -> io::Result<u32>
     ensures number { ParsesUnsigned 32 10 text.now result }
 {
-    text.parse::<u32>().map_err(|_| unreadable())
+    match text.parse::<u32>() {
+        Ok(number) => Ok(number),
+        Err(_) => Err(unreadable()),
+    }
 }
 
 /// The number of one byte that a word spells.
 pub fn byte(text: &str) -> io::Result<u8>
     ensures number { ParsesUnsigned 8 10 text.now result }
 {
-    text.parse::<u8>().map_err(|_| unreadable())
+    match text.parse::<u8>() {
+        Ok(number) => Ok(number),
+        Err(_) => Err(unreadable()),
+    }
 }
 
 /// The number of two bytes that a word spells: in decimal, below 0 in two's complement, or `$` and four hexadecimal
@@ -37,14 +46,21 @@ pub fn byte(text: &str) -> io::Result<u8>
 pub fn word(text: &str) -> io::Result<u16> {
     if let Some(digits) = text.strip_prefix('$') {
         let mut bytes = [0; 2];
-        hex::decode_to_slice(digits.as_bytes(), &mut bytes).map_err(|_| unreadable())?;
-        return Ok(u16::from_be_bytes(bytes));
+        return match hex::decode_to_slice(digits.as_bytes(), &mut bytes) {
+            Ok(()) => Ok(u16::from_be_bytes(bytes)),
+            Err(_) => Err(unreadable()),
+        };
     }
     if text.starts_with('-') {
-        let negative: i16 = text.parse().map_err(|_| unreadable())?;
-        return Ok(negative.cast_unsigned());
+        return match text.parse::<i16>() {
+            Ok(negative) => Ok(negative.cast_unsigned()),
+            Err(_) => Err(unreadable()),
+        };
     }
-    text.parse().map_err(|_| unreadable())
+    match text.parse::<u16>() {
+        Ok(word) => Ok(word),
+        Err(_) => Err(unreadable()),
+    }
 }
 
 // The bytes that pairs of digits spell.
@@ -99,8 +115,7 @@ pub fn hex_text(alloc: Global, bytes: &[u8]) -> Result<String, AllocError> {
         if !text.is_empty() {
             text.push(' ')?;
         }
-        let pair = format!(in alloc; "{byte:02X}")?;
-        text.push_str(pair.as_str())?;
+        write!(text, "{byte:02X}")?;
     }
     Ok(text)
 }
@@ -108,8 +123,10 @@ pub fn hex_text(alloc: Global, bytes: &[u8]) -> Result<String, AllocError> {
 // The byte that two digits spell.
 fn pair(high: u8, low: u8) -> io::Result<u8> {
     let mut byte = [0];
-    hex::decode_to_slice(&[high, low], &mut byte).map_err(|_| unreadable())?;
-    Ok(byte[0])
+    match hex::decode_to_slice(&[high, low], &mut byte) {
+        Ok(()) => Ok(byte[0]),
+        Err(_) => Err(unreadable()),
+    }
 }
 
 /// Adds the bytes of a text in which `\hh` is a byte and all else stands for itself; a backslash alone is no byte.
@@ -134,7 +151,10 @@ pub fn add_escaped(bytes: &mut Vec<u8>, text: &str) -> io::Result<()> {
 pub fn name(alloc: Global, text: &str) -> io::Result<String> {
     let mut bytes = Vec::new(alloc);
     add_escaped(&mut bytes, text)?;
-    String::from_utf8(bytes).map_err(|_| unreadable())
+    match String::from_utf8(bytes) {
+        Ok(name) => Ok(name),
+        Err(_) => Err(unreadable()),
+    }
 }
 
 // The digest of bytes: 64-bit FNV-1a.

@@ -1,6 +1,6 @@
-//! How files of the system are locked and replaced, in the folder in which this runs: one line a case. It is not root
-//! that runs it in the gate, and the user's mask is 022. Other owners, pipes and paths that are not UTF-8 cannot be had
-//! there. The cases are lines of `script`, which `trial` does.
+//! Tests how files of the system are locked and replaced, in the folder in which it runs, and prints one line for each
+//! case. In the gate it does not run as root, and the umask is 022. Other owners, pipes and paths that are not UTF-8
+//! cannot be tested there. The cases are lines of `script`, which `trial` executes.
 #![tactic(auto)]
 
 mod script;

@@ -1,4 +1,4 @@
-//! The cases, as lines that `trial` does.
+//! The cases, as lines that the module `trial` executes.
 
 /// The cases in their order.
 pub const CASES: [&str; 15] = [
@@ -19,7 +19,7 @@ pub const CASES: [&str; 15] = [
     NO_FILES,
 ];
 
-/// A file that is not there, one that is, and one that is prepared and not held.
+/// A file that does not exist, one that exists, and one that is prepared but not held.
 const PLAIN: &str = "\
 a new file: |replace a
 |make a old 644
@@ -28,7 +28,7 @@ a file: |replace a
 a file that is not held: |write a||new|; |tell a
 ";
 
-/// Files that few may read, or write.
+/// Files with restricted permissions.
 const MODES: &str = "\
 |make a old 600
 a file with a mode: |replace a
@@ -46,7 +46,7 @@ a file with a mode: |replace a
 a file that may not be read: |hold a|, |read a
 ";
 
-/// A further name of the file, and symbolic links to it, to nothing, in a circle and to a folder.
+/// A second hard link to the file, and symbolic links to it, to nothing, in a circle and to a folder.
 const LINKS: &str = "\
 |make a old 644||link a b
 a file with two names: |replace a
@@ -65,8 +65,9 @@ the circle: |kind c
 a link to a folder: |replace d
 ";
 
-/// Where the new file is made there is another program's file, which it has open; a link to it, to nothing, to the
-/// file itself, in a circle and to a folder; a further name of it: each is taken away, and their file is as it was.
+/// At the path of the temporary file is a file that another program has open; a link to that file, to nothing, to the
+/// image, in a circle and to a folder; a second hard link to it. Each is removed, and the file of the other program is
+/// unchanged.
 const TAKEN_AWAY: &str = "\
 |make a old 600||make a.pmach-new theirs 666||open a.pmach-new
 their file stands there: |replace a
@@ -87,7 +88,7 @@ a further name stands there: |replace a
 their file: |text theirs|; where the link led: |kind none
 ";
 
-/// A folder there cannot be taken away.
+/// A folder at the path of the temporary file cannot be removed.
 const IN_THE_WAY: &str = "\
 |make a old 644||folder a.pmach-new
 a folder stands there: |replace a
@@ -95,7 +96,7 @@ a folder stands there: |replace a
 it is gone: |replace a
 ";
 
-/// A second store is refused as long as the first is there, by whichever name.
+/// A second store is refused while the first one exists, for every name of the file.
 const TWO_STORES: &str = "\
 |new||make a old 644||node a
 the first holds: |hold a
@@ -110,7 +111,7 @@ the first writes: |put a new||new|; |tell a
 the second holds then: |hold a||new
 ";
 
-/// The name of a file that is held is taken away: no file is made.
+/// The name of a held file is removed: no file is created.
 const REMOVED: &str = "\
 |new||make a old 640||node a
 held: |hold a
@@ -119,7 +120,7 @@ removed, it reads: |read a
 and writes: |put a new|; |tell a
 ";
 
-/// The name of a file that is held becomes that of another file, which stays.
+/// The name of a held file becomes that of another file, which is unchanged.
 const REPLACED: &str = "\
 |new||make a old 644||make theirs theirs 644||node theirs
 held: |hold a
@@ -128,7 +129,7 @@ replaced, it reads: |read a
 and writes: |put a new|; |tell a
 ";
 
-/// The link by which a file is held leads to another one, and both stay.
+/// The link by which a file is held is changed to another file: both files are unchanged.
 const LED_ELSEWHERE: &str = "\
 |new||make b old 644||symlink b k
 held by a link: |hold k
@@ -139,8 +140,8 @@ the one file: |text b
 the other: |text a
 ";
 
-/// The folder of a file that is held is moved away, and a link to another folder takes its place: neither folder gets a
-/// file, and the image stays.
+/// The folder of a held file is moved, and a link to another folder replaces it: neither folder gets a file, and the
+/// image is unchanged.
 const MOVED: &str = "\
 |new||folder u||folder v||make u/w old 644
 its folder held: |hold u/w
@@ -151,7 +152,7 @@ the folder that was linked has: |kind v/w
 the image: |text x/w
 ";
 
-/// A file, a link to one, and a folder appear where nothing was: each stays, and is not written.
+/// A file, a link to a file, and a folder appear at a path that had nothing: each is unchanged.
 const APPEARED: &str = "\
 |new||make theirs theirs 644
 nothing is held: |hold n1
@@ -166,7 +167,7 @@ a folder appeared: |put n3 new
 beside them: |kind n1.pmach-new
 ";
 
-/// In a folder that takes no new name a file is written in place, and none is made.
+/// In a folder in which no file can be created, a file is written in place, and no other file is created.
 const CLOSED: &str = "\
 |folder f||make f/w old 644||mode f 555
 in a closed folder: |replace f/w
@@ -177,7 +178,8 @@ by a path with more in it: |replace ./f/../f/w
 in no folder: |replace g/w
 ";
 
-/// A file in a folder that may not be read is written in place, to more bytes and to fewer, and a new one is made.
+/// In a folder that may not be read, a file is written in place, with more bytes and with fewer, and a new file is
+/// created.
 const UNREAD: &str = "\
 |new||folder r||make r/w new 644||mode r 333
 more bytes in place: |put r/w old|, |text r/w|; a new file: |put r/x old|, |text r/x
@@ -186,7 +188,7 @@ in a folder that may not be read: |replace r/w
 |mode r 755
 ";
 
-/// A name of 250 letters, after which no longer one can be made: it is written in place.
+/// A name of 250 letters, to which no suffix can be added: the file is written in place.
 const LONG_NAMES: &str = "\
 |new
 a new name of 250 letters: |none LONG|, |put LONG old
@@ -194,7 +196,7 @@ a new name of 250 letters: |none LONG|, |put LONG old
 written again: |replace LONG
 ";
 
-/// A device is written; a file of more than 33,554,432 bytes is not read.
+/// A device can be written; a file of more than 33,554,432 bytes is not read.
 const NO_FILES: &str = "\
 |new
 a device: |put /dev/null old

@@ -1,15 +1,15 @@
-//! What a line of a case does. Its pieces are separated by `|`: a text that is printed, a call whose answer is printed,
-//! a text, and so on. A line that begins with `|` prints nothing of its own and has no line feed.
+//! Executes the lines of a case. The pieces of a line are separated by `|`: a text that is printed, a call whose answer
+//! is printed, a text, and so on. A line that begins with `|` prints no text of its own and no line feed.
 //!
-//! - `make FILE BYTES MODE` makes a file again; `link FILE NAME`, `symlink TO LINK`, `remove FILE`, `rename FILE NAME`,
-//!   `folder PATH`, `unfolder PATH`, `mode PATH MODE`, `size FILE COUNT`: what the system does with these paths.
-//! - `hold FILE`, `prepare FILE`, `put FILE BYTES`, `read FILE`: calls of a store. `new` is another store in its place,
-//!   and `swap` exchanges it with a second one.
-//! - `write FILE`: the store prepares a path and then writes the new bytes to it. `replace FILE`: a store of its own holds
-//!   a path and then writes them; after that as `tell`.
-//! - `node FILE` notes which file a path names, and `tell FILE` answers what it names now: that file or another one.
-//! - `text FILE`, `kind PATH`, `same FILE FILE`, `none FILE`: what is there. `open FILE` keeps a file open, and `theirs
-//!   FILE` answers whether a path names that one.
+//! - `make FILE BYTES MODE` creates a file again. `link FILE NAME`, `symlink TO LINK`, `remove FILE`, `rename FILE NAME`,
+//!   `folder PATH`, `unfolder PATH`, `mode PATH MODE` and `size FILE COUNT` are the calls of the system.
+//! - `hold FILE`, `prepare FILE`, `put FILE BYTES` and `read FILE` are calls of the store. `new` replaces the store by a
+//!   new one, and `swap` exchanges it with a second store.
+//! - `write FILE` prepares a path in the store and then writes the new bytes to it. `replace FILE` holds a path in a new
+//!   store, writes the new bytes to it, and then does what `tell` does.
+//! - `node FILE` records which file a path names. `tell FILE` prints whether it names that file now, and what it has.
+//! - `text FILE`, `kind PATH`, `same FILE FILE` and `none FILE` answer what a path names. `open FILE` opens a file, and
+//!   `theirs FILE` answers whether a path names that file.
 //!
 //! BYTES are `old`, `new` or `theirs`, a MODE has octal digits, and the path `LONG` is a name of 250 letters.
 use pm_files::{DiskFault, Host, HostStore, Kind, Node, Store};
@@ -19,25 +19,25 @@ use std::os::unix::fs as fs_unix;
 use std::os::unix::fs::{OpenOptionsExt, PermissionsExt};
 use std::{fs, io, mem};
 
-/// What is in a file before a case.
+/// The bytes of a file before a case.
 const OLD: &[u8] = b"the old image";
 
-/// What a case writes.
+/// The bytes that a case writes.
 const NEW: &[u8] = b"a new one";
 
-/// What is in the file of another program.
+/// The bytes of the file of another program.
 const THEIRS: &[u8] = b"the file of another program";
 
-/// The path at which the new file of `a` is made.
+/// The path of the temporary file of `a`.
 const BESIDE: &str = "a.pmach-new";
 
-/// A name beside which no longer one can be made.
+/// A name of 250 letters, to which no suffix can be added.
 const LONG: &str = "\
 nnnnnnnnnnnnnnnnnnnnnnnnnnnnnnnnnnnnnnnnnnnnnnnnnnnnnnnnnnnnnnnnnnnnnnnnnnnnnnnnnnnnnnnnnnnnnnnnnnnn\
 nnnnnnnnnnnnnnnnnnnnnnnnnnnnnnnnnnnnnnnnnnnnnnnnnnnnnnnnnnnnnnnnnnnnnnnnnnnnnnnnnnnnnnnnnnnnnnnnnnnn\
 nnnnnnnnnnnnnnnnnnnnnnnnnnnnnnnnnnnnnnnnnnnnnnnnnn";
 
-/// What the cases have at hand.
+/// The stores and files that a case uses.
 #[derive(Drop)]
 pub struct Trial<'a> {
     rt: &'a HostRuntime,
@@ -45,11 +45,11 @@ pub struct Trial<'a> {
     second: HostStore<'a, HostRuntime>,
     /// The file that a path named before.
     old: Option<Node>,
-    /// The file that is kept open.
+    /// The file that is open.
     theirs: Option<File>,
 }
 
-/// The bytes of a word.
+/// Returns the bytes that a word of a case names.
 fn bytes_of(word: &str) -> &'static [u8] {
     match word {
         "old" => OLD,
@@ -58,7 +58,7 @@ fn bytes_of(word: &str) -> &'static [u8] {
     }
 }
 
-/// What came of a call of a store.
+/// Returns the result of a call of a store as text.
 fn said(done: Result<(), DiskFault>) -> &'static str {
     match done {
         Ok(()) => "done",
@@ -66,7 +66,7 @@ fn said(done: Result<(), DiskFault>) -> &'static str {
     }
 }
 
-/// Which bytes were read.
+/// Returns which of the three contents was read, or why it could not be read.
 fn named(read: Result<Vec<u8>, DiskFault>) -> &'static str {
     match read {
         Ok(bytes) => match bytes.as_slice() {
@@ -79,7 +79,7 @@ fn named(read: Result<Vec<u8>, DiskFault>) -> &'static str {
     }
 }
 
-/// Which bytes a file has.
+/// Returns which of the three contents a file has.
 fn text(rt: &HostRuntime, path: &str) -> &'static str {
     named(HostStore::new(rt).read(rt.alloc(), path))
 }
@@ -88,7 +88,7 @@ fn truth(holds: bool) -> &'static str {
     if holds { "true" } else { "false" }
 }
 
-/// What is at a path, its links not followed.
+/// Returns what a path names, without following links.
 fn kind_at(rt: &HostRuntime, path: &str) -> &'static str {
     match rt.node_at(path, false) {
         Ok(Some(node)) => match node.kind {
@@ -101,7 +101,7 @@ fn kind_at(rt: &HostRuntime, path: &str) -> &'static str {
     }
 }
 
-/// What a path names, its links followed.
+/// Returns what a path names, following links.
 fn node_of(rt: &HostRuntime, path: &str) -> Option<Node> {
     match rt.node_at(path, true) {
         Ok(node) => node,
@@ -109,7 +109,7 @@ fn node_of(rt: &HostRuntime, path: &str) -> Option<Node> {
     }
 }
 
-/// Makes a file again, with a mode.
+/// Creates a file again, with a mode.
 fn make(rt: &HostRuntime, path: &str, bytes: &[u8], mode: u32) -> io::Result<()> {
     let _ = fs::remove_file(rt, path);
     let mut file = OpenOptions::new()
@@ -121,13 +121,13 @@ fn make(rt: &HostRuntime, path: &str, bytes: &[u8], mode: u32) -> io::Result<()>
     file.set_permissions(Permissions::from_mode(mode))
 }
 
-/// Gives a file so many bytes.
+/// Sets the size of a file, in bytes.
 fn set_size(rt: &HostRuntime, path: &str, count: &str) -> io::Result<()> {
     let file = OpenOptions::new().write(true).create(true).open(rt, path)?;
     file.set_len(count.parse().unwrap_or(0))
 }
 
-/// Does what the system does with paths.
+/// Makes a call of the system on paths.
 fn act(rt: &HostRuntime, word: &str, path: &str, second: &str, third: &str) -> io::Result<()> {
     let mode = u32::from_str_radix(third, 8).unwrap_or(0);
     match word {
@@ -145,7 +145,7 @@ fn act(rt: &HostRuntime, word: &str, path: &str, second: &str, third: &str) -> i
 }
 
 impl<'a> Trial<'a> {
-    /// Nothing at hand yet.
+    /// Returns a trial with two new stores and no file.
     pub fn new(rt: &'a HostRuntime) -> Trial<'a> {
         Trial {
             rt,
@@ -156,7 +156,7 @@ impl<'a> Trial<'a> {
         }
     }
 
-    /// Prints what a path names now: the file that was noted, or another one.
+    /// Prints what a path names now: the recorded file, or another one.
     fn tell(&self, path: &str) -> io::Result<()> {
         let rt = self.rt;
         let Some(now) = node_of(rt, path) else {
@@ -174,7 +174,7 @@ impl<'a> Trial<'a> {
         )
     }
 
-    /// Whether a path names the file that is kept open.
+    /// Whether a path names the file that is open.
     fn is_theirs(&self, path: &str) -> bool {
         let Some(file) = &self.theirs else {
             return true;
@@ -185,7 +185,7 @@ impl<'a> Trial<'a> {
         }
     }
 
-    /// Holds a path in a store of its own, and writes the new bytes to it.
+    /// Holds a path in a new store, and writes the new bytes to it.
     fn replace(&mut self, path: &str) -> &'static str {
         self.old = node_of(self.rt, path);
         self.store = HostStore::new(self.rt);
@@ -197,7 +197,7 @@ impl<'a> Trial<'a> {
         done
     }
 
-    /// The answer of a call; "" of one that has none.
+    /// Makes a call and returns its answer, "" if it has none.
     fn answer(
         &mut self,
         word: &str,
@@ -264,7 +264,7 @@ impl<'a> Trial<'a> {
         print!(self.rt; "{answer}")
     }
 
-    /// Does the lines of a case.
+    /// Executes the lines of a case.
     pub fn case(&mut self, case: &str) -> io::Result<()> {
         for line in case.lines() {
             let mut prints = true;

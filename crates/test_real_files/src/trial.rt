@@ -1,15 +1,15 @@
-//! Executes the lines of a case. The pieces of a line are separated by `|`: a text that is printed, a call whose answer
-//! is printed, a text, and so on. A line that begins with `|` prints no text of its own and no line feed.
+//! Executes the lines of a case. The pieces of a line are separated by `|`: a text that is printed, a call whose
+//! answer is printed, a text, and so on. A line that begins with `|` prints no text of its own and no line feed.
 //!
-//! - `make FILE BYTES MODE` creates a file again. `link FILE NAME`, `symlink TO LINK`, `remove FILE`, `rename FILE NAME`,
-//!   `folder PATH`, `unfolder PATH`, `mode PATH MODE` and `size FILE COUNT` are the calls of the system.
-//! - `hold FILE`, `prepare FILE`, `put FILE BYTES` and `read FILE` are calls of the store. `new` replaces the store by a
-//!   new one, and `swap` exchanges it with a second store.
-//! - `write FILE` prepares a path in the store and then writes the new bytes to it. `replace FILE` holds a path in a new
-//!   store, writes the new bytes to it, and then does what `tell` does.
+//! - `make FILE BYTES MODE` creates a file again. `link FILE NAME`, `symlink TO LINK`, `remove FILE`, `rename FILE
+//!   NAME`, `folder PATH`, `unfolder PATH`, `mode PATH MODE` and `size FILE COUNT` are the calls of the system.
+//! - `hold FILE`, `prepare FILE`, `put FILE BYTES` and `read FILE` are calls of the store. `new` replaces the store
+//!   by a new one, and `swap` exchanges it with a second store.
+//! - `write FILE` prepares a path in the store and then writes the new bytes to it. `replace FILE` holds a path in a
+//!   new store, writes the new bytes to it, and then does what `tell` does.
 //! - `node FILE` records which file a path names. `tell FILE` prints whether it names that file now, and what it has.
-//! - `text FILE`, `kind PATH`, `same FILE FILE` and `none FILE` answer what a path names. `open FILE` opens a file, and
-//!   `theirs FILE` answers whether a path names that file.
+//! - `text FILE`, `kind PATH`, `same FILE FILE` and `none FILE` answer what a path names. `open FILE` opens a file,
+//!   and `theirs FILE` answers whether a path names that file.
 //!
 //! BYTES are `old`, `new` or `theirs`, a MODE has octal digits, and the path `LONG` is a name of 250 letters.
 use pm_files::{DiskFault, Host, HostStore, Kind, Node, Store};

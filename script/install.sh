@@ -87,7 +87,7 @@ take_away() {
             *) rm -f "$prefix/$path" "$prefix/$path".new[0-9]* || stop 70 "cannot remove $prefix/$path" ;;
         esac
     done
-    [ "$links" = no ]
+    [ "$links" = no ] || return 70
 }
 
 # copy SOURCE TARGET: a copy that everybody can read, and execute if the source is executable.

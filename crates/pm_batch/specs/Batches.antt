@@ -1,7 +1,6 @@
 -- Jobs that turn bytes into bytes: what each makes of its input, and which read it.
 use Rattle.std.specs.Prelude.{ℕ, Bool, true, false, List, Result, Ok, Err, string_bytes}
 use Rattle.pm_jobs.specs.declared.output.AsmOutput.TheVariants as asm
-use Rattle.pm_jobs.specs.declared.output.DisOutput.TheVariants as dis
 use Rattle.pm_volume.specs.Copies.{repaired}
 use Rattle.pm_volume.specs.Headers.{blank_fault}
 use Rattle.pm_volume.specs.declared.fault.VolumeFault.{VolumeFault}
@@ -10,8 +9,6 @@ use Rattle.pm_check.specs.Saving.{salvaged}
 use Rattle.pm_batch.specs.declared.batch.Batch.{Batch}
 use Rattle.pm_batch.specs.declared.batch.Batch.TheVariants as batches
 use Rattle.pm_batch.specs.Assembly.{made_asm, made_faults, made_symbols}
-use Rattle.pm_batch.specs.Code.{made_dis, made_dis_blocks, made_dis_indented, made_dis_list, made_dis_names}
-use Rattle.pm_batch.specs.Code.{made_dis_statements}
 use Rattle.pm_batch.specs.Files.{made_check, made_file, made_new, made_salvage, made_volume, takes_input}
 use Rattle.pm_batch.specs.Products.{Product}
 
@@ -21,12 +18,6 @@ made_of (batches.Asm asm.File) input = made_asm false input
 made_of (batches.Asm asm.Listing) input = made_asm true input
 made_of (batches.Asm asm.Faults) input = made_faults input
 made_of (batches.Asm asm.Symbols) input = made_symbols input
-made_of (batches.Dis dis.Text) input = made_dis input
-made_of (batches.Dis dis.Names) input = made_dis_names input
-made_of (batches.Dis dis.Listing) input = made_dis_list input
-made_of (batches.Dis dis.Statements) input = made_dis_statements input
-made_of (batches.Dis dis.Indented) input = made_dis_indented input
-made_of (batches.Dis dis.Blocks) input = made_dis_blocks input
 made_of (batches.Files opened form command) input = made_file opened (order_of command) input
 made_of (batches.New name blocks) input =
     made_new (blank_fault (string_bytes name) blocks) (string_bytes name) blocks
@@ -42,7 +33,6 @@ reads_file (Err fault) order = false
 -- whether a job reads its input, to its end; else it reads none of it
 abbrev pub reads_input : Batch → Bool
 reads_input (batches.Asm what) = true
-reads_input (batches.Dis what) = true
 reads_input (batches.Files opened form command) = reads_file opened (order_of command)
 reads_input (batches.New name blocks) = false
 reads_input (batches.Repair image) = false

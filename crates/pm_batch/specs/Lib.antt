@@ -1,6 +1,5 @@
 pub mod Refusals
 pub mod Products
-pub mod Code
 pub mod Assembly
 pub mod Files
 pub mod Batches

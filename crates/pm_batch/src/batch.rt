@@ -4,12 +4,11 @@ ghost use Rattle.pm_batch.specs.Batches.{made_of, reads_input};
 ghost use Rattle.pm_batch.specs.Products.{product_of};
 
 use crate::assembly::{assemble, find_faults, list_symbols};
-use crate::code::{block_file, disassemble, disassemble_named, indent_file, list_file, state_file};
 use crate::files::{check_image, file, new_volume, repair_volume, salvage_image, takes_input};
 use crate::refusal::Refusal;
 use pm_check::Form;
 use pm_filer::FileCommand;
-use pm_jobs::{AsmOutput, DisOutput};
+use pm_jobs::AsmOutput;
 use pm_volume::{Volume, VolumeFault};
 use std::alloc::{AllocError, Global};
 
@@ -18,8 +17,6 @@ use std::alloc::{AllocError, Global};
 pub enum Batch {
     /// What `asm` writes of a text of the assembler.
     Asm(AsmOutput),
-    /// What `dis` writes of a code file.
-    Dis(DisOutput),
     /// A command on a volume; an image that is none is refused, and the form that it has is told.
     Files {
         opened: Result<Volume, VolumeFault>,
@@ -52,7 +49,7 @@ impl Batch {
         ensures value { result ≡ reads_input self.now }
     {
         match self {
-            Batch::Asm(_) | Batch::Dis(_) => true,
+            Batch::Asm(_) => true,
             Batch::Files {
                 opened,
                 command,
@@ -90,12 +87,6 @@ pub fn make(alloc: Global, job: Batch, input: Vec<u8>) -> Result<Made, AllocErro
         Batch::Asm(AsmOutput::Listing) => assemble(alloc, input, true),
         Batch::Asm(AsmOutput::Faults) => find_faults(alloc, input),
         Batch::Asm(AsmOutput::Symbols) => list_symbols(alloc, input),
-        Batch::Dis(DisOutput::Text) => disassemble(alloc, &input),
-        Batch::Dis(DisOutput::Names) => disassemble_named(alloc, &input),
-        Batch::Dis(DisOutput::Listing) => list_file(alloc, &input),
-        Batch::Dis(DisOutput::Statements) => state_file(alloc, &input),
-        Batch::Dis(DisOutput::Indented) => indent_file(alloc, &input),
-        Batch::Dis(DisOutput::Blocks) => block_file(alloc, &input),
         Batch::Files {
             opened,
             form,

@@ -3,7 +3,6 @@
 
 mod assembly;
 mod batch;
-mod code;
 mod files;
 mod reason;
 mod refusal;

@@ -49,6 +49,11 @@ abbrev pub slot_lines : ℕ → List ℕ → Option (List ℕ) → List (List �
 slot_lines n name None = []
 slot_lines n name (Some segment) = segment_line n (shown_name name) ∷ tables_lines segment 1 (procedures_in segment)
 
+-- The first line of the segment of slot n, with a line feed; nothing without a segment.
+abbrev pub slot_head : ℕ → List ℕ → Option (List ℕ) → List ℕ
+slot_head n name None = []
+slot_head n name (Some segment) = joined (segment_line n (shown_name name) ∷ [])
+
 -- so many slots of a code file, from slot n on
 abbrev pub slots_lines : List ℕ → ℕ → ℕ → List (List ℕ)
 slots_lines file n zero = []

@@ -22,7 +22,7 @@ mod written;
 
 pub use decoded::{Decoded, decode_segment};
 pub use items::code;
-pub use listed::listing;
+pub use listed::{dictionary_line, listing, procedure_listing};
 pub use place::Line;
-pub use segments::{file, item, procedure};
+pub use segments::{decoded_procedure, file, item, procedure, slot_line};
 pub use text::line;

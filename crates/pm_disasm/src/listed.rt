@@ -4,7 +4,7 @@ ghost use Rattle.std.specs.Prelude.{◌≡◌, ◌<◌, ◌≤◌, ◌+◌, ◌*
 ghost use Rattle.std.specs.Prelude.{IfOk, IfSome, OnOk, length, map, option_map, reverse, string_bytes};
 ghost use Rattle.std.specs.List.{AllByRecursion};
 ghost use Rattle.pm_codefile.specs.Dictionary.{segment_in};
-ghost use Rattle.pm_codefile.specs.Segments.{procedures_in};
+ghost use Rattle.pm_codefile.specs.Segments.{attributes_in, procedures_in};
 ghost use Rattle.pm_code.specs.Image.{listed_line, listed_lines, pairs_text, upper_digit};
 ghost use Rattle.pm_code.specs.Item.{size};
 ghost use Rattle.pm_code.specs.Item.Item.{OneByte};
@@ -13,7 +13,7 @@ ghost use Rattle.pm_code.specs.Views.{placed_item};
 ghost use Rattle.pm_disasm.specs.Chosen.{IsTable};
 ghost use Rattle.pm_disasm.specs.Follow.{Follow, Items, items_or_bytes, written_by};
 ghost use Rattle.pm_disasm.specs.Listing.{file_listing, slot_listing, stored, stored_entries, stored_items};
-ghost use Rattle.pm_disasm.specs.Listing.{stored_procedure, table_listing, tables_listing};
+ghost use Rattle.pm_disasm.specs.Listing.{stored_dictionary, stored_procedure, table_listing, tables_listing};
 ghost use Rattle.pm_disasm.specs.Offsets.{IsDecoded};
 ghost use Rattle.pm_disasm.specs.Split.{procedure_of};
 ghost use Rattle.pm_disasm.specs.Views.{found_seen, has, part_seen};
@@ -314,6 +314,24 @@ fn list_tables(alloc: Global, text: &mut String, segment: &[u8], slot: u8) -> Re
     Ok(())
 }
 
+/// Adds the line of a segment's dictionary and its highest word.
+fn list_dictionary(text: &mut String, segment: &[u8], slot: u8) -> Result<(), AllocError>
+    ensures text { OnOk result (string_bytes text.new
+        ≡ string_bytes text.old ++ listed_line slot (stored_dictionary segment.now)) }
+{
+    let at = segment
+        .len()
+        .saturating_sub(2 + 2 * usize::from(procedures(segment)));
+    let from = Stored {
+        segment,
+        slot,
+        procedure: 0,
+    };
+    push_front(text, from, at, segment.len() - at)?;
+    writeln!(text, ".DICT")?;
+    Ok(())
+}
+
 /// Adds the lines of the segment of slot n, if it has one.
 fn list_slot(alloc: Global, text: &mut String, file: &CodeFile<'_>, n: u8) -> Result<(), AllocError>
     requires slot { n < 16 }
@@ -324,17 +342,43 @@ fn list_slot(alloc: Global, text: &mut String, file: &CodeFile<'_>, n: u8) -> Re
         return Ok(());
     };
     list_tables(alloc, text, segment, n)?;
-    let at = segment
-        .len()
-        .saturating_sub(2 + 2 * usize::from(procedures(segment)));
-    let from = Stored {
-        segment,
-        slot: n,
-        procedure: 0,
-    };
-    push_front(text, from, at, segment.len() - at)?;
-    writeln!(text, ".DICT")?;
-    Ok(())
+    list_dictionary(text, segment, n)
+}
+
+/// The listing of a procedure of a segment that is decoded already: its lines in [`listing`]. A caller that writes the
+/// procedures of a segment one after the other decodes it once and needs memory for one text.
+///
+/// # Errors
+///
+/// `AllocError` if there is no memory.
+pub fn procedure_listing<'a>(
+    alloc: Global,
+    segment: &'a [u8],
+    slot: u8,
+    decoded: &Decoded<'a>,
+    attributes: &Attributes,
+) -> Result<String, AllocError>
+    requires short { length segment.now ≤ 65534 }
+    requires of_segment { (p : ℕ) × (attributes_in segment.now p ≡ Some attributes.now) }
+    requires decoded { IsDecoded decoded.now segment.now }
+    ensures text { IfOk result (λ text. string_bytes text ≡ table_listing slot segment.now attributes.now) }
+{
+    let mut text = String::new(alloc);
+    list_table(alloc, &mut text, segment, slot, decoded, attributes)?;
+    Ok(text)
+}
+
+/// The line of a segment's dictionary and its highest word in [`listing`].
+///
+/// # Errors
+///
+/// `AllocError` if there is no memory.
+pub fn dictionary_line(alloc: Global, segment: &[u8], slot: u8) -> Result<String, AllocError>
+    ensures text { IfOk result (λ text. string_bytes text ≡ listed_line slot (stored_dictionary segment.now)) }
+{
+    let mut text = String::new(alloc);
+    list_dictionary(&mut text, segment, slot)?;
+    Ok(text)
 }
 
 /// The listing of a code file: its segments by ascending slot, of each its procedures in the order of its dictionary,

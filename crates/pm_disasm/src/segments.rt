@@ -9,9 +9,10 @@ ghost use Rattle.pm_disasm.specs.Laws.{item_at};
 ghost use Rattle.pm_disasm.specs.Shown.{cut, file_text, procedure_text};
 ghost use Rattle.pm_code.specs.Shown.{joined, shown_item};
 ghost use Rattle.pm_code.specs.Laws.{name_of};
-ghost use Rattle.pm_disasm.specs.Shown.{shown_name, slot_lines, slots_lines, tables_lines};
+ghost use Rattle.pm_disasm.specs.Offsets.{IsDecoded};
+ghost use Rattle.pm_disasm.specs.Shown.{shown_name, slot_head, slot_lines, slots_lines, tables_lines};
 
-use crate::decoded::decode_segment;
+use crate::decoded::{Decoded, decode_segment};
 use crate::front::{Front, front_at};
 use crate::procedures::push_table;
 use crate::shown_tables::push_table_once;
@@ -77,6 +78,30 @@ fn push_tables(alloc: Global, text: &mut String, segment: &[u8]) -> Result<(), A
     Ok(())
 }
 
+/// The first line of the segment of a slot, `.SEG`, the slot and the segment's name, with a line feed. The slot has to
+/// be below 16. Without a segment the text is empty.
+///
+/// # Errors
+///
+/// `AllocError` if there is no memory.
+pub fn slot_line(alloc: Global, file: &CodeFile<'_>, n: u8) -> Result<String, AllocError>
+    requires slot { n < 16 }
+    ensures text { IfOk result (λ text. string_bytes text
+        ≡ slot_head n (name_of (slot_in file.now n)) (segment_in file.now n)) }
+{
+    let mut text = String::new(alloc);
+    if file.segment(n).is_none() {
+        return Ok(text);
+    }
+    let Some(slot) = file.slot(n) else {
+        return Ok(text);
+    };
+    write!(text, ".SEG {n} ")?;
+    push_name(&mut text, &slot.name)?;
+    text.push('\n')?;
+    Ok(text)
+}
+
 /// Adds the segment of slot n, if it has one.
 fn push_slot(alloc: Global, text: &mut String, file: &CodeFile<'_>, n: u8) -> Result<(), AllocError>
     requires slot { n < 16 }
@@ -86,14 +111,9 @@ fn push_slot(alloc: Global, text: &mut String, file: &CodeFile<'_>, n: u8) -> Re
     let Some(segment) = file.segment(n) else {
         return Ok(());
     };
-    let Some(slot) = file.slot(n) else {
-        return Ok(());
-    };
-    write!(text, ".SEG {n} ")?;
-    push_name(text, &slot.name)?;
-    text.push('\n')?;
-    push_tables(alloc, text, segment)?;
-    Ok(())
+    let head = slot_line(alloc, file, n)?;
+    text.push_str(head.as_str())?;
+    push_tables(alloc, text, segment)
 }
 
 /// The text of a code file: its segments by ascending slot, each with its procedures. A slot without a length gives
@@ -126,6 +146,29 @@ pub fn procedure(
     let mut text = String::new(alloc);
     let decoded = decode_segment(alloc, segment)?;
     push_table(alloc, &mut text, segment, &decoded, attributes)?;
+    Ok(text)
+}
+
+/// The text of a procedure of a segment that is decoded already, as [`procedure`] returns it. A caller that writes the
+/// procedures of a segment one after the other decodes it once and needs memory for one text.
+///
+/// # Errors
+///
+/// `AllocError` if there is no memory.
+#[tactic(auto, unfolding(crate::specs::Shown::procedure_text))]
+pub fn decoded_procedure<'a>(
+    alloc: Global,
+    segment: &'a [u8],
+    decoded: &Decoded<'a>,
+    attributes: &Attributes,
+) -> Result<String, AllocError>
+    requires short { length segment.now ≤ 65534 }
+    requires of_segment { (p : ℕ) × (attributes_in segment.now p ≡ Some attributes.now) }
+    requires decoded { IsDecoded decoded.now segment.now }
+    ensures text { IfOk result (λ text. string_bytes text ≡ procedure_text segment.now attributes.now) }
+{
+    let mut text = String::new(alloc);
+    push_table(alloc, &mut text, segment, decoded, attributes)?;
     Ok(text)
 }
 

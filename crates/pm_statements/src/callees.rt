@@ -45,7 +45,7 @@ pub fn system_callee(number: u8) -> Option<Callee>
 
 /// What the returns of a procedure leave.
 #[derive(Clone, Copy)]
-pub(crate) enum Returns {
+pub enum Returns {
     /// There is none.
     NoReturn,
     /// Each leaves so many words.

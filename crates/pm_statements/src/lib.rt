@@ -16,8 +16,9 @@ mod sized;
 mod spans;
 pub mod worked;
 
-pub use callees::{callee_of, system_callee};
+pub use callees::{Returns, callee_of, system_callee};
 pub use lines::push_statements;
 pub use pm_trees::{Known, Layout};
 pub use procedure::push_procedure;
-pub use shown::file;
+pub use shown::{file, push_numbered};
+pub use sized::{Sized, SizedSegment, SizedTable, file_sizes};

@@ -221,6 +221,39 @@ fn push_table_once<'a>(
     push_table(alloc, text, known, sized, decoded, &a)
 }
 
+/// Adds what is shown for a number of a segment: the statements of its procedure; one line if the number has no table,
+/// or if an earlier number has led to the same table. `shown` contains the places of the tables that were shown, and
+/// `decoded` the segment, if it was decoded. Both have to be empty before the first number of a segment.
+///
+/// # Errors
+///
+/// `AllocError` if there is no memory. Part of the text may have been added.
+pub fn push_numbered<'a>(
+    alloc: Global,
+    text: &mut String,
+    known: &Known<'_>,
+    sized: &SizedSegment<'a>,
+    decoded: &mut Option<Decoded<'a>>,
+    shown: &mut Vec<u16>,
+    number: u8,
+) -> Result<(), AllocError>
+    requires short { length sized.now.segment.now ≤ 65534 }
+    requires sized { files.IsSizedSegment sized.now }
+    requires decoded { IfSome decoded.old (λ d. IsDecoded d sized.now.segment.now) }
+    ensures text { OnOk result (string_bytes text.new ≡ string_bytes text.old ++ files.numbered_text known.now
+        sized.now.segment.now shown.old.items number (attributes_in sized.now.segment.now number)) }
+    ensures shown { OnOk result (shown.new.items
+        ≡ files.with_table shown.old.items (attributes_in sized.now.segment.now number)) }
+    ensures decoded { OnOk result (IfSome decoded.new (λ d. IsDecoded d sized.now.segment.now)) }
+{
+    let named = Named(number, slot_of(known));
+    match attributes(sized.segment, number) {
+        Some(a) => push_table_once(alloc, text, known, sized, decoded, shown, number, a)?,
+        None => writeln!(text, "{named}: no table")?,
+    }
+    Ok(())
+}
+
 /// Adds the procedures of a segment.
 fn push_segment(
     alloc: Global,
@@ -239,20 +272,7 @@ fn push_segment(
     let mut shown = Vec::new(alloc);
     for done in 0..procedures(segment) {
         let number = done + 1;
-        let named = Named(number, slot_of(known));
-        match attributes(segment, number) {
-            Some(a) => push_table_once(
-                alloc,
-                text,
-                known,
-                sized,
-                &mut decoded,
-                &mut shown,
-                number,
-                a,
-            )?,
-            None => writeln!(text, "{named}: no table")?,
-        }
+        push_numbered(alloc, text, known, sized, &mut decoded, &mut shown, number)?;
     }
     Ok(())
 }

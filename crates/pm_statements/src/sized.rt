@@ -24,7 +24,7 @@ const ITEMS_FOR_A_BYTE: usize = 4;
 /// A procedure's table, what its procedure takes and leaves, and the procedure, where there was room to keep it, with
 /// what its returns leave.
 #[derive(Drop)]
-pub(crate) struct SizedTable {
+pub struct SizedTable {
     /// The table.
     pub table: Attributes,
     /// What its procedure takes and leaves.
@@ -37,7 +37,7 @@ pub(crate) struct SizedTable {
 
 /// A segment with those of its tables that were looked at.
 #[derive(Drop)]
-pub(crate) struct SizedSegment<'a> {
+pub struct SizedSegment<'a> {
     /// The segment.
     pub segment: &'a [u8],
     /// Its tables.
@@ -210,7 +210,7 @@ fn add_slot<'a>(
 
 /// What the procedures of a code file take and leave, and the segments of its slots with their tables.
 #[derive(Drop)]
-pub(crate) struct Sized<'a> {
+pub struct Sized<'a> {
     /// What they take and leave: of each slot 256, by their numbers. Where slot 0 has no segment they are those of the
     /// operating system.
     pub callees: Vec<Option<Callee>>,
@@ -218,9 +218,15 @@ pub(crate) struct Sized<'a> {
     pub segments: Vec<SizedSegment<'a>>,
 }
 
-/// What the procedures of a code file take and leave.
+/// Reads what [`file`](crate::file) needs of a code file before it can write the first statement: what each procedure
+/// takes and leaves, because any procedure may call any other. A procedure is kept for its text if its segment has
+/// room, which is four items for each byte.
+///
+/// # Errors
+///
+/// `AllocError` if there is no memory.
 #[tactic(auto, unfolding(crate::specs::Files::file_callees))]
-pub(crate) fn file_sizes<'a>(alloc: Global, file: &CodeFile<'a>) -> Result<Sized<'a>, AllocError>
+pub fn file_sizes<'a>(alloc: Global, file: &CodeFile<'a>) -> Result<Sized<'a>, AllocError>
     ensures callees { IfOk result (λ sized. sized.callees.items ≡ files.file_callees file.now) }
     ensures segments { IfOk result (λ sized. AllByRecursion files.IsSizedSegment sized.segments.items) }
 {

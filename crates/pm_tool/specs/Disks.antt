@@ -151,4 +151,5 @@ NamesFile start outcome = IfSome outcome.refusal (λ refusal. outcome.about ≡ 
 abbrev pub NamesFileIn : Work → Outcome → Type 0
 NamesFileIn (works.Raw limit selection) outcome = Unit {0}
 NamesFileIn (works.Talk start talk) outcome = NamesFile start outcome
+NamesFileIn (works.Dis output) outcome = Unit {0}
 NamesFileIn (works.Batch job) outcome = Unit {0}

@@ -6,6 +6,7 @@ pub mod Outcomes
 pub mod Disks
 pub mod Products
 pub mod Batches
+pub mod Dis
 pub mod Work
 pub mod Said
 pub mod Talks

@@ -18,7 +18,8 @@ use Rattle.pm_batch.specs.declared.refusal.Refusal.{Refusal}
 use Rattle.pm_jobs.specs.declared.source.TheConstants.{INPUT_LIMIT}
 use Rattle.pm_tool.specs.declared.talk.Talk.{Talk}
 use Rattle.pm_tool.specs.declared.talk.Talk.TheVariants as talks
-use Rattle.pm_tool.specs.Batches.{said_batch}
+use Rattle.pm_tool.specs.Batches.{said_batch, said_making}
+use Rattle.pm_tool.specs.Dis.{dis_product}
 use Rattle.pm_tool.specs.Disks.{loaded, machine_at}
 use Rattle.pm_tool.specs.Work.{work_of}
 use Rattle.pm_tool.specs.Hex.{hex_spelled}
@@ -123,6 +124,7 @@ said_talk (talks.Session typed) start input = said_debug typed.items start input
 abbrev pub said_work : Work → List ℕ → Said
 said_work (works.Raw limit selection) input = said_started (Trace selection) limit (loaded (hex_spelled input)) []
 said_work (works.Talk start talk) input = said_talk talk (machine_at start) input
+said_work (works.Dis output) input = said_making true (dis_product output) input
 said_work (works.Batch job) input = said_batch job input
 
 -- what a job says to all of its input
@@ -208,6 +210,7 @@ WritesInTime old new shown = new.source.failed ≡ true → WritesFirst old new 
 abbrev pub IsPromptWork : Work → Streams → Streams → Type 0
 IsPromptWork (works.Raw limit selection) old new = Unit {0}
 IsPromptWork (works.Talk start talk) old new = WritesInTime old new (shown_talk talk (machine_at start))
+IsPromptWork (works.Dis output) old new = Unit {0}
 IsPromptWork (works.Batch job) old new = Unit {0}
 
 abbrev pub IsPrompt : Job → Streams → Streams → Type 0

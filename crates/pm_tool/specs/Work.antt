@@ -1,4 +1,4 @@
--- The two shapes of jobs.
+-- The shapes of jobs.
 use Rattle.pm_batch.specs.declared.batch.Batch.TheVariants as batches
 use Rattle.pm_tool.specs.declared.outcome.Job.{Job}
 use Rattle.pm_tool.specs.declared.outcome.Job.TheVariants as jobs
@@ -10,7 +10,7 @@ use Rattle.pm_tool.specs.declared.work.Work.TheVariants as works
 use Rattle.pm_batch.specs.Files.{opened_image}
 use Rattle.pm_check.specs.Forms.{form_seen}
 
--- what a job has to do: to talk with a machine, or to turn bytes into bytes
+-- what a job has to do: to talk with a machine, to show a code file, or to turn bytes into bytes
 abbrev pub work_of : Job → Work
 work_of (jobs.Raw limit selection) = works.Raw limit selection
 work_of (jobs.Run disks name limit saving system) =
@@ -19,7 +19,7 @@ work_of (jobs.Trace disks name limit system selection) =
     works.Talk (starts.Booted disks name system) (talks.Run (Trace selection) limit)
 work_of (jobs.Debug disks name system typed) = works.Talk (starts.Booted disks name system) (talks.Session typed)
 work_of (jobs.Asm what) = works.Batch (batches.Asm what)
-work_of (jobs.Dis what) = works.Batch (batches.Dis what)
+work_of (jobs.Dis what) = works.Dis what
 work_of (jobs.Files image command) =
     works.Batch (batches.Files (opened_image image.items) (form_seen image.items) command)
 work_of (jobs.New name blocks) = works.Batch (batches.New name blocks)

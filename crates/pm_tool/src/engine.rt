@@ -9,6 +9,7 @@ ghost use Rattle.pm_tool.specs.Work.{work_of};
 ghost use Rattle.pm_jobs.specs.Streams.{AreWell, IsCounted, both};
 
 use crate::batch::do_batch;
+use crate::dis::do_dis;
 use crate::outcome::{Exit, Job, Outcome};
 use crate::programs::Start;
 use crate::steps::Show;
@@ -67,6 +68,7 @@ fn do_job<R: Source, W: Sink>(
     match work_of(job) {
         Work::Raw { limit, selection } => raw(alloc, source, sink, limit, selection),
         Work::Talk(start, talk) => do_talk(alloc, source, sink, start, talk),
+        Work::Dis(output) => do_dis(alloc, source, sink, output),
         Work::Batch(batch) => do_batch(alloc, source, sink, batch),
     }
 }

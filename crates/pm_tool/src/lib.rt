@@ -3,6 +3,7 @@
 
 mod batch;
 mod debug;
+mod dis;
 mod engine;
 mod hex;
 mod hint;

@@ -1,4 +1,4 @@
-//! The two shapes of jobs.
+//! The shapes of jobs.
 ghost use Rattle.std.specs.Prelude.{◌≡◌};
 ghost use Rattle.pm_batch.specs.Files.{opened_image};
 ghost use Rattle.pm_check.specs.Forms.{form_seen};
@@ -11,7 +11,7 @@ use crate::talk::Talk;
 use pm_batch::{Batch, open};
 use pm_check::form_seen;
 use pm_filer::FileCommand;
-use pm_jobs::Selection;
+use pm_jobs::{DisOutput, Selection};
 
 /// A job, by its shape.
 #[derive(Drop)]
@@ -20,6 +20,8 @@ pub(crate) enum Work {
     Raw { limit: u64, selection: Selection },
     /// The machine that starts is talked with.
     Talk(Start, Talk),
+    /// What is shown of a code file is written.
+    Dis(DisOutput),
     /// Bytes are turned into bytes.
     Batch(Batch),
 }
@@ -90,7 +92,7 @@ pub(crate) fn work_of(job: Job) -> Work
             typed,
         } => talk(disks, name, system, Talk::Session { typed }),
         Job::Asm(what) => Work::Batch(Batch::Asm(what)),
-        Job::Dis(what) => Work::Batch(Batch::Dis(what)),
+        Job::Dis(what) => Work::Dis(what),
         Job::Files { image, command } => files(image, command),
         Job::New { name, blocks } => Work::Batch(Batch::New { name, blocks }),
         Job::Repair { image } => Work::Batch(Batch::Repair { image }),

@@ -15,3 +15,7 @@ returns-in-Talk-clause-broken g c =
 pub returns-in-Batch-clause-broken : goal.returns-in-Batch-clause-broken
 returns-in-Batch-clause-broken g c =
     broken_work (work_of c.args.job) (works.Batch c.in-Batch.batch) _ _ _ c.do_batch.ensures.broken (rw c.work_of.ensures.work at c.in-Batch.is)
+
+pub returns-in-Dis-clause-broken : goal.returns-in-Dis-clause-broken
+returns-in-Dis-clause-broken g c =
+    broken_work (work_of c.args.job) (works.Dis c.in-Dis.output) _ _ _ c.do_dis.ensures.broken (rw c.work_of.ensures.work at c.in-Dis.is)

@@ -147,7 +147,7 @@ pub fn enter(
         ≡ Ok (memory.new.words, registers.new))
         (λ e. framed memory.old.words place loaded registers.old base table link ≡ Err e) }
     ensures watch { WatchStays memory.old memory.new }
-    ensures refused { OnErr result ((memory.new ≡ memory.old) × (registers.new ≡ registers.old)) }
+    ensures unchanged { OnErr result ((memory.new ≡ memory.old) × (registers.new ≡ registers.old)) }
     ensures even { OnOk result (registers.new.mp % 2 ≡ 0) }
     ensures linked { OnOk result (word_at memory.new.words registers.new.mp ≡ link) }
     ensures table { OnOk result ((registers.new.jtab ≡ table.jtab) × (registers.new.ipc ≡ table.enter)) }

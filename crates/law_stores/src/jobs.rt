@@ -29,7 +29,7 @@ const FILE: &str = "file";
 /// stream fails, or the file cannot be read or written, it has the bytes that it had. An error is want of memory before
 /// or behind the job.
 pub fn on_file(alloc: Global, image: Vec<u8>, typed: &[u8], verb: Verb) -> Result<OnFile, DiskFault>
-    ensures stays { IfOk result (λ came. OnErr came.done (came.file.items ≡ image.items)) }
+    ensures unchanged { IfOk result (λ came. OnErr came.done (came.file.items ≡ image.items)) }
     ensures cut { IfOk result (λ came. IfOk came.done (StaysWhereCut image.items came.file.items)) }
     ensures saved { IfOk result (λ came. IfOk came.done (SavesIn image.items came.file.items)) }
     ensures said { IfOk result (λ came. IfOk came.done (λ outcome. IsSoundExit outcome.exit →

@@ -21,7 +21,7 @@ pub(crate) fn program_of(alloc: Global, text: &str) -> Result<Vec<Segment>, AsmF
     ensures program { IfOk result (λ program. program_seen program.items ≡ program_of text.now) }
     ensures faultless { OnOk result (faults text.now ≡ []) }
     ensures short { OnOk result (AreShort (program_of text.now)) }
-    ensures refused { IfErr result (λ fault. fault ≢ NoMemory → assembled text.now ≡ Err fault) }
+    ensures refusal { IfErr result (λ fault. fault ≢ NoMemory → assembled text.now ≡ Err fault) }
 {
     let segments = source_of(alloc, text)?;
     let found = resolve_segments(alloc, &segments)?;
@@ -49,7 +49,7 @@ pub struct Assembly {
 /// - `NoMemory`: memory could not grow.
 pub fn assemble(alloc: Global, text: &str) -> Result<Assembly, AsmFault>
     ensures assembled { IfOk result (λ a. assembled text.now ≡ Ok (a.file.items, string_bytes a.listing)) }
-    ensures refused { IfErr result (λ fault. fault ≢ NoMemory → assembled text.now ≡ Err fault) }
+    ensures refusal { IfErr result (λ fault. fault ≢ NoMemory → assembled text.now ≡ Err fault) }
     ensures spelled { IfOk result (λ a. Assembles text.now a.file.items (string_bytes a.listing)) }
     ensures unspelled { IfErr result (λ fault. fault ≢ NoMemory → SpellsNothing text.now) }
 {
@@ -62,7 +62,7 @@ pub fn assemble(alloc: Global, text: &str) -> Result<Assembly, AsmFault>
 /// The code file of a text's program; its listing is not made. The refusals are those of `assemble`.
 pub fn assemble_file(alloc: Global, text: &str) -> Result<Vec<u8>, AsmFault>
     ensures file { IfOk result (λ file. wanted false (assembled text.now) ≡ Ok file.items) }
-    ensures refused { IfErr result (λ fault. fault ≢ NoMemory → assembled text.now ≡ Err fault) }
+    ensures refusal { IfErr result (λ fault. fault ≢ NoMemory → assembled text.now ≡ Err fault) }
 {
     let program = program_of(alloc, text)?;
     let file = code_file(alloc, &program).map_err(|_| AsmFault::NoMemory)?;
@@ -72,7 +72,7 @@ pub fn assemble_file(alloc: Global, text: &str) -> Result<Vec<u8>, AsmFault>
 /// The listing of a text's program; its code file is not made. The refusals are those of `assemble`.
 pub fn assemble_listing(alloc: Global, text: &str) -> Result<String, AsmFault>
     ensures listing { IfOk result (λ listing. wanted true (assembled text.now) ≡ Ok (string_bytes listing)) }
-    ensures refused { IfErr result (λ fault. fault ≢ NoMemory → assembled text.now ≡ Err fault) }
+    ensures refusal { IfErr result (λ fault. fault ≢ NoMemory → assembled text.now ≡ Err fault) }
 {
     let program = program_of(alloc, text)?;
     let listing = listing_of(alloc, &program).map_err(|_| AsmFault::NoMemory)?;

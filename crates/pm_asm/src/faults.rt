@@ -39,7 +39,7 @@ fn row_fault<'a>(alloc: Global, code: &Code<'_, 'a>, at: usize, row: &Row<'a>) -
 fn note_code(alloc: Global, code: &Code<'_, '_>, found: &mut Vec<AsmFault>) -> Result<(), AsmFault>
     ensures noted { OnOk result (found.new.items ≡ found.old.items
         ++ code_firsts (places_in code.now) code.now.start (map row_seen code.now.rows.now)) }
-    ensures refused { IfErr result (λ fault. fault ≡ NoMemory) }
+    ensures refusal { IfErr result (λ fault. fault ≡ NoMemory) }
 {
     let mut at = code.start;
     for row in code.rows {
@@ -68,7 +68,7 @@ fn note_entries<'a>(
 ) -> Result<(), AsmFault>
     ensures noted { OnOk result (found.new.items ≡ found.old.items
         ++ entries_faults (places_in code.now) (map entry_seen entries.now)) }
-    ensures refused { IfErr result (λ fault. fault ≡ NoMemory) }
+    ensures refusal { IfErr result (λ fault. fault ≡ NoMemory) }
 {
     for entry in entries {
         note(found, entry_fault(code, entry))?;
@@ -86,7 +86,7 @@ fn note_procedure(
 ) -> Result<(), AsmFault>
     ensures noted { OnOk result (found.new.items ≡ found.old.items
         ++ label_firsts at (labelled_procedure procedure.now)) }
-    ensures refused { IfErr result (λ fault. fault ≡ NoMemory) }
+    ensures refusal { IfErr result (λ fault. fault ≡ NoMemory) }
 {
     let rows: &[Row<'_>] = &procedure.code;
     let table = table_of(alloc, at, rows).map_err(|_| AsmFault::NoMemory)?;
@@ -108,7 +108,7 @@ fn note_procedures(
 ) -> Result<(), AsmFault>
     ensures noted { OnOk result (found.new.items ≡ found.old.items
         ++ label_firsts_from 0 (map labelled_procedure procedures.now)) }
-    ensures refused { IfErr result (λ fault. fault ≡ NoMemory) }
+    ensures refusal { IfErr result (λ fault. fault ≡ NoMemory) }
 {
     let mut at = 0;
     for procedure in procedures {
@@ -125,7 +125,7 @@ fn faults_of_labels(
     segments: &[LabelledSegment<'_>],
 ) -> Result<Vec<AsmFault>, AsmFault>
     ensures faults { IfOk result (λ faults. faults.items ≡ all_label_firsts (labelled_segments segments.now)) }
-    ensures refused { IfErr result (λ fault. fault ≡ NoMemory) }
+    ensures refusal { IfErr result (λ fault. fault ≡ NoMemory) }
 {
     let mut found = Vec::new(alloc);
     for segment in segments {
@@ -140,7 +140,7 @@ fn faults_of_labels(
 #[tactic(auto, unfolding(crate::specs::Each::all_faults))]
 pub fn all_faults(alloc: Global, text: &str) -> Result<Vec<AsmFault>, AsmFault>
     ensures all { IfOk result (λ faults. faults.items ≡ all_faults text.now) }
-    ensures refused { IfErr result (λ fault. fault ≡ NoMemory) }
+    ensures refusal { IfErr result (λ fault. fault ≡ NoMemory) }
 {
     let lines = faults_of_lines(alloc, text)?;
     if !lines.is_empty() {

@@ -24,7 +24,7 @@ pub(crate) fn resolve_label<'a>(
 ) -> Result<usize, AsmFault>
     ensures known { OnOk result (is_unknown_label (places_in code.now) name.now ≡ false) }
     ensures found { IfOk result (λ place. place ≡ found_label (places_in code.now) name.now) }
-    ensures fault { IfErr result (λ fault. fault ≡ NoLabel line) }
+    ensures refusal { IfErr result (λ fault. fault ≡ NoLabel line) }
     ensures unknown { OnErr result (is_unknown_label (places_in code.now) name.now ≡ true) }
 {
     match place_of(code, name) {
@@ -43,7 +43,7 @@ pub(crate) fn resolve_labels<'a>(
     ensures known { OnOk result (list_any (is_unknown_label (places_in code.now)) (texts_seen names.now) ≡ false) }
     ensures found { IfOk result (λ places. places.items
         ≡ map (found_label (places_in code.now)) (texts_seen names.now)) }
-    ensures fault { IfErr result (λ fault. fault ≢ NoMemory → fault ≡ NoLabel line) }
+    ensures refusal { IfErr result (λ fault. fault ≢ NoMemory → fault ≡ NoLabel line) }
     ensures unknown { IfErr result (λ fault. fault ≢ NoMemory
         → list_any (is_unknown_label (places_in code.now)) (texts_seen names.now) ≡ true) }
 {
@@ -64,7 +64,7 @@ pub(crate) fn resolve_target<'a>(
     ensures known { OnOk result (is_unknown_target (places_in code.now) (labelled_target target.entry) ≡ false) }
     ensures found { IfOk result (λ found. placed_target found
         ≡ found_target (places_in code.now) (labelled_target target.entry)) }
-    ensures fault { IfErr result (λ fault. fault ≡ NoLabel line) }
+    ensures refusal { IfErr result (λ fault. fault ≡ NoLabel line) }
     ensures unknown { OnErr result (is_unknown_target (places_in code.now) (labelled_target target.entry) ≡ true) }
 {
     match target {
@@ -84,7 +84,7 @@ fn is_far_place(next: usize, place: usize) -> bool
 /// Refuses a short jump of a line that cannot reach its place from the next instruction, by `Far`.
 pub(crate) fn check_near(line: usize, next: usize, target: Target<usize>) -> Result<(), AsmFault>
     ensures near { OnOk result (is_far_target next (placed_target target) ≡ false) }
-    ensures fault { IfErr result (λ fault. fault ≡ Far line) }
+    ensures refusal { IfErr result (λ fault. fault ≡ Far line) }
     ensures far { OnErr result (is_far_target next (placed_target target) ≡ true) }
 {
     match target {

@@ -19,7 +19,7 @@ pub const LONGEST: usize = 60_000;
 fn is_long(segment: &Segment) -> Result<bool, AsmFault>
     requires follow { FollowFrom 0 (segment_seen segment.now).procedures }
     ensures value { IfOk result (λ long. long ≡ nat_lt LONGEST (length (segment_bytes (segment_seen segment.now)))) }
-    ensures refused { IfErr result (λ fault. fault ≡ NoMemory) }
+    ensures refusal { IfErr result (λ fault. fault ≡ NoMemory) }
     ensures too_long { OnErr result (IsCountless (length (segment_bytes (segment_seen segment.now)))) }
 {
     let length = segment_length(segment).ok_or(AsmFault::NoMemory)?;
@@ -31,7 +31,7 @@ fn is_long(segment: &Segment) -> Result<bool, AsmFault>
 pub(crate) fn check_lengths(program: &[Segment]) -> Result<(), AsmFault>
     requires follow { AllByRecursion (λ s. FollowFrom 0 s.procedures) (program_seen program.now) }
     ensures short { OnOk result (AreShort (program_seen program.now)) }
-    ensures fault { IfErr result (IsTooLong (program_seen program.now)) }
+    ensures refusal { IfErr result (IsTooLong (program_seen program.now)) }
     ensures too_long { result ≡ Err NoMemory → IsTrue (list_any is_countless_long (program_seen program.now)) }
 {
     for segment in program {

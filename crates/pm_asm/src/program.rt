@@ -21,7 +21,7 @@ use std::alloc::Global;
 /// The place of the exit code. It fails only where the code is longer than memory can be.
 fn exit_place(code: &Code<'_, '_>) -> Result<usize, AsmFault>
     ensures place { IfOk result (λ place. place ≡ exit_in code.now) }
-    ensures refused { IfErr result (λ fault. fault ≡ NoMemory) }
+    ensures refusal { IfErr result (λ fault. fault ≡ NoMemory) }
 {
     let mut at = code.start;
     for row in code.rows {
@@ -44,7 +44,7 @@ fn resolve_procedure(
     ensures faultless { OnOk result (label_faults at (labelled_procedure procedure.now) ≡ []) }
     ensures found { IfOk result (λ found. procedure_seen found
         ≡ found_procedure at (labelled_procedure procedure.now)) }
-    ensures fault { IfErr result (λ fault. IsFirstOf fault (label_faults at (labelled_procedure procedure.now))) }
+    ensures refusal { IfErr result (λ fault. IsFirstOf fault (label_faults at (labelled_procedure procedure.now))) }
 {
     let rows: &[Row<'_>] = &procedure.code;
     let table = table_of(alloc, at, rows).map_err(|_| AsmFault::NoMemory)?;
@@ -76,7 +76,7 @@ fn resolve_procedures(
     ensures faultless { OnOk result (label_faults_from 0 (map labelled_procedure procedures.now) ≡ []) }
     ensures found { IfOk result (λ found. map procedure_seen found.items
         ≡ found_procedures 0 (map labelled_procedure procedures.now)) }
-    ensures fault { IfErr result (λ fault. IsFirstOf fault
+    ensures refusal { IfErr result (λ fault. IsFirstOf fault
         (label_faults_from 0 (map labelled_procedure procedures.now))) }
 {
     let mut found = Vec::new(alloc);
@@ -93,7 +93,7 @@ fn resolve_procedures(
 fn resolve_segment(alloc: Global, segment: &LabelledSegment<'_>) -> Result<Segment, AsmFault>
     ensures faultless { OnOk result (label_faults_from 0 (labelled_segment segment.now).procedures ≡ []) }
     ensures found { IfOk result (λ found. segment_seen found ≡ found_segment (labelled_segment segment.now)) }
-    ensures fault { IfErr result (λ fault. IsFirstOf fault
+    ensures refusal { IfErr result (λ fault. IsFirstOf fault
         (label_faults_from 0 (labelled_segment segment.now).procedures)) }
 {
     let procedures = resolve_procedures(alloc, &segment.procedures)?;
@@ -118,7 +118,7 @@ pub(crate) fn resolve_segments(
     ensures faultless { OnOk result (all_label_faults (labelled_segments segments.now) ≡ []) }
     ensures found { IfOk result (λ found. program_seen found.items
         ≡ map found_segment (labelled_segments segments.now)) }
-    ensures fault { IfErr result (λ fault. IsFirstOf fault (all_label_faults (labelled_segments segments.now))) }
+    ensures refusal { IfErr result (λ fault. IsFirstOf fault (all_label_faults (labelled_segments segments.now))) }
 {
     let mut found = Vec::new(alloc);
     for segment in segments {

@@ -52,7 +52,7 @@ fn resolve_case<'a>(
         (Case bounds.0 bounds.1 (labelled_target target.entry) (texts_seen names.now)) ≡ []) }
     ensures found { IfOk result (λ item. placed_item item ≡ found_item (places_in code.now)
         (Case bounds.0 bounds.1 (labelled_target target.entry) (texts_seen names.now))) }
-    ensures fault { IfErr result (λ fault. IsFirstOf fault (item_faults (places_in code.now) place.0 place.1
+    ensures refusal { IfErr result (λ fault. IsFirstOf fault (item_faults (places_in code.now) place.0 place.1
         (Case bounds.0 bounds.1 (labelled_target target.entry) (texts_seen names.now)))) }
 {
     let (line, at) = place;
@@ -80,7 +80,7 @@ fn resolve_jump<'a>(
         (Jump opcode (labelled_target target.entry)) ≡ []) }
     ensures found { IfOk result (λ item. placed_item item ≡ found_item (places_in code.now)
         (Jump opcode (labelled_target target.entry))) }
-    ensures fault { IfErr result (λ fault. IsFirstOf fault (item_faults (places_in code.now) place.0 place.1
+    ensures refusal { IfErr result (λ fault. IsFirstOf fault (item_faults (places_in code.now) place.0 place.1
         (Jump opcode (labelled_target target.entry)))) }
     ensures too_long { result ≡ Err NoMemory → IsCountless (place.1 + 2) }
 {
@@ -103,7 +103,7 @@ fn resolve_item<'a>(
     ensures faultless { OnOk result (item_faults (places_in code.now) line at (labelled_item item.now) ≡ []) }
     ensures found { IfOk result (λ found. placed_item found
         ≡ found_item (places_in code.now) (labelled_item item.now)) }
-    ensures fault { IfErr result (λ fault. IsFirstOf fault
+    ensures refusal { IfErr result (λ fault. IsFirstOf fault
         (item_faults (places_in code.now) line at (labelled_item item.now))) }
 {
     match item {
@@ -138,7 +138,7 @@ fn resolve_items<'a>(
     ensures faultless { OnOk result (items_faults (places_in code.now) line start (map labelled_item items.now) ≡ []) }
     ensures found { OnOk result (map placed_item out.new.items ≡ map placed_item out.old.items
         ++ map (found_item (places_in code.now)) (map labelled_item items.now)) }
-    ensures fault { IfErr result (λ fault. IsFirstOf fault
+    ensures refusal { IfErr result (λ fault. IsFirstOf fault
         (items_faults (places_in code.now) line start (map labelled_item items.now))) }
 {
     let mut at = start;
@@ -162,7 +162,7 @@ pub(crate) fn resolve_row<'a>(
     ensures faultless { OnOk result (row_faults (places_in code.now) at (row_seen row.now) ≡ []) }
     ensures found { OnOk result (map placed_item out.new.items ≡ map placed_item out.old.items
         ++ map (found_item (places_in code.now)) (row_items (row_seen row.now))) }
-    ensures fault { IfErr result (λ fault. IsFirstOf fault (row_faults (places_in code.now) at (row_seen row.now))) }
+    ensures refusal { IfErr result (λ fault. IsFirstOf fault (row_faults (places_in code.now) at (row_seen row.now))) }
 {
     match row {
         Row::One { line, item, .. } => resolve_items(alloc, code, *line, at, from_ref(item), out),
@@ -177,7 +177,7 @@ pub(crate) fn resolve_code(alloc: Global, code: &Code<'_, '_>) -> Result<Vec<Ite
     ensures faultless { OnOk result (code_faults (places_in code.now) code.now.start (map row_seen code.now.rows.now)
         ≡ []) }
     ensures found { IfOk result (λ items. map placed_item items.items ≡ items_in code.now) }
-    ensures fault { IfErr result (λ fault. IsFirstOf fault
+    ensures refusal { IfErr result (λ fault. IsFirstOf fault
         (code_faults (places_in code.now) code.now.start (map row_seen code.now.rows.now))) }
 {
     let mut items = Vec::new(alloc);
@@ -199,7 +199,7 @@ pub(crate) fn resolve_entries<'a>(
     ensures faultless { OnOk result (entries_faults (places_in code.now) (map entry_seen entries.now) ≡ []) }
     ensures found { IfOk result (λ places. places.items
         ≡ map (λ e. found_label (places_in code.now) e.1) (map entry_seen entries.now)) }
-    ensures fault { IfErr result (λ fault. IsFirstOf fault
+    ensures refusal { IfErr result (λ fault. IsFirstOf fault
         (entries_faults (places_in code.now) (map entry_seen entries.now))) }
 {
     let mut places = Vec::new(alloc);

@@ -184,7 +184,7 @@ fn lines_of(alloc: Global, symbols: &[Symbol<'_>]) -> Result<Vec<u8>, AllocError
 #[tactic(auto, using(crate::proofs::SymbolPlaces::symbols_refused))]
 pub fn assemble_symbols(alloc: Global, text: &str) -> Result<Vec<u8>, AsmFault>
     ensures symbols { IfOk result (λ lines. symbol_text text.now ≡ Ok lines.items) }
-    ensures refused { IfErr result (λ fault. fault ≢ NoMemory → symbol_text text.now ≡ Err fault) }
+    ensures refusal { IfErr result (λ fault. fault ≢ NoMemory → symbol_text text.now ≡ Err fault) }
 {
     program_of(alloc, text)?;
     let segments = source_of(alloc, text).map_err(|_| AsmFault::NoMemory)?;

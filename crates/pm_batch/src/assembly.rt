@@ -54,7 +54,7 @@ fn text_in_place(alloc: Global, input: Vec<u8>) -> Result<String, AllocError>
 /// The bytes of the code file of a text; with `list` those of its listing. The other of the two is not made.
 fn made(alloc: Global, text: &str, list: bool) -> Result<Vec<u8>, AsmFault>
     ensures bytes { IfOk result (λ bytes. wanted list (assembled text.now) ≡ Ok bytes.items) }
-    ensures refused { IfErr result (λ fault. fault ≢ NoMemory → assembled text.now ≡ Err fault) }
+    ensures refusal { IfErr result (λ fault. fault ≢ NoMemory → assembled text.now ≡ Err fault) }
 {
     if list {
         let listing = assemble_listing(alloc, text)?;
@@ -66,7 +66,7 @@ fn made(alloc: Global, text: &str, list: bool) -> Result<Vec<u8>, AsmFault>
 /// The bytes of the code file of a text, with `list` those of its listing, or why there are none.
 fn wanted(alloc: Global, text: &str, list: bool) -> Result<Result<Vec<u8>, AsmFault>, AllocError>
     ensures bytes { IfOk result (λ bytes. IfOk bytes (λ bytes. wanted list (assembled text.now) ≡ Ok bytes.items)) }
-    ensures fault { IfOk result (λ bytes. IfErr bytes (λ fault. wanted list (assembled text.now) ≡ Err fault)) }
+    ensures refusal { IfOk result (λ bytes. IfErr bytes (λ fault. wanted list (assembled text.now) ≡ Err fault)) }
 {
     match made(alloc, text, list) {
         Ok(bytes) => Ok(Ok(bytes)),
@@ -154,7 +154,7 @@ pub(crate) fn assemble(alloc: Global, input: Vec<u8>, list: bool) -> Result<Made
 /// The lines of the procedures and labels of a text, or why there are none.
 fn symbols(alloc: Global, text: &str) -> Result<Result<Vec<u8>, AsmFault>, AllocError>
     ensures bytes { IfOk result (λ bytes. IfOk bytes (λ bytes. symbol_text text.now ≡ Ok bytes.items)) }
-    ensures fault { IfOk result (λ bytes. IfErr bytes (λ fault. symbol_text text.now ≡ Err fault)) }
+    ensures refusal { IfOk result (λ bytes. IfErr bytes (λ fault. symbol_text text.now ≡ Err fault)) }
 {
     match assemble_symbols(alloc, text) {
         Ok(bytes) => Ok(Ok(bytes)),

@@ -1,6 +1,6 @@
--- The blocks of 512 bytes of which disks and files are made.
+-- Blocks of 512 bytes, the units in which disks and files are divided.
 use Rattle.std.specs.Prelude.{ℕ, ◌+◌, ◌/◌}
 
--- how many blocks hold so many bytes
+-- The number of blocks that `size` bytes need: `size / 512`, rounded up.
 abbrev pub blocks_for : ℕ → ℕ
 blocks_for size = (size + 511) / 512

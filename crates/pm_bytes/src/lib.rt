@@ -1,4 +1,4 @@
-//! Words and blocks: how bytes of disks, volumes and code files are read and written.
+//! Words and blocks: reads and writes the bytes of disks, volumes and code files.
 #![tactic(auto)]
 
 mod blocks;

@@ -1,4 +1,4 @@
-//! Words and bytes in a slice of bytes.
+//! Words (16 bits) and bytes in a slice of bytes.
 
 ghost use Rattle.std.specs.Prelude.{◌≡◌, ◌+◌, ◌≤◌, length, replicate};
 ghost use Rattle.byteorder.specs.Endian.{little_bytes};
@@ -6,7 +6,9 @@ ghost use Rattle.pm_bytes.specs.Words.{word_in, written, zeros};
 
 use byteorder::{ByteOrder, LittleEndian};
 
-/// The word at a place, its low byte first.
+/// Returns the word at byte offset `place`. Its low byte is at `place`, its high byte at `place + 1`.
+///
+/// Both bytes must be in `bytes`.
 #[tactic(auto, unfolding(crate::specs::Words::word_in))]
 pub fn word(bytes: &[u8], place: usize) -> u16
     requires room { place + 2 ≤ length bytes.now }
@@ -15,7 +17,9 @@ pub fn word(bytes: &[u8], place: usize) -> u16
     LittleEndian::read_u16(&bytes[place..])
 }
 
-/// Writes a word at a place, its low byte first.
+/// Writes `word` at byte offset `place`, the low byte first.
+///
+/// Both bytes must be in `bytes`.
 #[tactic(auto, unfolding(crate::specs::Words::written))]
 pub fn set_word(bytes: &mut [u8], place: usize, word: u16)
     requires room { place + 2 ≤ length bytes.old }
@@ -24,7 +28,9 @@ pub fn set_word(bytes: &mut [u8], place: usize, word: u16)
     LittleEndian::write_u16(&mut bytes[place..place + 2], word);
 }
 
-/// Writes bytes at a place.
+/// Overwrites the bytes from offset `place` on with `new`.
+///
+/// The bytes that are overwritten must be in `bytes`.
 #[tactic(auto, unfolding(crate::specs::Words::written))]
 pub fn set_bytes(bytes: &mut [u8], place: usize, new: &[u8])
     requires room { place + length new.now ≤ length bytes.old }
@@ -33,7 +39,9 @@ pub fn set_bytes(bytes: &mut [u8], place: usize, new: &[u8])
     bytes[place..place + new.len()].copy_from_slice(new);
 }
 
-/// Writes so many zeros at a place.
+/// Overwrites `count` bytes from offset `place` on with zeros.
+///
+/// These bytes must be in `bytes`.
 #[tactic(auto, unfolding(crate::specs::Words::written))]
 pub fn clear(bytes: &mut [u8], place: usize, count: usize)
     requires room { place + count ≤ length bytes.old }
@@ -42,7 +50,7 @@ pub fn clear(bytes: &mut [u8], place: usize, count: usize)
     bytes[place..place + count].fill(0);
 }
 
-/// Makes all bytes zero.
+/// Overwrites all bytes with zeros.
 #[tactic(auto, unfolding(crate::specs::Words::zeros))]
 pub fn clear_all(bytes: &mut [u8])
     ensures cleared { bytes.new ≡ zeros (length bytes.old) }

@@ -13,7 +13,7 @@ use std::alloc::Global;
 
 fn step_code(machine: &mut Machine) -> u32
     ensures step { result ≢ NO_MEMORY → StepsTo result machine.old machine.new }
-    ensures err { result ≡ NO_MEMORY → machine.new ≡ machine.old }
+    ensures unchanged { result ≡ NO_MEMORY → machine.new ≡ machine.old }
     ensures wanted { result ≡ NO_MEMORY → WantsMemory machine.old }
 {
     match machine.step() {
@@ -29,7 +29,7 @@ fn step_code(machine: &mut Machine) -> u32
 pub extern "C" fn pmach_step(alloc: Global, handle: &mut Handle) -> u32
     ensures step { Leads result handle.old.held handle.new.held (ChangesMachine (λ m n.
         result ≢ NO_MEMORY → StepsTo result m n)) }
-    ensures err { result ≡ NO_MEMORY → handle.new.held ≡ handle.old.held }
+    ensures unchanged { result ≡ NO_MEMORY → handle.new.held ≡ handle.old.held }
     ensures wanted { Leads result handle.old.held handle.new.held (λ m _.
         result ≡ NO_MEMORY → WantsMemory m.debugger.machine) }
 {
@@ -85,7 +85,7 @@ pub extern "C" fn pmach_run(alloc: Global, handle: &mut Handle, limit: u64, step
 pub extern "C" fn pmach_key(alloc: Global, handle: &mut Handle, byte: u8) -> u32
     ensures event { Leads result handle.old.held handle.new.held (ChangesMachine (λ m n. result ≢ NO_MEMORY →
         (result ≡ DONE) × (n.state ≡ next m.state (Key byte)))) }
-    ensures err { result ≡ NO_MEMORY → handle.new.held ≡ handle.old.held }
+    ensures unchanged { result ≡ NO_MEMORY → handle.new.held ≡ handle.old.held }
     ensures full { Leads result handle.old.held handle.new.held (λ m _.
         result ≡ NO_MEMORY → m.debugger.machine.room.queue ≡ 0) }
 {

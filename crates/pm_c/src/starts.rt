@@ -55,7 +55,7 @@ pub extern "C" fn pmach_new(alloc: Global, handle: &mut Handle, code: &[u8]) -> 
     ensures start { result ≡ DONE → Holds handle.new.held (raw_start code.now) }
     ensures code { result ≢ NO_MEMORY → result ≢ HAS_MACHINE → result ≡ start_code (raw_start code.now) }
     ensures full { (result ≡ HAS_MACHINE) ↔ (is_some handle.old.held ≡ true) }
-    ensures same { result ≢ DONE → handle.new.held ≡ handle.old.held }
+    ensures unchanged { result ≢ DONE → handle.new.held ≡ handle.old.held }
 {
     if is_full(alloc, handle) {
         return HAS_MACHINE;
@@ -84,7 +84,7 @@ pub extern "C" fn pmach_boot(
         result ≡ program_code image.now name.now clock }
     ensures full { (result ≡ HAS_MACHINE) ↔ (is_some handle.old.held ≡ true) }
     ensures text { result ≢ HAS_MACHINE → ((result ≡ NO_TEXT) ↔ ¬ (IsUtf8 name.now)) }
-    ensures same { result ≢ DONE → handle.new.held ≡ handle.old.held }
+    ensures unchanged { result ≢ DONE → handle.new.held ≡ handle.old.held }
 {
     if is_full(alloc, handle) {
         return HAS_MACHINE;

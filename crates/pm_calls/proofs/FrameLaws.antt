@@ -1,4 +1,4 @@
--- The laws of a frame's words.
+-- Laws of the words of a frame.
 use Rattle.std.proofs.Common.{take, get_or, ◌≡◌, ℕ, ◌+◌, ◌-◌, ◌*◌, ◌/◌, ◌%◌, ◌<◌, ◌≤◌, List, [], ◌∷◌, ◌∙◌, refl, sym, ap, arith, inl, inr, ⊎_elim}
 use Rattle.std.proofs.lemmas.Bool.{cases_lt, cases_eq}
 use Rattle.std.proofs.lemmas.List.{append-nil, ext_get_or, take-append-drop}
@@ -9,7 +9,7 @@ use Rattle.pm_words.proofs.RangeLaws.{IsMemory-copied, word_at-copied, word_at-c
 use Rattle.pm_calls.specs.declared.registers.Registers.{Registers}
 use Rattle.pm_calls.specs.Calls.{with_control, with_frame}
 
--- the static link is the frame's first word
+-- The static link is the first word of the frame.
 pub with_control-link : (m : List ℕ) (f static above : ℕ) (r : Registers) → IsMemory m → f % 2 ≡ 0 → f + 12 ≤ 65504
     → word_at (with_control m f static r above) f ≡ static
 unfolding with_control
@@ -21,25 +21,25 @@ with_control-link m f static above r h even room =
     ∙ word_at-with_word_other _ (f + 2) f r.mp (omega arith) even (λ e. absurd (omega arith))
     ∙ word_at-with_word m f f static refl (omega (arith, h.size))
 
--- the control words, written at once
+-- The control words, written in one call.
 pub with_control-six : (m : List ℕ) (f static above : ℕ) (r : Registers) → IsMemory m → f % 2 ≡ 0 → f + 12 ≤ 65504
     → with_words m f (static ∷ r.mp ∷ r.jtab ∷ r.seg ∷ r.ipc ∷ above ∷ []) ≡ with_control m f static r above
 unfolding with_control
 with_control-six m f static above r h even room =
     sym (with_words-six m f static r.mp r.jtab r.seg r.ipc above even (omega (arith, room)) h.size)
 
--- a frame, of which the parameters are there before its control words
+-- A frame whose parameters are written before its control words.
 pub with_frame-six : (m n k : List ℕ) (f static : ℕ) (r : Registers) (parameters : ℕ) → IsMemory n → f % 2 ≡ 0 → f + 12 ≤ 65504
     → n ≡ copied m r.sp (f + 12) parameters
     → k ≡ with_words n f (static ∷ r.mp ∷ r.jtab ∷ r.seg ∷ r.ipc ∷ (r.sp + parameters) ∷ []) → k ≡ with_frame m f static r parameters
 with_frame-six m n k f static r parameters h even room e g =
     g ∙ with_control-six n f static (r.sp + parameters) r h even room ∙ ap (λ x. with_control x f static r (r.sp + parameters)) e
 
--- a word below a frame leaves the static link
+-- Writing a word below a frame does not change its static link.
 pub below-link : (m : List ℕ) (f w link : ℕ) → f % 2 ≡ 0 → 2 ≤ f → word_at m f ≡ link → word_at (with_word m (f - 2) w) f ≡ link
 below-link m f w link even room h = word_at-with_word_other m (f - 2) f w (omega arith) even (λ e. absurd (omega arith)) ∙ h
 
--- a copy of no byte
+-- Copying no byte changes nothing.
 pub no_bytes_copied : (ws : List ℕ) (from to n : ℕ) → n ≡ 0 → copied ws from to n ≡ ws
 unfolding copied bytes_at with_bytes
 no_bytes_copied ws from to n none =
@@ -57,7 +57,7 @@ same_words ws vs h k same =
     ext_get_or 0 ws vs (h.size ∙ sym k.size)
     (λ i l. sym (word_at-twice ws i) ∙ (same (2 * i) (omega arith) (omega (arith, h.size)) ∙ word_at-twice vs i))
 
--- a word more that is copied
+-- Copying one word more.
 pub copied-word : (ws : List ℕ) (from to n w : ℕ) → IsMemory ws → from % 2 ≡ 0 → to % 2 ≡ 0 → n % 2 ≡ 0 → from + n + 2 ≤ 65536 → to + n + 2 ≤ 65536
     → w ≡ word_at ws (from + n) → w < 65536 → with_word (copied ws from to n) (to + n) w ≡ copied ws from to (n + 2)
 copied-word ws from to n w h f t even source room is fit =
@@ -85,13 +85,13 @@ copied-word ws from to n w h f t even source room is fit =
     (cases_lt x (to + n)))
     (cases_lt x to))
 
--- a word that is still to be copied upwards stands as it stood
+-- A word that is still to be copied has its old value.
 pub copied-ahead : (ws : List ℕ) (from to n : ℕ) → IsMemory ws → from % 2 ≡ 0 → n % 2 ≡ 0 → to ≤ from → from + n + 2 ≤ 65536
     → word_at (copied ws from to n) (from + n) ≡ word_at ws (from + n)
 copied-ahead ws from to n h f even below source =
     word_at-copied_other ws from to n (from + n) h (omega arith) (omega arith) (omega arith) (inr (omega arith))
 
--- a word that is copied alone
+-- Copying a single word.
 pub word_copied : (ws : List ℕ) (from to w : ℕ) → IsMemory ws → from % 2 ≡ 0 → to % 2 ≡ 0 → from + 2 ≤ 65536 → to + 2 ≤ 65536
     → w ≡ word_at ws from → w < 65536 → with_word ws to w ≡ copied ws from to 2
 word_copied ws from to w h f t source room is fit =

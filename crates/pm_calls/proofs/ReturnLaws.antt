@@ -1,4 +1,4 @@
--- A return right after its call.
+-- A return immediately after its call.
 use Rattle.std.proofs.Common.{◌≡◌, ◌≢◌, ◌<◌, ◌≤◌, inl, inr, ℕ, ◌+◌, ◌-◌, ◌*◌, ◌/◌, ◌%◌, ◌==◌, ◌&&◌, Bool, true, false, cond, nat_lt}
 use Rattle.std.proofs.Common.{nat_le, List, length, Option, Some, None, Result, Ok, Err, refl, sym, ap, ◌∙◌, subst, arith, length-set}
 use Rattle.std.specs.Prelude.{slice_get}
@@ -24,7 +24,7 @@ use Rattle.pm_calls.specs.Calls.{inside, is_base, kept_below, reach_loading, pro
 use Rattle.pm_calls.specs.Returns.{left_to, returned}
 use Rattle.pm_calls.specs.Laws.{GivesBack, IsCode, Reaches, ReachesSlot, ReturnGivesBack}
 
--- ---- chains that gave a value
+-- ---- sequences that succeeded
 
 pub passed : {A : Type 0} (b : Bool) (e : ExecError) (rest : Result A ExecError) (y : A) → (demand b e >>= λ _. rest) ≡ Ok y → (b ≡ true) × (rest ≡ Ok y)
 passed true e rest y h = (refl, h)
@@ -38,7 +38,7 @@ held : (b : Bool) (e : ExecError) (x : Unit {0}) → demand b e ≡ Ok x → b �
 held true e x h = refl
 held false e x h = cc
 
--- code that was loaded: there is some, it fits between NP and SP, and the rest was made
+-- Code was loaded: there is some, it fits between NP and SP, and the rest of the sequence succeeded.
 pub record HasRoom {A : Type 0} (r : Registers) (code : List ℕ) (rest : Result A ExecError) (y : A) : Type 0 where
   pub some : 0 < length code
   pub room : r.np + length code ≤ r.sp
@@ -68,7 +68,7 @@ pub size-with_word : (ws : List ℕ) (a w : ℕ) → length (with_word ws a w) �
 unfolding with_word
 size-with_word ws a w = length-set ws (a / 2) w
 
--- what stands in the control words at f
+-- The contents of the control words at `f`.
 pub record IsControl (m : List ℕ) (f : ℕ) (r : Registers) (above : ℕ) : Type 0 where
   pub mp : word_at m (f + 2) ≡ r.mp
   pub jtab : word_at m (f + 4) ≡ r.jtab
@@ -76,7 +76,7 @@ pub record IsControl (m : List ℕ) (f : ℕ) (r : Registers) (above : ℕ) : Ty
   pub ipc : word_at m (f + 8) ≡ r.ipc
   pub sp : word_at m (f + 10) ≡ above
 
--- a word written, and words at other even addresses
+-- A word that was written, and words at other even addresses.
 written_at : (m : List ℕ) (a w : ℕ) → length m ≡ 32768 → a < 65536 → word_at (with_word m a w) a ≡ w
 written_at m a w size low = word_at-with_word m a a w refl (omega (arith, size, low))
 
@@ -117,7 +117,7 @@ control_written m f static r above size even room =
       sp = written_at m5 (f + 10) above s5 (omega arith);
     }
 
--- the old BASE below the frame leaves the control words, and is read again
+-- Writing the old BASE below the frame does not change the control words, and it can be read again.
 pub size_of_control : (m : List ℕ) (f static : ℕ) (r : Registers) (above : ℕ) → length m ≡ 32768 → length (with_control m f static r above) ≡ 32768
 unfolding with_control
 size_of_control m f static r above size =
@@ -146,7 +146,7 @@ base_back true m r f size low room =
 
 -- ---- a frame that was made
 
--- what a frame at f was made of
+-- What a frame at `f` consists of.
 pub record IsFramed (m : List ℕ) (s loaded : ℕ) (r : Registers) (base : Bool) (t : Table) (static : ℕ) (n : List ℕ) (inner : Registers) (f : ℕ) : Type 0 where
   pub inside_memory : r.sp + t.parameters ≤ 65504
   pub room : f + 12 + t.parameters ≤ 65504
@@ -184,7 +184,7 @@ frame_made m n s loaded static r inner base t h =
 
 -- ---- a return
 
--- what a return from the frame at f reads
+-- The words that a return from the frame at `f` reads.
 pub record IsReturn (n : List ℕ) (inner : Registers) (words : ℕ) (base : Bool) (e : Parts) : Type 0 where
   pub even : inner.mp % 2 ≡ 0
   pub room : inner.mp + 12 ≤ 65536
@@ -205,7 +205,7 @@ return_read c e words base h =
       registers = sym (ap (λ (p : Parts). p.registers) (ok_same _ _ third.1));
     }
 
--- a return from a frame at f
+-- A return from a frame at `f`.
 frame_returns : (m : List ℕ) (s f static words : ℕ) (r : Registers) (base : Bool) (t : Table) (places : List (Option SegmentPlace)) (e : Parts) →
     IsMemory m → r.sp + t.parameters ≤ 65504 → f + 12 + t.parameters ≤ 65504 → kept_below base ≤ f →
     returned (record {
@@ -242,7 +242,7 @@ framed_returns m n s loaded static words r inner base t places e h made done =
 
 -- ---- a call in a segment that was reached
 
--- the SP of a call that is made lies within the stack: the frame's own test asks for it
+-- If a call succeeds, its SP is within the stack, because making the frame checks this.
 pub low_before : (c d : Parts) (call : Call) (at : Reached) → called_at c call at ≡ Ok d → c.registers.sp ≤ 65504
 unfolding called_at entered
 low_before c d call at made =

@@ -15,7 +15,7 @@ use Rattle.pm_calls.specs.Links.{static_link}
 use Rattle.pm_calls.specs.Tables.{attributes}
 use Rattle.pm_words.specs.declared.layout.TheConstants.{STACK_END}
 
--- a call that is linked as that of a main procedure, and keeps the old BASE
+-- Whether a call is linked like that of a main procedure, and saves the old BASE.
 abbrev pub is_base : Call → ℤ → Bool
 is_base (Cbp p) level = true
 is_base (Cxp n p) level = int_le level (pos 0)
@@ -32,24 +32,25 @@ procedure_called (Cxp n p) = p
 
 -- ---- the segment of a call
 
--- where the called segment stands, the memory with its code, and how many bytes were loaded for the call
+-- The called segment: its address, the memory that contains its code, and the number of bytes that were loaded for the
+-- call.
 pub record Reached : Type 0 where
   pub memory : List ℕ
   pub places : List (Option SegmentPlace)
   pub place : ℕ
   pub loaded : ℕ
 
--- the segment that runs
+-- The running segment.
 abbrev pub here : Parts → Reached
 here c = record { memory = c.memory; places = c.places; place = c.registers.seg; loaded = 0 }
 
--- code is loaded where there is some, and it fits between NP and SP
+-- Code can be loaded if there is any, and it fits between NP and SP.
 abbrev pub code_fits : Registers → List ℕ → Result (Unit {0}) ExecError
 code_fits r code = do
   _ ← demand (nat_lt 0 (length code)) NoSegment
   demand (nat_le (r.np + length code) r.sp) StackOverflow
 
--- a segment that is loaded now: its code ends at SP, and its highest word is the word below
+-- The segment of slot `n` if it has to be loaded: its code ends at SP, and its highest word is the word below SP.
 unfoldable pub reach_loading : Parts → ℕ → List ℕ → Result Reached ExecError
 reach_loading c n code = do
   let sp = c.registers.sp
@@ -61,7 +62,7 @@ reach_loading c n code = do
     loaded = length code;
   })
 
--- a segment that stands already: a call from another segment counts, up to 65,535
+-- The segment of slot `n` if it is loaded at `p`: a call from another segment increments its count, up to 65,535.
 unfoldable pub reach_standing : Parts → ℕ → SegmentPlace → Result Reached ExecError
 reach_standing c n p =
     if p.place == c.registers.seg then Ok (here c)
@@ -76,15 +77,16 @@ reach_standing c n p =
 
 -- ---- the frame of a call
 
--- the bytes that a base call keeps below its frame
+-- The number of bytes that a base call uses below its frame.
 abbrev pub kept_below : Bool → ℕ
 kept_below base = if base then 2 else 0
 
--- where the frame ends: below the loaded code, or above the parameters
+-- The address at which a frame ends: below the loaded code, or above the parameters.
 abbrev pub frame_top : ℕ → ℕ → ℕ → ℕ
 frame_top loaded sp parameters = if nat_lt 0 loaded then sp - loaded else sp + parameters
 
--- the six control words of a frame at f: static link, dynamic link, JTAB, SEG, IPC and SP of the caller
+-- The memory with the six control words of a frame at `f`: static link, dynamic link, and the caller's JTAB, SEG, IPC
+-- and SP.
 unfoldable pub with_control : List ℕ → ℕ → ℕ → Registers → ℕ → List ℕ
 with_control m f static r above =
     let linked = with_word m f static in
@@ -94,16 +96,16 @@ with_control m f static r above =
     let ipc = with_word seg (f + 8) r.ipc in
     with_word ipc (f + 10) above
 
--- the memory with a frame at f: the parameters, copied from the stack, and the control words
+-- The memory with a frame at `f`: the parameters, copied from the stack, and the control words.
 abbrev pub with_frame : List ℕ → ℕ → ℕ → Registers → ℕ → List ℕ
 with_frame m f static r parameters =
     with_control (copied m r.sp (f + 12) parameters) f static r (r.sp + parameters)
 
--- a base call keeps the old BASE below its frame
+-- The memory with the old BASE below the frame, for a base call.
 abbrev pub with_old_base : Bool → List ℕ → ℕ → ℕ → List ℕ
 with_old_base base m f old = if base then with_word m (f - 2) old else m
 
--- the registers in the procedure with this table and frame, of the segment at s
+-- The registers inside the procedure with table `t` and the frame at `f`, in the segment at `s`.
 abbrev pub inside : Bool → Registers → ℕ → Table → ℕ → Registers
 inside base r s t f = record r {
   mp = f;
@@ -114,8 +116,8 @@ inside base r s t f = record r {
   base = if base then f else r.base;
 }
 
--- The frame of a procedure with this table, once its static link is known: variables, parameters and control words,
--- from the top down. Sums are whole numbers.
+-- The memory and registers after the frame of a procedure with table `t` is made, whose static link is known. From the
+-- top down, a frame has variables, parameters and control words. Sums are natural numbers, not words.
 unfoldable pub framed : List ℕ → ℕ → ℕ → Registers → Bool → Table → ℕ → Result (List ℕ × Registers) ExecError
 framed m s loaded r base t static = do
   _ ← demand (nat_le (r.sp + t.parameters) STACK_END) InvalidMemory
@@ -127,27 +129,27 @@ framed m s loaded r base t static = do
 
 -- ---- the call
 
--- a call in the segment at s, of which so many bytes were loaded for it; all reads are of the memory with them
+-- A call of a procedure of the segment at `s`, after `loaded` bytes were loaded for it into the memory `m`.
 unfoldable pub entered : List ℕ → ℕ → ℕ → Registers → Call → Result (List ℕ × Registers) ExecError
 entered m s loaded r call = do
   t ← attributes m s (procedure_called call)
   static ← static_link call m r t.level
   framed m s loaded r (is_base call t.level) t static
 
--- a call in a segment that was reached
+-- A call of a procedure of the segment `at`.
 unfoldable pub called_at : Parts → Call → Reached → Result Parts ExecError
 called_at c call at = do
   e ← entered at.memory at.place at.loaded c.registers call
   Ok (record { memory = e.0; registers = e.1; places = at.places })
 
--- a call in a segment that stands, and in one that has to be loaded
+-- A call of a procedure of the segment of slot `n`, which is loaded at `p`; and of one that has to be loaded.
 unfoldable pub called_standing : Parts → Call → ℕ → SegmentPlace → Result Parts ExecError
 called_standing c call n p = reach_standing c n p >>= called_at c call
 
 unfoldable pub called_loading : Parts → Call → ℕ → List ℕ → Result Parts ExecError
 called_loading c call n code = reach_loading c n code >>= called_at c call
 
--- a call in the segment of slot n, which may have a place; without one its code is needed
+-- A call of a procedure of the segment of slot `n`. If the segment is not loaded, its code is required.
 abbrev pub called_slot : Parts → Call → ℕ → Option (List ℕ) → Option (Option SegmentPlace) → Result Parts ExecError
 called_slot c call n code None = Err NoSegment
 called_slot c call n code (Some (Some p)) = called_standing c call n p

@@ -1,5 +1,5 @@
--- Leaving a procedure by its name: EXIT. The running procedure, and each of its callers up to the wanted one, goes on
--- where its own table says that it is left, so that they return one after the other.
+-- EXIT: leaving a procedure that is given by its numbers. The running procedure, and each of its callers up to the
+-- wanted one, continues at the exit address in its own table. So they return one after the other.
 use Rattle.std.specs.Prelude.{ℕ, zero, suc, ◌+◌, ◌%◌, Bool, false, not, ◌&&◌, ◌||◌, List}
 use Rattle.std.specs.Prelude.{Option, Some, None, Result, Ok, Err, if◌then◌else◌, ◌==◌}
 use Rattle.pm_words.specs.declared.error.ExecError.{ExecError}
@@ -11,24 +11,24 @@ use Rattle.pm_calls.specs.Places.{Parts}
 use Rattle.pm_calls.specs.Tables.{self_relative}
 use Rattle.pm_words.specs.declared.layout.TheConstants.{SYSTEM_FRAME}
 
--- Whether the procedure with its segment's highest word at s and its table at j is the wanted one: the low bytes there
--- are the two numbers. Both words are read always.
+-- Whether the procedure whose segment has its highest word at `s`, and whose table is at `j`, is the wanted one: the
+-- low bytes of these two words are the wanted numbers. Both words are always read.
 abbrev pub is_wanted : List ℕ → Wanted → ℕ → ℕ → Result Bool ExecError
 is_wanted m p s j = do
   segment ← load m s
   procedure ← load m j
   Ok (segment % 256 == p.segment && procedure % 256 == p.procedure)
 
--- where the procedure with its table at j is left
+-- The exit address of the procedure whose table is at `j`.
 abbrev pub exit_code : List ℕ → ℕ → ℕ
 exit_code m j = self_relative m (minus j 4)
 
--- a control word of the frame at f
+-- The control word at offset `n` of the frame at `f`.
 abbrev pub control : List ℕ → ℕ → ℕ → ℕ
 control m f n = word_at m ((f + n) % 65536)
 
--- What EXIT meets at the frame f: whether the caller that it keeps is the wanted one. At the system's frame, and at a
--- frame whose caller has that frame, there is no procedure left to look for.
+-- The check of EXIT at the frame `f`: whether the caller that the frame saves is the wanted procedure. If `f` is the
+-- system's frame, or its caller's frame is, no procedure is left to search.
 unfoldable pub met : List ℕ → Wanted → ℕ → Result Bool ExecError
 met m p f = do
   caller ← load m ((f + 2) % 65536)
@@ -37,50 +37,51 @@ met m p f = do
   seg ← load m ((f + 6) % 65536)
   is_wanted m p seg jtab
 
--- the frame i callers up from the frame at a
+-- The frame `i` callers up from the frame at `a`.
 unfoldable pub frame_up : List ℕ → ℕ → ℕ → ℕ
 frame_up m a zero = a
 frame_up m a (suc i) = control m (frame_up m a i) 2
 
--- a number that was found, or else n where it passes
+-- The number that was found; otherwise `n` if it passes.
 abbrev pub or_else_if : Option ℕ → Bool → ℕ → Option ℕ
 or_else_if (Some k) passes n = Some k
 or_else_if None passes n = if passes then Some n else None
 
--- the least number below n that passes a test
+-- The least number below `n` that passes the test `t`.
 unfoldable pub least_below : (ℕ → Bool) → ℕ → Option ℕ
 least_below t zero = None
 least_below t (suc n) = or_else_if (least_below t n) (t n) n
 
--- EXIT goes on to the next frame
+-- Whether EXIT continues with the next frame.
 abbrev pub goes_on : Result Bool ExecError → Bool
 goes_on (Ok wanted) = not wanted
 goes_on (Err e) = false
 
--- what EXIT met where it stopped, if it did
+-- The number of the frame at which EXIT stopped, or the error there; `NoProcedure` if it did not stop.
 abbrev pub stopped : List ℕ → Wanted → ℕ → Option ℕ → Result ℕ ExecError
 stopped m p a None = Err NoProcedure
 stopped m p a (Some k) = met m p (frame_up m a k) >>= λ wanted. Ok k
 
--- the least number of a frame at which EXIT does not go on; a chain of 32,768 frames is a circle
+-- The least number of a frame at which EXIT does not continue. A chain of 32,768 frames is circular.
 unfoldable pub last_frame : List ℕ → Wanted → ℕ → Result ℕ ExecError
 last_frame m p a = stopped m p a (least_below (λ i. not (goes_on (met m p (frame_up m a i)))) 32768)
 
--- the memory in which the callers kept in the first n frames go on where they are left; all is read from the old memory
+-- The memory in which the callers that the first `n` frames save continue at their exit addresses. All words are read
+-- from the old memory.
 unfoldable pub with_exits : List ℕ → ℕ → ℕ → List ℕ
 with_exits m a zero = m
 with_exits m a (suc i) =
     let f = frame_up m a i in with_word (with_exits m a i) ((f + 8) % 65536) (exit_code m (control m f 4))
 
--- the memory after a walk from the frame a to the wanted procedure
+-- The memory after a walk from the frame at `a` to the wanted procedure.
 unfoldable pub walked : List ℕ → Wanted → ℕ → Result (List ℕ) ExecError
 walked m p a = last_frame m p a >>= λ k. Ok (with_exits m a (k + 1))
 
--- the memory after EXIT, which walks only where the running procedure is not the wanted one
+-- The memory after EXIT, which walks only if the running procedure is not the wanted one.
 abbrev pub walked_unless : Bool → List ℕ → Wanted → ℕ → Result (List ℕ) ExecError
 walked_unless here m p a = if here then Ok m else walked m p a
 
--- EXIT from the procedure of these numbers. IPC leads out of the running procedure in either case.
+-- EXIT from the procedure with these numbers. In both cases IPC is set to the exit address of the running procedure.
 unfoldable pub exited : Parts → Wanted → Result Parts ExecError
 exited c p = do
   here ← is_wanted c.memory p c.registers.seg c.registers.jtab

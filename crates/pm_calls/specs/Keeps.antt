@@ -1,4 +1,4 @@
--- Segments that the program keeps. A segment that is kept stands where it is, whatever calls of it return.
+-- Segments that the program keeps. A segment that is kept remains loaded when calls of it return.
 use Rattle.std.specs.Prelude.{ℕ, ◌+◌, ◌-◌, ◌||◌, List, Option, Some, None, is_none, Result, Ok}
 use Rattle.std.specs.Prelude.{Err, if◌then◌else◌, ◌==◌, nat_lt, slice_get, slice_set, length}
 use Rattle.pm_words.specs.declared.error.ExecError.{ExecError}
@@ -11,14 +11,14 @@ use Rattle.pm_calls.specs.Calls.{code_fits}
 
 -- ---- one keep more
 
--- a segment that stands already has one keep more, up to 65,535
+-- A segment that is loaded has one keep more, up to 65,535.
 unfoldable pub keep_standing : Parts → ℕ → SegmentPlace → Result Parts ExecError
 keep_standing c n p = do
   _ ← demand (nat_lt p.keeps 65535) StackOverflow
   Ok (record c { places = slice_set c.places n (Some (record p { keeps = p.keeps + 1 })) })
 
--- a segment that stands nowhere is loaded: its code ends at SP, its highest word is the word below, and SP goes below
--- the code
+-- A segment that is not loaded is loaded: its code ends at SP, its highest word is the word below SP, and SP is set
+-- below the code.
 unfoldable pub keep_loading : Parts → ℕ → List ℕ → Result Parts ExecError
 keep_loading c n code = do
   let sp = c.registers.sp
@@ -29,7 +29,7 @@ keep_loading c n code = do
     places = slice_set c.places n (Some (record { place = minus sp 2; count = 0; keeps = 1 }));
   })
 
--- the segment of slot n, which may have a place; without one its code is needed
+-- One keep more of the segment of slot `n`. If the segment is not loaded, its code is required.
 abbrev pub keep_slot : Parts → ℕ → Option (List ℕ) → Option (Option SegmentPlace) → Result Parts ExecError
 keep_slot c n code None = Err NoSegment
 keep_slot c n code (Some (Some p)) = keep_standing c n p
@@ -41,11 +41,13 @@ segment_kept c n code = keep_slot c n code (slice_get c.places n)
 
 -- ---- one keep less
 
--- a slot with one keep less, or with no place after the last, if no call of its segment runs
+-- The entry of a slot after one keep less. After the last keep its address is forgotten, if no call of the segment is
+-- active.
 abbrev pub less_kept : SegmentPlace → Option SegmentPlace
 less_kept p = if nat_lt 1 p.keeps || nat_lt 0 p.count then Some (record p { keeps = p.keeps - 1 }) else None
 
--- SP after a segment of so many bytes, which stood at a place, is forgotten: it goes above the code that it stands on
+-- SP after a segment of `size` bytes at `place` is forgotten: above its code if this is on top of the stack, otherwise
+-- unchanged.
 abbrev pub above_code : ℕ → ℕ → ℕ → ℕ
 above_code sp place size = if sp + size == place + 2 then place + 2 else sp
 
@@ -60,7 +62,7 @@ unkeep_slot c n size None = Err NoSegment
 unkeep_slot c n size (Some None) = Err NoSegment
 unkeep_slot c n size (Some (Some p)) = unkeep_standing c n size p
 
--- The segment of slot n, of so many bytes, is kept once less. Where no keep and no call is left its place is forgotten,
--- and its code is taken off the stack if it is on top.
+-- One keep less of the segment of slot `n`, which has `size` bytes. If no keep and no call remains, its address is
+-- forgotten, and its code is popped if it is on top of the stack.
 unfoldable pub segment_unkept : Parts → ℕ → ℕ → Result Parts ExecError
 segment_unkept c n size = unkeep_slot c n size (slice_get c.places n)

@@ -10,30 +10,32 @@ use Rattle.pm_calls.specs.declared.frames.SegmentPlace.{SegmentPlace}
 use Rattle.pm_calls.specs.Places.{Parts}
 use Rattle.pm_words.specs.declared.layout.TheConstants.{STACK_END}
 
--- a slot with one call less, or with no place after the last, if the program does not keep its segment
+-- The entry of a slot after one call less. After the last call its address is forgotten, if the program does not keep
+-- the segment.
 abbrev pub one_call_less : SegmentPlace → Option SegmentPlace
 one_call_less p = if nat_lt 1 p.count || nat_lt 0 p.keeps then Some (record p { count = p.count - 1 }) else None
 
--- a slot whose segment stands at s
+-- Whether the segment of a slot is at `s`.
 abbrev pub is_at : ℕ → Option SegmentPlace → Bool
 is_at s None = false
 is_at s (Some p) = p.place == s
 
--- a slot that stands at s, for some call
+-- Whether the segment of a slot is at `s` and is called.
 abbrev pub stands_at : ℕ → Option SegmentPlace → Bool
 stands_at s None = false
 stands_at s (Some p) = p.place == s && nat_lt 0 p.count
 
--- one call less at a slot, if there is one
+-- The entries of the slots after one call less of the given slot, if there is one.
 abbrev pub lessened : Option ℕ → List (Option SegmentPlace) → List (Option SegmentPlace)
 lessened None places = places
 lessened (Some n) places = slice_set places n (option_and_then one_call_less (slice_index_or places n None))
 
--- the places after a return from the segment at s: the lowest slot that stands there has one call less
+-- The entries of the slots after a return from the segment at `s`: one call less of the lowest slot whose segment is
+-- there and is called.
 unfoldable pub released : ℕ → List (Option SegmentPlace) → List (Option SegmentPlace)
 released s places = lessened (position (stands_at s) places) places
 
--- the registers after a return to the caller of the frame at f; a base return gives back the old BASE
+-- The registers after a return to the caller of the frame at `f`. A base return restores the old BASE.
 abbrev pub left_to : List ℕ → Registers → ℕ → ℕ → Bool → Registers
 left_to m r f sp base = record r {
   sp = sp;
@@ -44,8 +46,8 @@ left_to m r f sp base = record r {
   base = if base then word_at m (minus f 2) else r.base;
 }
 
--- A return with so many words from the frame at MP, all reads being of the memory before it. The words that it returns
--- stand above the control words, and go below the SP that the frame keeps.
+-- A return with `words` words from the frame at MP. All words are read from the memory before it. The result is above
+-- the control words, and is copied to below the SP that the frame saves.
 unfoldable pub returned : Parts → ℕ → Bool → Result Parts ExecError
 returned c words base = do
   let f = c.registers.mp

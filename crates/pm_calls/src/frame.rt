@@ -13,7 +13,8 @@ use crate::valid_registers::ValidRegisters;
 use pm_words::layout::STACK_END;
 use pm_words::{ExecError, Memory};
 
-// Copies the parameters of a frame to a place that is not above them: few of them word by word, from the lowest on.
+// Copies the parameters of a frame to an address that is not above them. A few are copied word by word, the lowest
+// first.
 #[inline(always)]
 #[tactic(auto, using(pm_words::proofs::WatchLaws::stays))]
 fn put_parameters(memory: &mut Memory, from: u16, to: u16, count: u16)
@@ -30,7 +31,7 @@ fn put_parameters(memory: &mut Memory, from: u16, to: u16, count: u16)
     }
 }
 
-// Copies bytes as a block.
+// Copies `count` bytes as a block.
 #[inline(never)]
 fn put_block(memory: &mut Memory, from: u16, to: u16, count: u16)
     requires within { (from + count ≤ STACK_END) × (to + count ≤ STACK_END) }
@@ -40,7 +41,7 @@ fn put_block(memory: &mut Memory, from: u16, to: u16, count: u16)
     memory.copy(from, to, count);
 }
 
-// Copies words one by one, from the lowest on, to a place that is not above them.
+// Copies `count` words one by one, the lowest first, to an address that is not above them.
 #[inline(always)]
 #[tactic(auto, using(pm_words::proofs::WatchLaws::stays))]
 fn put_words(memory: &mut Memory, from: u16, to: u16, count: u16)
@@ -57,7 +58,7 @@ fn put_words(memory: &mut Memory, from: u16, to: u16, count: u16)
     }
 }
 
-// Writes a frame: the parameters, then the six control words, and for a base call the old BASE below them.
+// Writes a frame: the parameters, the six control words, and for a base call the old BASE below them.
 #[inline(always)]
 #[tactic(auto, using(pm_words::proofs::WatchLaws::stays))]
 fn put_frame(
@@ -94,7 +95,7 @@ fn put_frame(
     }
 }
 
-// Where a frame ends: below the code that was loaded for its call, or above its parameters.
+// Returns the address at which a frame ends: below the code that was loaded for its call, or above its parameters.
 #[inline(always)]
 fn frame_top(loaded: u16, sp: u16, parameters: u16) -> u32
     requires room { loaded ≤ sp }
@@ -107,7 +108,7 @@ fn frame_top(loaded: u16, sp: u16, parameters: u16) -> u32
     }
 }
 
-// Takes the registers into the procedure with this table, whose frame is at `mp`, of the segment at `place`.
+// Sets the registers for the procedure with this table in the segment at `place`, whose frame is at `mp`.
 #[inline(always)]
 fn go_inside(registers: &mut ValidRegisters, base: bool, place: u16, table: Table, mp: u16)
     requires even { mp % 2 ≡ 0 }
@@ -125,9 +126,14 @@ fn go_inside(registers: &mut ValidRegisters, base: bool, place: u16, table: Tabl
     }
 }
 
-/// Enters a procedure of the segment at `place`, of which `loaded` bytes were loaded for it, once
-/// its table and its static link are known: writes its frame, and takes the registers into it.
-/// An error changes nothing.
+/// Enters a procedure of the segment at `place`, after its table and its static link are known and `loaded` bytes of
+/// code were loaded for it. It writes the frame and sets the registers.
+///
+/// # Errors
+///
+/// Nothing changes. Checked in this order:
+/// - `InvalidMemory`: the parameters extend after the end of the stack.
+/// - `StackOverflow`: the frame would be below NP.
 #[inline(always)]
 #[tactic(auto, unfolding(crate::specs::Calls::framed), using(pm_words::proofs::WatchLaws::stays))]
 pub fn enter(
@@ -147,7 +153,7 @@ pub fn enter(
         ≡ Ok (memory.new.words, registers.new))
         (λ e. framed memory.old.words place loaded registers.old base table link ≡ Err e) }
     ensures watch { WatchStays memory.old memory.new }
-    ensures refused { OnErr result ((memory.new ≡ memory.old) × (registers.new ≡ registers.old)) }
+    ensures unchanged { OnErr result ((memory.new ≡ memory.old) × (registers.new ≡ registers.old)) }
     ensures even { OnOk result (registers.new.mp % 2 ≡ 0) }
     ensures linked { OnOk result (word_at memory.new.words registers.new.mp ≡ link) }
     ensures table { OnOk result ((registers.new.jtab ≡ table.jtab) × (registers.new.ipc ≡ table.enter)) }

@@ -7,7 +7,7 @@ use crate::Registers;
 use pm_words::Top;
 use std::marker::Model;
 
-/// Registers on which a row works: SP and NP are even, and NP ≤ SP ≤ 65,504.
+/// Registers on which instruction rules operate. SP and NP are even, and NP ≤ SP ≤ 65,504.
 #[derive(Clone, Copy)]
 pub struct ValidRegisters {
     pub(crate) registers: Registers,
@@ -27,7 +27,7 @@ impl Model for ValidRegisters {
 }
 
 impl ValidRegisters {
-    /// Registers that are so. It costs no test: that they are is to be shown.
+    /// Wraps registers. The caller proves that SP and NP are valid, so no check is executed.
     #[inline(always)]
     pub fn of(registers: Registers) -> ValidRegisters
         requires stack { IsStack registers.sp registers.np }
@@ -36,7 +36,7 @@ impl ValidRegisters {
         ValidRegisters { registers }
     }
 
-    /// The registers.
+    /// Returns the registers.
     #[inline(always)]
     pub fn registers(self) -> Registers
         ensures registers { result ≡ self }
@@ -45,7 +45,7 @@ impl ValidRegisters {
         self.registers
     }
 
-    /// IPC.
+    /// Returns IPC.
     #[inline(always)]
     pub fn ipc(&self) -> u16
         ensures ipc { result ≡ self.now.ipc }
@@ -54,7 +54,7 @@ impl ValidRegisters {
         registers.ipc
     }
 
-    /// MP.
+    /// Returns MP.
     #[inline(always)]
     pub fn mp(&self) -> u16
         ensures mp { result ≡ self.now.mp }
@@ -62,7 +62,7 @@ impl ValidRegisters {
         self.registers.mp
     }
 
-    /// SP and NP as one value.
+    /// Returns SP and NP as one value.
     #[inline(always)]
     pub fn top(self) -> Top
         ensures sp { result.sp ≡ self.sp }
@@ -71,7 +71,7 @@ impl ValidRegisters {
         Top::of(self.registers.sp, self.registers.np)
     }
 
-    /// The same with another SP and NP.
+    /// Returns the registers with the SP and NP of `top`.
     #[inline(always)]
     pub fn with_top(self, top: Top) -> ValidRegisters
         ensures registers { result ≡ record self { sp = top.sp; np = top.np } }
@@ -84,7 +84,7 @@ impl ValidRegisters {
         ValidRegisters { registers }
     }
 
-    /// The same with another IPC.
+    /// Returns the registers with the given IPC.
     #[inline(always)]
     pub fn with_ipc(self, ipc: u16) -> ValidRegisters
         ensures registers { result ≡ record self { ipc = ipc } }
@@ -96,7 +96,7 @@ impl ValidRegisters {
         ValidRegisters { registers }
     }
 
-    /// Gives them another SP and NP.
+    /// Sets SP and NP to those of `top`.
     #[inline(always)]
     pub fn set_top(&mut self, top: Top)
         ensures registers { self.new ≡ record self.old { sp = top.sp; np = top.np } }
@@ -105,7 +105,7 @@ impl ValidRegisters {
         self.registers.np = top.np();
     }
 
-    /// Gives them another IPC.
+    /// Sets IPC.
     #[inline(always)]
     pub fn set_ipc(&mut self, ipc: u16)
         ensures registers { self.new ≡ record self.old { ipc = ipc } }
@@ -113,7 +113,7 @@ impl ValidRegisters {
         self.registers.ipc = ipc;
     }
 
-    /// The same with another IORESULT.
+    /// Returns the registers with the given IORESULT.
     #[inline(always)]
     pub fn with_ioresult(self, ioresult: u16) -> ValidRegisters
         ensures registers { result ≡ record self { ioresult = ioresult } }

@@ -60,7 +60,7 @@ fn save(
         ++ taken_line file.now.slot (free_name volume.old (characters_of file.now.entry.name)) doubt) }
     ensures content { OnOk result (IsPermutation (content_in image.now file.now.entry ∷ contents_of volume.old)
         (contents_of volume.new)) }
-    ensures refused { IfErr result (λ fault. fault ≢ VolumeFault.NoMemory →
+    ensures refusal { IfErr result (λ fault. fault ≢ VolumeFault.NoMemory →
         saved_one image.now volume.old file.now.entry ≡ Err fault) }
 {
     let entry = file.entry;
@@ -94,7 +94,7 @@ fn save_all(
         ≡ Ok (record { volume = volume.new; text = string_bytes text.new; doubted = doubted })) }
     ensures contents { OnOk result (IsPermutation (contents_taken image.now taken.now ++ contents_of volume.old)
         (contents_of volume.new)) }
-    ensures refused { IfErr result (λ fault. fault ≢ VolumeFault.NoMemory →
+    ensures refusal { IfErr result (λ fault. fault ≢ VolumeFault.NoMemory →
         saved_from image.now taken.now count taken.now
         (record { volume = volume.old; text = string_bytes text.old; doubted = 0 }) ≡ Err fault) }
 {
@@ -136,7 +136,7 @@ fn save_entries(
     ensures saved { IfOk result (λ s. IsSaved s.image.items (string_bytes s.text)
         (saved image.now name.now blocks count taken.now left.now)) }
     ensures files { IfOk result (λ s. HasFilesOf image.now (entries_taken taken.now) s.image.items) }
-    ensures refused { IfErr result (λ fault. fault ≢ VolumeFault.NoMemory →
+    ensures refusal { IfErr result (λ fault. fault ≢ VolumeFault.NoMemory →
         saved image.now name.now blocks count taken.now left.now ≡ Err fault) }
 {
     let mut volume = Volume::blank(alloc, name, room_for(blocks, taken))?;
@@ -165,7 +165,7 @@ fn save_by(
     ensures saved { IfOk result (λ s. IsSaved s.image.items (string_bytes s.text)
         (saved_by image.now directory.now lowest blocks)) }
     ensures files { IfOk result (λ s. HasFilesOf image.now (believed directory.now lowest blocks) s.image.items) }
-    ensures refused { IfErr result (λ fault. fault ≢ VolumeFault.NoMemory →
+    ensures refusal { IfErr result (λ fault. fault ≢ VolumeFault.NoMemory →
         saved_by image.now directory.now lowest blocks ≡ Err fault) }
 {
     let Ok(name) = volume_name(alloc, header_name(directory)) else {
@@ -193,7 +193,7 @@ fn image_blocks(image: &[u8]) -> u16
 pub fn salvage(alloc: Global, image: &[u8], second: bool) -> Result<Salvaged, VolumeFault>
     ensures saved { IfOk result (λ s. IsSaved s.image.items (string_bytes s.text) (salvaged image.now second)) }
     ensures files { IfOk result (λ s. HasFilesOf image.now (believed_of image.now second) s.image.items) }
-    ensures refused { IfErr result (λ fault. fault ≢ VolumeFault.NoMemory → salvaged image.now second ≡ Err fault) }
+    ensures refusal { IfErr result (λ fault. fault ≢ VolumeFault.NoMemory → salvaged image.now second ≡ Err fault) }
 {
     let blocks = image_blocks(image);
     if second {

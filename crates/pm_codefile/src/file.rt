@@ -104,7 +104,7 @@ impl<'a> CodeFile<'a> {
         ensures accepted { IsOk result ↔ (file_fault bytes.now ≡ None) }
         ensures sound { OnOk result (IsCodeFile bytes.now) }
         ensures read { IfOk result (λ f. f ≡ bytes.now) }
-        ensures fault { IfErr result (λ fault. file_fault bytes.now ≡ Some fault) }
+        ensures refusal { IfErr result (λ fault. file_fault bytes.now ≡ Some fault) }
         ensures first { IfErr result (λ fault. IsFirstCodeFault bytes.now fault) }
     {
         match file_fault(bytes) {

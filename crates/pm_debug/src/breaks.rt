@@ -149,7 +149,7 @@ fn with_instead(breaks: &Breaks, new: Breakpoint) -> Breaks
 #[tactic(auto, unfolding(crate::specs::Breaks::with_break))]
 pub(crate) fn set(breaks: &mut Breaks, new: Breakpoint) -> Result<(), DebugRefusal>
     ensures set { OnOk result (with_break new breaks.old.items ≡ Ok breaks.new.items) }
-    ensures refused { IfErr result (λ refusal. with_break new breaks.old.items ≡ Err refusal) }
+    ensures refusal { IfErr result (λ refusal. with_break new breaks.old.items ≡ Err refusal) }
     ensures unchanged { OnErr result (breaks.new ≡ breaks.old) }
 {
     if !can_stand(new.spot) || !can_be_asked(new.condition) {
@@ -170,7 +170,7 @@ pub(crate) fn set(breaks: &mut Breaks, new: Breakpoint) -> Result<(), DebugRefus
 #[tactic(auto, unfolding(crate::specs::Breaks::without_break))]
 pub(crate) fn clear(breaks: &mut Breaks, old: Spot) -> Result<(), DebugRefusal>
     ensures cleared { OnOk result (without_break old breaks.old.items ≡ Ok breaks.new.items) }
-    ensures refused { IfErr result (λ refusal. without_break old breaks.old.items ≡ Err refusal) }
+    ensures refusal { IfErr result (λ refusal. without_break old breaks.old.items ≡ Err refusal) }
     ensures unchanged { OnErr result (breaks.new ≡ breaks.old) }
 {
     if !is_set(breaks, old) {

@@ -126,7 +126,7 @@ impl Debugger {
         ensures alone { self.new ≡ record self.old { breaks = self.new.breaks } }
         ensures set { OnOk result (with_break (breakpoint (Code (code_place segment procedure offset)) condition)
             self.old.breaks ≡ Ok self.new.breaks) }
-        ensures refused { IfErr result (λ refusal. with_break
+        ensures refusal { IfErr result (λ refusal. with_break
             (breakpoint (Code (code_place segment procedure offset)) condition) self.old.breaks ≡ Err refusal) }
         ensures unchanged { OnErr result (self.new ≡ self.old) }
     {
@@ -149,7 +149,7 @@ impl Debugger {
     ) -> Result<(), DebugRefusal>
         ensures alone { self.new ≡ record self.old { breaks = self.new.breaks } }
         ensures set { OnOk result (with_break (breakpoint spot condition) self.old.breaks ≡ Ok self.new.breaks) }
-        ensures refused { IfErr result (λ refusal. with_break (breakpoint spot condition) self.old.breaks
+        ensures refusal { IfErr result (λ refusal. with_break (breakpoint spot condition) self.old.breaks
             ≡ Err refusal) }
         ensures unchanged { OnErr result (self.new ≡ self.old) }
     {
@@ -167,7 +167,7 @@ impl Debugger {
         ensures alone { self.new ≡ record self.old { breaks = self.new.breaks } }
         ensures cleared { OnOk result (without_break (Code (code_place segment procedure offset)) self.old.breaks
             ≡ Ok self.new.breaks) }
-        ensures refused { IfErr result (λ refusal.
+        ensures refusal { IfErr result (λ refusal.
             without_break (Code (code_place segment procedure offset)) self.old.breaks ≡ Err refusal) }
         ensures unchanged { OnErr result (self.new ≡ self.old) }
     {
@@ -184,7 +184,7 @@ impl Debugger {
     pub fn clear_break_on(&mut self, spot: Spot) -> Result<(), DebugRefusal>
         ensures alone { self.new ≡ record self.old { breaks = self.new.breaks } }
         ensures cleared { OnOk result (without_break spot self.old.breaks ≡ Ok self.new.breaks) }
-        ensures refused { IfErr result (λ refusal. without_break spot self.old.breaks ≡ Err refusal) }
+        ensures refusal { IfErr result (λ refusal. without_break spot self.old.breaks ≡ Err refusal) }
         ensures unchanged { OnErr result (self.new ≡ self.old) }
     {
         breaks::clear(&mut self.breaks, spot)
@@ -198,7 +198,7 @@ impl Debugger {
         ensures alone { self.new ≡ record self.old { watches = self.new.watches; left = self.new.left } }
         ensures left { OnOk result (self.new.left ≡ Nothing) }
         ensures set { OnOk result (with_watch address self.old.watches ≡ Ok self.new.watches) }
-        ensures refused { IfErr result (λ refusal. with_watch address self.old.watches ≡ Err refusal) }
+        ensures refusal { IfErr result (λ refusal. with_watch address self.old.watches ≡ Err refusal) }
         ensures unchanged { OnErr result (self.new ≡ self.old) }
     {
         watches::set(&mut self.watches, address)?;
@@ -212,7 +212,7 @@ impl Debugger {
         ensures alone { self.new ≡ record self.old { watches = self.new.watches; left = self.new.left } }
         ensures left { OnOk result (self.new.left ≡ Nothing) }
         ensures cleared { OnOk result (without_watch address self.old.watches ≡ Ok self.new.watches) }
-        ensures refused { IfErr result (λ refusal. without_watch address self.old.watches ≡ Err refusal) }
+        ensures refusal { IfErr result (λ refusal. without_watch address self.old.watches ≡ Err refusal) }
         ensures unchanged { OnErr result (self.new ≡ self.old) }
     {
         watches::clear(&mut self.watches, address)?;
@@ -350,7 +350,7 @@ impl Debugger {
             ≡ Some (record { steps = r.0; reason = r.1; machine = self.new.machine.state })) }
         ensures left { OnOk result (self.new.left
             ≡ left_on self.old.breaks self.old.left limit self.old.machine.state) }
-        ensures refused { IfErr result (λ refusal. StopsShort refusal limit self.old self.new) }
+        ensures refusal { IfErr result (λ refusal. StopsShort refusal limit self.old self.new) }
     {
         match self.last_run {
             LastRun::Over | LastRun::AtBreak(..) => Err(DebugRefusal::NothingLeft),

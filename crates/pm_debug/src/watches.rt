@@ -39,7 +39,7 @@ fn is_watched(watches: &[u16], wanted: u16) -> bool
 #[tactic(auto, unfolding(crate::specs::Watches::with_watch))]
 pub(crate) fn set(watches: &mut Watches, new: u16) -> Result<(), DebugRefusal>
     ensures set { OnOk result (with_watch new watches.old.items ≡ Ok watches.new.items) }
-    ensures refused { IfErr result (λ refusal. with_watch new watches.old.items ≡ Err refusal) }
+    ensures refusal { IfErr result (λ refusal. with_watch new watches.old.items ≡ Err refusal) }
     ensures unchanged { OnErr result (watches.new ≡ watches.old) }
 {
     if new % 2 != 0 {
@@ -59,7 +59,7 @@ pub(crate) fn set(watches: &mut Watches, new: u16) -> Result<(), DebugRefusal>
 #[tactic(auto, unfolding(crate::specs::Watches::without_watch))]
 pub(crate) fn clear(watches: &mut Watches, old: u16) -> Result<(), DebugRefusal>
     ensures cleared { OnOk result (without_watch old watches.old.items ≡ Ok watches.new.items) }
-    ensures refused { IfErr result (λ refusal. without_watch old watches.old.items ≡ Err refusal) }
+    ensures refusal { IfErr result (λ refusal. without_watch old watches.old.items ≡ Err refusal) }
     ensures unchanged { OnErr result (watches.new ≡ watches.old) }
 {
     if !is_watched(watches, old) {

@@ -85,7 +85,7 @@ pub enum Reply {
 // Where the bytes of a file stand, where there is one.
 fn bytes_of_file(volume: &Volume, entry: Option<Entry>) -> Result<&[u8], VolumeFault>
     ensures bytes { IfOk result (λ bytes. bytes_of_file volume.now entry ≡ Some bytes.now) }
-    ensures none { IfErr result (λ fault. (fault ≡ NoFile) × (bytes_of_file volume.now entry ≡ None)) }
+    ensures refusal { IfErr result (λ fault. (fault ≡ NoFile) × (bytes_of_file volume.now entry ≡ None)) }
 {
     let entry = entry.ok_or(VolumeFault::NoFile)?;
     volume.file(&entry).ok_or(VolumeFault::NoFile)
@@ -122,7 +122,7 @@ fn put_text(alloc: Global, volume: &mut Volume, name: &str, text: Vec<u8>) -> Re
         (text_written volume.old name.now text.items (text_fault text.items)
         ≡ Ok (record { image = volume.new; answer = Done })) }
     ensures volume { OnOk result (IsVolume volume.new) }
-    ensures refused { IfErr result
+    ensures refusal { IfErr result
         (λ fault. fault ≢ FilerFault.NoMemory →
         text_written volume.old name.now text.items (text_fault text.items) ≡ Err fault) }
     ensures unchanged { OnErr result (volume.new ≡ volume.old) }
@@ -137,7 +137,7 @@ fn put_text(alloc: Global, volume: &mut Volume, name: &str, text: Vec<u8>) -> Re
 fn forget(volume: &mut Volume, name: &str) -> Result<(), VolumeFault>
     ensures done { OnOk result (zeroed volume.old name.now ≡ Ok volume.new) }
     ensures volume { OnOk result (IsVolume volume.new) }
-    ensures refused { IfErr result (λ fault. zeroed volume.old name.now ≡ Err fault) }
+    ensures refusal { IfErr result (λ fault. zeroed volume.old name.now ≡ Err fault) }
     ensures unchanged { OnErr result (volume.new ≡ volume.old) }
 {
     volume.zero(name)?;
@@ -150,7 +150,7 @@ fn put(volume: &mut Volume, name: &str, kind: u8, bytes: &[u8]) -> Result<(), Vo
     ensures done { OnOk result
         (added volume.old name.now kind bytes.now (last_date_of (directory_of volume.old)) ≡ Ok volume.new) }
     ensures volume { OnOk result (IsVolume volume.new) }
-    ensures refused { IfErr result
+    ensures refusal { IfErr result
         (λ fault. added volume.old name.now kind bytes.now (last_date_of (directory_of volume.old)) ≡ Err fault) }
     ensures unchanged { OnErr result (volume.new ≡ volume.old) }
 {
@@ -163,7 +163,7 @@ fn put(volume: &mut Volume, name: &str, kind: u8, bytes: &[u8]) -> Result<(), Vo
 fn change(volume: &mut Volume, old: &str, new: &str) -> Result<(), VolumeFault>
     ensures done { OnOk result (renamed volume.old old.now new.now ≡ Ok volume.new) }
     ensures volume { OnOk result (IsVolume volume.new) }
-    ensures refused { IfErr result (λ fault. renamed volume.old old.now new.now ≡ Err fault) }
+    ensures refusal { IfErr result (λ fault. renamed volume.old old.now new.now ≡ Err fault) }
     ensures unchanged { OnErr result (volume.new ≡ volume.old) }
 {
     volume.rename(old, new)?;
@@ -174,7 +174,7 @@ fn change(volume: &mut Volume, old: &str, new: &str) -> Result<(), VolumeFault>
 fn change_slot(volume: &mut Volume, slot: u16, new: &str) -> Result<(), VolumeFault>
     ensures done { OnOk result (slot_renamed volume.old slot new.now ≡ Ok volume.new) }
     ensures volume { OnOk result (IsVolume volume.new) }
-    ensures refused { IfErr result (λ fault. slot_renamed volume.old slot new.now ≡ Err fault) }
+    ensures refusal { IfErr result (λ fault. slot_renamed volume.old slot new.now ≡ Err fault) }
     ensures unchanged { OnErr result (volume.new ≡ volume.old) }
 {
     volume.rename_slot(slot, new)?;
@@ -186,7 +186,7 @@ fn change_slot(volume: &mut Volume, slot: u16, new: &str) -> Result<(), VolumeFa
 fn set_kind(volume: &mut Volume, name: &str, kind: u8) -> Result<(), VolumeFault>
     ensures done { OnOk result (kind_set volume.old name.now kind ≡ Ok volume.new) }
     ensures volume { OnOk result (IsVolume volume.new) }
-    ensures refused { IfErr result (λ fault. kind_set volume.old name.now kind ≡ Err fault) }
+    ensures refusal { IfErr result (λ fault. kind_set volume.old name.now kind ≡ Err fault) }
     ensures unchanged { OnErr result (volume.new ≡ volume.old) }
 {
     volume.set_kind(name, kind)?;
@@ -198,7 +198,7 @@ fn set_kind(volume: &mut Volume, name: &str, kind: u8) -> Result<(), VolumeFault
 fn set_slot_kind(volume: &mut Volume, slot: u16, kind: u8) -> Result<(), VolumeFault>
     ensures done { OnOk result (slot_kind_set volume.old slot kind ≡ Ok volume.new) }
     ensures volume { OnOk result (IsVolume volume.new) }
-    ensures refused { IfErr result (λ fault. slot_kind_set volume.old slot kind ≡ Err fault) }
+    ensures refusal { IfErr result (λ fault. slot_kind_set volume.old slot kind ≡ Err fault) }
     ensures unchanged { OnErr result (volume.new ≡ volume.old) }
 {
     volume.set_slot_kind(slot, kind)?;
@@ -215,7 +215,7 @@ fn copy(
 ) -> Result<(), VolumeFault>
     ensures done { OnOk result (copied volume.old name.now from.now entry ≡ Ok volume.new) }
     ensures volume { OnOk result (IsVolume volume.new) }
-    ensures refused { IfErr result (λ fault. copied volume.old name.now from.now entry ≡ Err fault) }
+    ensures refusal { IfErr result (λ fault. copied volume.old name.now from.now entry ≡ Err fault) }
     ensures unchanged { OnErr result (volume.new ≡ volume.old) }
 {
     let entry = entry.ok_or(VolumeFault::NoFile)?;
@@ -228,7 +228,7 @@ fn copy(
 fn opened(image: Vec<u8>) -> Result<Volume, VolumeFault>
     ensures opened { IfOk result (λ v. v ≡ image.items) }
     ensures sound { OnOk result (image_fault image.items ≡ None) }
-    ensures refused { IfErr result (λ fault. image_fault image.items ≡ Some fault) }
+    ensures refusal { IfErr result (λ fault. image_fault image.items ≡ Some fault) }
 {
     match Volume::open(image) {
         Ok(volume) => Ok(volume),
@@ -242,7 +242,7 @@ fn copy_named(volume: &mut Volume, name: &str, image: Vec<u8>) -> Result<(), Vol
         (copied_from volume.old name.now image.items (file_named image.items name.now) (image_fault image.items)
         ≡ Ok volume.new) }
     ensures volume { OnOk result (IsVolume volume.new) }
-    ensures refused { IfErr result (λ fault.
+    ensures refusal { IfErr result (λ fault.
         copied_from volume.old name.now image.items (file_named image.items name.now) (image_fault image.items)
         ≡ Err fault) }
     ensures unchanged { OnErr result (volume.new ≡ volume.old) }
@@ -258,7 +258,7 @@ fn copy_slot(volume: &mut Volume, slot: u16, name: &str, image: Vec<u8>) -> Resu
         (copied_from volume.old name.now image.items (file_in_slot image.items slot) (image_fault image.items)
         ≡ Ok volume.new) }
     ensures volume { OnOk result (IsVolume volume.new) }
-    ensures refused { IfErr result (λ fault.
+    ensures refusal { IfErr result (λ fault.
         copied_from volume.old name.now image.items (file_in_slot image.items slot) (image_fault image.items)
         ≡ Err fault) }
     ensures unchanged { OnErr result (volume.new ≡ volume.old) }
@@ -273,7 +273,7 @@ fn set_date(volume: &mut Volume, year: u8, month: u8, day: u8) -> Result<(), Fil
     ensures good { OnOk result (is_date year month day ≡ true) }
     ensures dated { OnOk result (volume.new ≡ dated_image volume.old (date_word year month day)) }
     ensures volume { OnOk result (IsVolume volume.new) }
-    ensures refused { IfErr result (λ fault. (fault ≡ FilerFault.BadDate) × (is_date year month day ≡ false)) }
+    ensures refusal { IfErr result (λ fault. (fault ≡ FilerFault.BadDate) × (is_date year month day ≡ false)) }
     ensures unchanged { OnErr result (volume.new ≡ volume.old) }
 {
     let date = Date { year, month, day };
@@ -285,7 +285,7 @@ fn set_date(volume: &mut Volume, year: u8, month: u8, day: u8) -> Result<(), Fil
 // The list of the files whose names fit a pattern.
 fn list_fitting(alloc: Global, volume: &Volume, pattern: &str) -> Result<Reply, FilerFault>
     ensures lines { IfOk result (λ reply. answer_of reply ≡ Lines (fitting_list_text volume.now pattern.now)) }
-    ensures memory { IfErr result (λ fault. fault ≡ FilerFault.NoMemory) }
+    ensures refusal { IfErr result (λ fault. fault ≡ FilerFault.NoMemory) }
 {
     Ok(Reply::Lines(fitting_list_text(alloc, volume, pattern)?))
 }
@@ -305,7 +305,7 @@ pub fn apply(alloc: Global, volume: &mut Volume, command: FileCommand) -> Result
     ensures done { IfOk result
         (λ reply. filed volume.old (order_of command)
         ≡ Ok (record { image = volume.new; answer = answer_of reply })) }
-    ensures refused { IfErr result
+    ensures refusal { IfErr result
         (λ fault. fault ≢ FilerFault.NoMemory → filed volume.old (order_of command) ≡ Err fault) }
     ensures memory { IsErrOf result FilerFault.NoMemory →
         MayWantMemory (order_of command) (filed volume.old (order_of command)) }

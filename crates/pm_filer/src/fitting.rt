@@ -112,7 +112,7 @@ fn remove_first(volume: &mut Volume, pattern: &str, count: u16)
 pub(crate) fn remove_fitting(volume: &mut Volume, pattern: &str) -> Result<(), VolumeFault>
     ensures removed { OnOk result (fitting_removed volume.old pattern.now ≡ Ok volume.new) }
     ensures volume { IsVolume volume.old → IsVolume volume.new }
-    ensures refused { IfErr result (λ fault. fitting_removed volume.old pattern.now ≡ Err fault) }
+    ensures refusal { IfErr result (λ fault. fitting_removed volume.old pattern.now ≡ Err fault) }
     ensures unchanged { OnErr result (volume.new ≡ volume.old) }
 {
     if !has_fitting(volume, pattern) {

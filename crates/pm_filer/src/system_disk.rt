@@ -31,7 +31,7 @@ fn program_file<'a>(volume: &'a Volume, name: &str) -> Option<&'a [u8]>
 #[tactic(auto, using(crate::proofs::SystemMade::made))]
 fn put_code(volume: &mut Volume, name: &str, file: &[u8]) -> Result<(), VolumeFault>
     ensures done { OnOk result (put_code volume.old name.now file.now ≡ Ok volume.new) }
-    ensures refused { IfErr result (λ fault. put_code volume.old name.now file.now ≡ Err fault) }
+    ensures refusal { IfErr result (λ fault. put_code volume.old name.now file.now ≡ Err fault) }
     ensures stay { OnOk result (FilesStay volume.old volume.new) }
 {
     let date = volume.last_date();
@@ -43,7 +43,7 @@ fn put_code(volume: &mut Volume, name: &str, file: &[u8]) -> Result<(), VolumeFa
 #[tactic(auto, using(crate::proofs::SystemMade::made))]
 fn exchange(volume: &mut Volume, name: &str, file: &[u8]) -> Result<(), VolumeFault>
     ensures done { OnOk result (put_anew name.now file.now (file_removed volume.old name.now) ≡ Ok volume.new) }
-    ensures refused { IfErr result (λ fault.
+    ensures refusal { IfErr result (λ fault.
         put_anew name.now file.now (file_removed volume.old name.now) ≡ Err fault) }
     ensures stay { OnOk result (IfSome (slot_named (directory_of volume.old) name.now) (λ slot.
         All (FileStays volume.old volume.new) (remove (files_of volume.old) (slot - 1)))) }
@@ -66,7 +66,7 @@ pub fn put_system(
     system: &[u8],
 ) -> Result<Volume, SystemFault>
     ensures done { IfOk result (λ new. image_with_system volume name.now system.now ≡ Ok new) }
-    ensures refused { IfErr result (λ fault. fault ≢ NoMemory →
+    ensures refusal { IfErr result (λ fault. fault ≢ NoMemory →
         image_with_system volume name.now system.now ≡ Err fault) }
     ensures stay { IfOk result (λ new. IfSome (slot_named (directory_of volume) name.now) (λ slot.
         All (FileStays volume new) (remove (files_of volume) (slot - 1)))) }

@@ -15,7 +15,7 @@ use std::alloc::{AllocError, Global};
 #[tactic(auto, unfolding(crate::specs::SystemSegments::system_slot))]
 pub(crate) fn system_slot(system: &[u8]) -> Result<(Slot, &[u8]), SystemFault>
     ensures found { IfOk result (λ found. system_slot system.now ≡ Ok (found.0, found.1.now)) }
-    ensures refused { IfErr result (λ fault. (fault ≢ NoMemory) × (system_slot system.now ≡ Err fault)) }
+    ensures refusal { IfErr result (λ fault. (fault ≢ NoMemory) × (system_slot system.now ≡ Err fault)) }
 {
     let file = match CodeFile::read(system) {
         Ok(file) => file,
@@ -57,7 +57,7 @@ pub(crate) fn given(
     segment: &[u8],
 ) -> Result<Vec<u8>, SystemFault>
     ensures given { IfOk result (λ new. given file.now slot segment.now ≡ Ok new.items) }
-    ensures refused { IfErr result (λ fault. fault ≢ NoMemory → given file.now slot segment.now ≡ Err fault) }
+    ensures refusal { IfErr result (λ fault. fault ≢ NoMemory → given file.now slot segment.now ≡ Err fault) }
     ensures memory { IsErrOf result NoMemory → IsOk (given file.now slot segment.now) }
 {
     let program = match CodeFile::read(file) {
@@ -79,7 +79,7 @@ pub(crate) fn given(
 /// volume where `file` has more than 65,535 blocks of 512 bytes.
 pub fn with_system(alloc: Global, file: &[u8], system: &[u8]) -> Result<Vec<u8>, SystemFault>
     ensures done { IfOk result (λ new. with_system file.now system.now ≡ Ok new.items) }
-    ensures refused { IfErr result (λ fault. fault ≢ NoMemory → with_system file.now system.now ≡ Err fault) }
+    ensures refusal { IfErr result (λ fault. fault ≢ NoMemory → with_system file.now system.now ≡ Err fault) }
     ensures memory { IsErrOf result NoMemory → IsOk (with_system file.now system.now) }
 {
     let (slot, segment) = system_slot(system)?;

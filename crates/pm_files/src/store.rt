@@ -51,7 +51,7 @@ pub trait Store {
     fn put(&mut self, path: &str, bytes: &[u8]) -> Result<(), DiskFault>
         ensures puts { OnOk result (Puts (files self.old) (files self.new) path.now bytes.now) }
         ensures held { held self.new ≡ held self.old }
-        ensures stays { OnErr result (files self.new ≡ files self.old) };
+        ensures unchanged { OnErr result (files self.new ≡ files self.old) };
 
     /// Whether two paths name one file.
     fn is_same(&self, one: &str, other: &str) -> bool

@@ -93,7 +93,7 @@ impl<W: Output> Sink for Writer<W> {
 pub fn write_all<W: Sink>(sink: &mut W, bytes: &[u8]) -> Result<(), Fault>
     requires well { (W.seen sink.old).failed ≡ false }
     ensures all { OnOk result (Appends (W.seen sink.old).contents (W.seen sink.new).contents bytes.now) }
-    ensures fault { IfErr result (λ fault. fault ≡ Fault.Write) }
+    ensures refusal { IfErr result (λ fault. fault ≡ Fault.Write) }
     ensures front { AppendsFront (W.seen sink.old).contents (W.seen sink.new).contents bytes.now }
     ensures failed { (W.seen sink.new).failed ≡ is_err result }
 {

@@ -138,7 +138,7 @@ fn read_byte<R: Source>(source: &mut R) -> Result<Option<u8>, Fault>
     requires well { (R.seen source.old).failed ≡ false }
     ensures byte { IfOk result (λ byte. ReadsByte (R.seen source.old).remaining (R.seen source.new).remaining byte) }
     ensures failed { (R.seen source.new).failed ≡ is_err result }
-    ensures fault { IfErr result (λ fault. fault ≡ Fault.Read) }
+    ensures refusal { IfErr result (λ fault. fault ≡ Fault.Read) }
     ensures kept { OnErr result (Keeps (R.seen source.old).remaining (R.seen source.new).remaining) }
     ensures counts { IfOk result (λ byte. CountsByte (R.seen source.old).given (R.seen source.new).given byte) }
 {
@@ -158,7 +158,7 @@ pub fn next_byte<R: Source>(source: &mut R, taken: &mut usize) -> Result<Option<
     ensures byte { IfOk result (λ byte.
         TakesByte (R.seen source.old) (R.seen source.new) taken.old taken.new byte) }
     ensures well { OnOk result ((R.seen source.new).failed ≡ false) }
-    ensures fault { IfErr result (λ fault. fault ≡ Fault.Read) }
+    ensures refusal { IfErr result (λ fault. fault ≡ Fault.Read) }
     ensures none { OnErr result (TakesNone (R.seen source.old) (R.seen source.new) taken.old) }
 {
     let byte = read_byte(source)?;

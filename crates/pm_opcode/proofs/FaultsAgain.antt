@@ -1,4 +1,4 @@
--- Each fault is answered wherever its bytes stand.
+-- Each fault is returned for all bytes that have it.
 use Rattle.std.proofs.Common.{◌≡◌, ◌<◌, ◌≤◌, ℕ, ◌+◌, ◌-◌, zero, suc, List, [], ◌∷◌, ◌++◌, length, drop, Result, Ok, Err, Some}
 use Rattle.std.proofs.Common.{refl, sym, ap, ◌∙◌, arith, length-append, length-drop, append_assoc, IfOk, inl, inr, subst}
 use Rattle.std.specs.Prelude.{slice_get}
@@ -36,12 +36,12 @@ pub bad_type_again : (bytes : List ℕ) (at : ℕ) → HasBadType bytes at → r
 unfolding reading front_byte read_typed
 bad_type_again bytes at (op, type, rest, e, form, sized, unsized) = rw (e, form, sized, unsized) refl
 
--- more bytes behind leave the front
+-- Bytes that are appended do not change the prefix.
 dropped_before : (bytes more front : List ℕ) (at op : ℕ) → drop at bytes ≡ op ∷ front → drop at (bytes ++ more) ≡ op ∷ (front ++ more)
 dropped_before bytes more front at op e =
     drop-append-le at bytes more (omega (arith, ap length e, length-drop at bytes)) ∙ ap (λ x. x ++ more) e
 
--- what stands in the bytes stands in more of them too, so nothing longer does
+-- An encoding in the shorter bytes is also in the longer ones, so there is no longer encoding at that offset.
 not_longer : (bytes more : List ℕ) (at : ℕ) (i j : Instr) → IsSpelledAt (bytes ++ more) at i → IsSpelledAt bytes at j → at + i.len ≤ length bytes
 not_longer bytes more at i j s t =
     let named = named_by j bytes in
@@ -64,7 +64,7 @@ not_longer bytes more at i j s t =
     let same : i ≡ j = cc in
     subst (λ (k : Instr). at + k.len ≤ length bytes) (sym same) within
 
--- bytes that end within an instruction have no other fault, and no instruction
+-- Bytes that end within an instruction have no other fault, and contain no instruction there.
 cut_again : (bytes more : List ℕ) (at : ℕ) (i : Instr) (r : Result Instr Decode) → IsBytes bytes → IsSpelledAt (bytes ++ more) at i → length bytes < at + i.len
     → reading bytes at ≡ r → r ≡ Err faults.Truncated
 cut_again bytes more at i (Ok j) b s l e =

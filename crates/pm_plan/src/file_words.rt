@@ -107,7 +107,7 @@ pub(crate) fn word(alloc: Global, matches: &ArgMatches<'_>, id: &str) -> Result<
 fn part(matches: &ArgMatches<'_>, id: &str) -> Result<u8, WordsError>
     ensures value { IfOk result (λ part. IsSpelled (word_found (words_of matches.now) id.now) part) }
     ensures accepted { IsOk result ↔ IsNumberWord 255 (word_found (words_of matches.now) id.now) }
-    ensures refused { IsThere (word_found (words_of matches.now) id.now) → IfErr result IsWrong }
+    ensures refusal { IsThere (word_found (words_of matches.now) id.now) → IfErr result IsWrong }
 {
     match number(needed(matches, id)?) {
         Some(part @ 0..=255) => Ok(part as u8),
@@ -119,7 +119,7 @@ fn part(matches: &ArgMatches<'_>, id: &str) -> Result<u8, WordsError>
 fn kind_of(matches: &ArgMatches<'_>, id: &str) -> Result<u8, WordsError>
     ensures value { IfOk result (λ kind. IsKind (word_found (words_of matches.now) id.now) kind) }
     ensures accepted { IsOk result ↔ IsKindWord (word_found (words_of matches.now) id.now) }
-    ensures refused { IsThere (word_found (words_of matches.now) id.now) → IfErr result IsWrong }
+    ensures refusal { IsThere (word_found (words_of matches.now) id.now) → IfErr result IsWrong }
 {
     kind(needed(matches, id)?).ok_or(WordsError::Wrong(
         "invalid KIND: it must be none, badb, code, text, info, data, graf, foto, secd, or a number from 0 to 15",
@@ -130,7 +130,7 @@ fn kind_of(matches: &ArgMatches<'_>, id: &str) -> Result<u8, WordsError>
 fn blocks_of(matches: &ArgMatches<'_>) -> Result<u16, WordsError>
     ensures value { IfOk result (λ blocks. IsSpelled (word_found (words_of matches.now) (codes "BLOCKS")) blocks) }
     ensures accepted { IsOk result ↔ IsNumberWord 65535 (word_found (words_of matches.now) (codes "BLOCKS")) }
-    ensures refused { IsThere (word_found (words_of matches.now) (codes "BLOCKS")) → IfErr result IsWrong }
+    ensures refusal { IsThere (word_found (words_of matches.now) (codes "BLOCKS")) → IfErr result IsWrong }
 {
     short_number(needed(matches, "BLOCKS")?).ok_or(WordsError::Wrong(
         "invalid BLOCKS: it must be a decimal number, at most 65535",
@@ -302,7 +302,7 @@ fn set_kind(alloc: Global, matches: &ArgMatches<'_>) -> Result<Verb, WordsError>
 fn slot_of(matches: &ArgMatches<'_>) -> Result<Option<u16>, WordsError>
     ensures value { IfOk result (λ slot. IsSlot (word_found (words_of matches.now) (codes "slot")) slot) }
     ensures accepted { IsOk result ↔ IsSlotWord (word_found (words_of matches.now) (codes "slot")) }
-    ensures refused { IfErr result IsWrong }
+    ensures refusal { IfErr result IsWrong }
 {
     let Some(text) = found(matches, "slot") else {
         return Ok(None);
@@ -363,7 +363,7 @@ fn path_of(before: Option<String>, behind: Option<String>) -> Result<String, Wor
     ensures path { IfOk result (λ path. IsPath (option_map string_bytes before) (option_map string_bytes behind)
         (string_bytes path)) }
     ensures one { IsOk result ↔ (is_some before ≢ is_some behind) }
-    ensures refused { IfErr result IsWrong }
+    ensures refusal { IfErr result IsWrong }
 {
     match (before, behind) {
         (Some(path), None) => Ok(path),

@@ -55,7 +55,7 @@ pub fn form_asked(matches: &ArgMatches<'_>) -> Result<Form, WordsError>
     ensures asked { IfOk result (λ form. IsForm matches.now form) }
     ensures good { IsOk result → IsGoodForm matches.now }
     ensures taken { IsGoodForm matches.now → IsOkUnless result NoMemory }
-    ensures refused { IfErr result IsWrong }
+    ensures refusal { IfErr result IsWrong }
 {
     match (found(matches, "form"), word_below(matches)) {
         (None, None) => Ok(Form::In(Order::Blocks)),

@@ -54,7 +54,7 @@ fn form_at(form: Form, system: &Option<String>, printer: &Option<String>, path: 
 #[tactic(auto, using(pm_check::proofs::OrderLaws::turned_blocks))]
 fn volume_of(alloc: Global, form: Form, file: Vec<u8>) -> Result<Vec<u8>, DiskFault>
     ensures value { IfOk result (λ volume. volume.items ≡ volume_of form file.items) }
-    ensures wants { IfErr result (λ fault. fault ≡ DiskFault.NoMemory) }
+    ensures refusal { IfErr result (λ fault. fault ≡ DiskFault.NoMemory) }
 {
     match form {
         Form::In(Order::Blocks) => Ok(file),
@@ -87,7 +87,7 @@ fn put_headed<S: Store>(
 ) -> Result<(), DiskFault>
     ensures puts { OnOk result (PutsVolume (S.files store.old) (S.files store.new) path.now volume.now) }
     ensures held { S.held store.new ≡ S.held store.old }
-    ensures stays { OnErr result (S.files store.new ≡ S.files store.old) }
+    ensures unchanged { OnErr result (S.files store.new ≡ S.files store.old) }
 {
     if volume.len() > IMAGE_LIMIT {
         return Err(DiskFault::TooLong);
@@ -132,7 +132,7 @@ impl<S: Store> Store for InForm<S> {
             (in_form self.new.form (option_map string_bytes self.new.system) (option_map string_bytes self.new.printer)
             (S.files self.new.store)) path.now bytes.now) }
         ensures held { S.held self.new.store ≡ S.held self.old.store }
-        ensures stays { OnErr result (
+        ensures unchanged { OnErr result (
             in_form self.new.form (option_map string_bytes self.new.system) (option_map string_bytes self.new.printer)
             (S.files self.new.store)
             ≡ in_form self.old.form (option_map string_bytes self.old.system) (option_map string_bytes self.old.printer)

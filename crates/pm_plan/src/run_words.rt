@@ -47,7 +47,7 @@ fn run_limit_of(matches: &ArgMatches<'_>) -> Result<u64, WordsError>
         (word_found (words_of matches.now) (codes "limit")) limit) }
     ensures accepted { IsOk result ↔ IsRunLimitWord (is_set (word_found (words_of matches.now) (codes "unlimited")))
         (word_found (words_of matches.now) (codes "limit")) }
-    ensures refused { IfErr result IsWrong }
+    ensures refusal { IfErr result IsWrong }
 {
     if !is_set(matches, "unlimited") {
         return Ok(u64::from(limit_of(matches)?));
@@ -119,7 +119,7 @@ fn saving_of(matches: &ArgMatches<'_>) -> Result<Saving, WordsError>
         (word_found (words_of matches.now) (codes "system")) saving) }
     ensures good { IsOk result ↔ IsNotBoth (is_set (word_found (words_of matches.now) (codes "save-all")))
         (is_set (word_found (words_of matches.now) (codes "save"))) }
-    ensures refused { IfErr result IsWrong }
+    ensures refusal { IfErr result IsWrong }
 {
     match (is_set(matches, "save"), is_set(matches, "save-all")) {
         (false, false) => Ok(Saving::Nothing),
@@ -133,7 +133,7 @@ fn saving_of(matches: &ArgMatches<'_>) -> Result<Saving, WordsError>
 fn unsaved(matches: &ArgMatches<'_>) -> Result<(), WordsError>
     ensures good { IsOk result ↔ IsAlone (is_set (word_found (words_of matches.now) (codes "save")))
         (word_found (words_of matches.now) (codes "system")) }
-    ensures refused { IfErr result IsWrong }
+    ensures refusal { IfErr result IsWrong }
 {
     if is_set(matches, "save") && found(matches, "system").is_some() {
         return Err(WordsError::Wrong(

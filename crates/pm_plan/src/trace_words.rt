@@ -19,7 +19,7 @@ fn small(text: &str) -> Option<u8>
 fn first_of(matches: &ArgMatches<'_>) -> Result<u32, WordsError>
     ensures value { IfOk result (λ first. IsFirst (word_found (words_of matches.now) (codes "from")) first) }
     ensures accepted { IsOk result ↔ IsLimitWord (word_found (words_of matches.now) (codes "from")) }
-    ensures refused { IfErr result IsWrong }
+    ensures refusal { IfErr result IsWrong }
 {
     match found(matches, "from") {
         Some(text) => number(text).ok_or(WordsError::Wrong(
@@ -56,7 +56,7 @@ fn code_of(matches: &ArgMatches<'_>) -> Result<Code, WordsError>
         (word_found (words_of matches.now) (codes "procedure")) code) }
     ensures accepted { IsOk result ↔ IsCodeWords (word_found (words_of matches.now) (codes "segment"))
         (word_found (words_of matches.now) (codes "procedure")) }
-    ensures refused { IfErr result IsWrong }
+    ensures refusal { IfErr result IsWrong }
 {
     let code = code_by(found(matches, "segment"), found(matches, "procedure"));
     code.ok_or(WordsError::Wrong(
@@ -68,7 +68,7 @@ fn code_of(matches: &ArgMatches<'_>) -> Result<Code, WordsError>
 pub fn selection_of(matches: &ArgMatches<'_>) -> Result<Selection, WordsError>
     ensures asked { IfOk result (λ selection. AsksSelection (words_of matches.now) selection) }
     ensures accepted { IsOk result ↔ MeetEach (words_of matches.now) selection_needs }
-    ensures refused { IfErr result IsWrong }
+    ensures refusal { IfErr result IsWrong }
 {
     Ok(Selection {
         from: first_of(matches)?,

@@ -178,7 +178,7 @@ pub fn flag(matches: &ArgMatches<'_>, id: &str) -> bool
 /// A word that has to be there.
 pub fn needed<'a>(matches: &ArgMatches<'a>, id: &str) -> Result<&'a str, WordsError>
     ensures word { IfOk result (λ word. word_found (words_of matches.now) id.now ≡ Some word.now) }
-    ensures missing { IfErr result (λ error. (error ≡ NoCommand) × (word_found (words_of matches.now) id.now ≡ None)) }
+    ensures refusal { IfErr result (λ error. (error ≡ NoCommand) × (word_found (words_of matches.now) id.now ≡ None)) }
 {
     found(matches, id).ok_or(WordsError::NoCommand)
 }
@@ -205,7 +205,7 @@ pub fn given(
 pub fn limit_of(matches: &ArgMatches<'_>) -> Result<u32, WordsError>
     ensures value { IfOk result (λ limit. IsLimit (word_found (words_of matches.now) (codes "limit")) limit) }
     ensures accepted { IsOk result ↔ IsLimitWord (word_found (words_of matches.now) (codes "limit")) }
-    ensures refused { IfErr result IsWrong }
+    ensures refusal { IfErr result IsWrong }
 {
     match found(matches, "limit") {
         Some(text) => number(text).ok_or(WordsError::Wrong(
@@ -234,7 +234,7 @@ fn asm_output(matches: &ArgMatches<'_>) -> Result<AsmOutput, WordsError>
         (is_set (word_found (words_of matches.now) (codes "list")))
         (is_set (word_found (words_of matches.now) (codes "symbols")))) }
     ensures good { IsOk result ↔ MeetEach (words_of matches.now) asm_needs }
-    ensures refused { IfErr result IsWrong }
+    ensures refusal { IfErr result IsWrong }
 {
     let symbols = is_set(matches, "symbols");
     match (is_set(matches, "all"), is_set(matches, "list"), symbols) {
@@ -255,7 +255,7 @@ fn dis_output(matches: &ArgMatches<'_>) -> Result<DisOutput, WordsError>
         (is_set (word_found (words_of matches.now) (codes "indent")))
         (is_set (word_found (words_of matches.now) (codes "blocks")))) }
     ensures good { IsOk result ↔ MeetEach (words_of matches.now) dis_needs }
-    ensures refused { IfErr result IsWrong }
+    ensures refusal { IfErr result IsWrong }
 {
     if is_set(matches, "blocks") {
         if is_set(matches, "names") || is_set(matches, "list") || is_set(matches, "indent") {

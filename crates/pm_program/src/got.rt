@@ -29,7 +29,7 @@ pub fn do_get<S: Store, I: Source>(
         SavesGot (S.files store.old) (S.files store.new) path.now output.now (order_of command) input outcome)) }
     ensures cut { IfOk result (λ outcome. IsCutShort outcome.exit → S.files store.new ≡ S.files store.old) }
     ensures held { OnOk result (S.held store.new ≡ held_at (Some output.now) (S.held store.old)) }
-    ensures stays { OnErr result (S.files store.new ≡ S.files store.old) }
+    ensures unchanged { OnErr result (S.files store.new ≡ S.files store.old) }
 {
     let image = store.read(alloc, path)?;
     into_file(alloc, store, source, output, Job::Files { image, command })

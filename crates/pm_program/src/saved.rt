@@ -107,7 +107,7 @@ pub fn do_files<S: Store, I: Source, O: Sink>(
     ensures held { OnOk result (S.held store.new ≡ held_by (takes_lock verb) path.now (S.held store.old)) }
     ensures said { IfOk result (λ outcome. IsSoundExit outcome.exit → IfSome (I.seen source.old).remaining (λ input.
         SavesSaid (S.files store.old) (S.files store.new) path.now verb input)) }
-    ensures stays { OnErr result (S.files store.new ≡ S.files store.old) }
+    ensures unchanged { OnErr result (S.files store.new ≡ S.files store.old) }
 {
     let job = files_job(alloc, store, path, verb)?;
     let outcome = pm_tool::run(alloc, source, sink, job);
@@ -132,7 +132,7 @@ pub fn do_salvage<S: Store, I: Source, O: Sink>(
     ensures held { OnOk result (S.held store.new ≡ held_too (string_bytes plan.target) (S.held store.old)) }
     ensures said { IfOk result (λ outcome. IsSoundExit outcome.exit → IfSome (I.seen source.old).remaining (λ input.
         SavesSalvage (S.files store.old) (S.files store.new) plan input)) }
-    ensures stays { OnErr result (S.files store.new ≡ S.files store.old) }
+    ensures unchanged { OnErr result (S.files store.new ≡ S.files store.old) }
 {
     let SalvagePlan {
         path,
@@ -230,7 +230,7 @@ fn save_image<S: Store>(store: &mut S, path: &str, image: &Option<Vec<u8>>) -> R
     ensures saved { OnOk result (
         Saves (S.files store.old) (S.files store.new) path.now (option_map vec_items image.now)) }
     ensures held { S.held store.new ≡ S.held store.old }
-    ensures stays { OnErr result (S.files store.new ≡ S.files store.old) }
+    ensures unchanged { OnErr result (S.files store.new ≡ S.files store.old) }
 {
     match image {
         Some(image) => store.put(path, image.as_slice()),
@@ -249,7 +249,7 @@ fn save_printer<S: Store, O: Sink>(
         PrintsIf (has_run outcome.now.exit) (S.files store.old) (S.files store.new) printing.now
         outcome.now.printer.items) }
     ensures held { S.held store.new ≡ S.held store.old }
-    ensures stays { OnErr result (S.files store.new ≡ S.files store.old) }
+    ensures unchanged { OnErr result (S.files store.new ≡ S.files store.old) }
 {
     if !has_run(outcome.exit) {
         return Ok(());
@@ -270,7 +270,7 @@ fn put_changed<S: Store>(
 ) -> Result<(), DiskFault>
     ensures puts { OnOk result (Puts (S.files store.old) (S.files store.new) path.now bytes.now) }
     ensures held { S.held store.new ≡ S.held store.old }
-    ensures stays { OnErr result (S.files store.new ≡ S.files store.old) }
+    ensures unchanged { OnErr result (S.files store.new ≡ S.files store.old) }
 {
     match store.read(alloc, path) {
         Ok(old) if old.as_slice() == bytes => Ok(()),
@@ -289,7 +289,7 @@ fn save_at<S: Store>(
     ensures saved { OnOk result (SavesAt (S.files store.old) (S.files store.new)
         (option_map string_bytes path.now) (option_map vec_items image.now)) }
     ensures held { S.held store.new ≡ S.held store.old }
-    ensures stays { OnErr result (S.files store.new ≡ S.files store.old) }
+    ensures unchanged { OnErr result (S.files store.new ≡ S.files store.old) }
 {
     match (path, image) {
         (Some(path), Some(image)) => put_changed(alloc, store, path.as_str(), image.as_slice()),
@@ -547,7 +547,7 @@ pub fn do_trace<S: Store, I: Source, O: Sink>(
     ensures unwritten { OnErr result (O.seen sink.new ≡ O.seen sink.old) }
     ensures cut { IfOk result (λ outcome. IsCutShort outcome.exit → S.files store.new ≡ S.files store.old) }
     ensures held { OnOk result (S.held store.new ≡ held_at (option_map string_bytes output) (S.held store.old)) }
-    ensures stays { OnErr result (S.files store.new ≡ S.files store.old) }
+    ensures unchanged { OnErr result (S.files store.new ≡ S.files store.old) }
 {
     let disk = program.disk.as_str();
     let (disks, system) = inputs(alloc, store, disk, &program.others, &program.system)?;

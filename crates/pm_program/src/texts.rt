@@ -32,7 +32,7 @@ fn into_memory<I: Source>(alloc: Global, source: &mut I, job: Job) -> (Outcome, 
 fn keep<S: Store>(store: &mut S, path: &str, exit: Exit, bytes: &[u8]) -> Result<(), DiskFault>
     ensures kept { OnOk result (Saves (S.files store.old) (S.files store.new) path.now (written_by exit bytes.now)) }
     ensures held { S.held store.new ≡ S.held store.old }
-    ensures stays { OnErr result (S.files store.new ≡ S.files store.old) }
+    ensures unchanged { OnErr result (S.files store.new ≡ S.files store.old) }
 {
     match exit {
         Exit::Ended | Exit::ExecutionError | Exit::Stopped => store.put(path, bytes),
@@ -57,7 +57,7 @@ pub(crate) fn into_file<S: Store, I: Source>(
         SavesText (S.files store.old) (S.files store.new) path.now outcome (job_said job input))) }
     ensures cut { IfOk result (λ outcome. IsCutShort outcome.exit → S.files store.new ≡ S.files store.old) }
     ensures held { OnOk result (S.held store.new ≡ held_at (Some path.now) (S.held store.old)) }
-    ensures stays { OnErr result (S.files store.new ≡ S.files store.old) }
+    ensures unchanged { OnErr result (S.files store.new ≡ S.files store.old) }
 {
     store.hold(path)?;
     let (outcome, page) = into_memory(alloc, source, job);
@@ -83,7 +83,7 @@ fn deliver<S: Store, I: Source, O: Sink>(
     ensures unwritten { OnErr result (O.seen sink.new ≡ O.seen sink.old) }
     ensures cut { IfOk result (λ outcome. IsCutShort outcome.exit → S.files store.new ≡ S.files store.old) }
     ensures held { OnOk result (S.held store.new ≡ held_at (option_map string_bytes path.now) (S.held store.old)) }
-    ensures stays { OnErr result (S.files store.new ≡ S.files store.old) }
+    ensures unchanged { OnErr result (S.files store.new ≡ S.files store.old) }
 {
     match path {
         Some(path) => into_file(alloc, store, source, path.as_str(), job),
@@ -159,7 +159,7 @@ fn deliver_bytes<S: Store, O: Sink>(
     ensures unwritten { OnErr result (O.seen sink.new ≡ O.seen sink.old) }
     ensures cut { IfOk result (λ outcome. IsCutShort outcome.exit → S.files store.new ≡ S.files store.old) }
     ensures held { OnOk result (S.held store.new ≡ held_at (option_map string_bytes path.now) (S.held store.old)) }
-    ensures stays { OnErr result (S.files store.new ≡ S.files store.old) }
+    ensures unchanged { OnErr result (S.files store.new ≡ S.files store.old) }
 {
     let mut source = Reader::new(bytes);
     deliver(alloc, store, &mut source, sink, path, job)
@@ -189,7 +189,7 @@ pub fn do_text<S: Store, I: Source, O: Sink>(
     ensures cut { IfOk result (λ outcome. IsCutShort outcome.exit → S.files store.new ≡ S.files store.old) }
     ensures held { IfOk result (λ outcome. outcome.exit ≡ Exit.Ended →
         S.held store.new ≡ held_at (option_map string_bytes files.output) (S.held store.old)) }
-    ensures stays { OnErr result (S.files store.new ≡ S.files store.old) }
+    ensures unchanged { OnErr result (S.files store.new ≡ S.files store.old) }
 {
     let TextFiles { input, output } = files;
     let bytes = match input {

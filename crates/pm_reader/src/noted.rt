@@ -10,7 +10,7 @@ use pm_source::AsmFault;
 pub fn note(found: &mut Vec<AsmFault>, fault: Option<AsmFault>) -> Result<(), AsmFault>
     ensures noted { OnOk result (found.new.items ≡ found.old.items ++ option_to_list fault) }
     ensures known { OnOk result (fault ≢ Some NoMemory) }
-    ensures refused { IfErr result (λ refusal. refusal ≡ NoMemory) }
+    ensures refusal { IfErr result (λ refusal. refusal ≡ NoMemory) }
 {
     match fault {
         None => Ok(()),

@@ -279,7 +279,7 @@ impl<'a> Reader<'a> {
             → OnOk result (line_faults number (reader_seen self.old) (line_seen line.entry) rest ≡ []) }
         ensures taken { OnOk result (reader_seen self.new
             ≡ after_line (reader_seen self.old) (line_seen line.entry)) }
-        ensures fault { (rest : List text.Line) → ends_later ≡ list_any ends rest
+        ensures refusal { (rest : List text.Line) → ends_later ≡ list_any ends rest
             → IfErr result (λ fault. IsFirstOf fault (line_faults number (reader_seen self.old)
             (line_seen line.entry) rest)) }
     {
@@ -302,7 +302,7 @@ impl<'a> Reader<'a> {
             → OnOk result (line_faults number (reader_seen self.old) (line_of number part.now) rest ≡ []) }
         ensures taken { OnOk result (reader_seen self.new
             ≡ after_line (reader_seen self.old) (line_of number part.now)) }
-        ensures fault { (rest : List text.Line) → ends_later ≡ list_any ends rest
+        ensures refusal { (rest : List text.Line) → ends_later ≡ list_any ends rest
             → IfErr result (λ fault. IsFirstOf fault (line_faults number (reader_seen self.old)
             (line_of number part.now) rest)) }
     {
@@ -353,7 +353,7 @@ impl<'a> Reader<'a> {
             ++ first_in (line_faults number (reader_seen self.old) (line_of number part.now) rest)) }
         ensures taken { OnOk result (reader_seen self.new
             ≡ after_line (reader_seen self.old) (line_of number part.now)) }
-        ensures refused { IfErr result (λ fault. fault ≡ NoMemory) }
+        ensures refusal { IfErr result (λ fault. fault ≡ NoMemory) }
     {
         let line = line(alloc, number, part).map_err(|_| AsmFault::NoMemory)?;
         note(found, self.line_fault(number, &line, ends_later))?;

@@ -41,7 +41,7 @@ fn until_last_end(text: &str) -> usize
 pub fn source_of<'a>(alloc: Global, text: &'a str) -> Result<Vec<LabelledSegment<'a>>, AsmFault>
     ensures faultless { OnOk result (faults_of_lines text.now ≡ []) }
     ensures read { IfOk result (λ ss. labelled_segments ss.items ≡ source_of text.now) }
-    ensures fault { IfErr result (λ fault. IsFirstOf fault (faults_of_lines text.now)) }
+    ensures refusal { IfErr result (λ fault. IsFirstOf fault (faults_of_lines text.now)) }
 {
     let until = until_last_end(text);
     let mut reader = Reader::new(alloc);
@@ -58,7 +58,7 @@ pub fn source_of<'a>(alloc: Global, text: &'a str) -> Result<Vec<LabelledSegment
 #[tactic(auto, unfolding(crate::specs::Each::firsts_of_lines))]
 pub fn faults_of_lines(alloc: Global, text: &str) -> Result<Vec<AsmFault>, AsmFault>
     ensures faults { IfOk result (λ faults. faults.items ≡ firsts_of_lines text.now) }
-    ensures refused { IfErr result (λ fault. fault ≡ NoMemory) }
+    ensures refusal { IfErr result (λ fault. fault ≡ NoMemory) }
 {
     let until = until_last_end(text);
     let mut reader = Reader::new(alloc);

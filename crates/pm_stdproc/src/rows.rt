@@ -70,7 +70,7 @@ fn exit_row(
         (reach_of memory.old.words registers.old frames.old.places rows devices)
         (reach_of memory.new.words registers.new frames.new.places rows devices)
         (or_fails (exit_row (reach_of memory.old.words registers.old frames.old.places rows devices))) }
-    ensures refused { OnErr result ((memory.new.words ≡ memory.old.words) × (registers.new ≡ registers.old)
+    ensures unchanged { OnErr result ((memory.new.words ≡ memory.old.words) × (registers.new ≡ registers.old)
         × (frames.new.places ≡ frames.old.places)) }
     ensures agrees { Agrees memory.old frames.old registers.old.mp → Agrees memory.new frames.new registers.new.mp }
     ensures watch { WatchStays memory.old memory.new }
@@ -98,7 +98,7 @@ fn unkeep_row(
         (reach_of memory.new.words registers.new frames.new.places rows.now devices)
         (or_fails (unkeep_row
         (reach_of memory.old.words registers.old frames.old.places rows.now devices))) }
-    ensures refused { OnErr result ((memory.new ≡ memory.old) × (registers.new ≡ registers.old)
+    ensures unchanged { OnErr result ((memory.new ≡ memory.old) × (registers.new ≡ registers.old)
         × (frames.new.places ≡ frames.old.places)) }
     ensures agrees { Agrees memory.old frames.old registers.old.mp → Agrees memory.new frames.new registers.new.mp }
     ensures mp { registers.new.mp ≡ registers.old.mp }
@@ -132,7 +132,7 @@ pub fn perform(
         (reach_of memory.new.words registers.new frames.new.places rows.now units.new.devices)
         (procedure_row (procedure_numbered n)
         (reach_of memory.old.words registers.old frames.old.places rows.now units.old.devices)) }
-    ensures refused { OnErr result ((memory.new.words ≡ memory.old.words) × (registers.new ≡ registers.old)
+    ensures unchanged { OnErr result ((memory.new.words ≡ memory.old.words) × (registers.new ≡ registers.old)
         × (frames.new.places ≡ frames.old.places) × (units.new ≡ units.old)) }
     ensures agrees { Agrees memory.old frames.old registers.old.mp → Agrees memory.new frames.new registers.new.mp }
     ensures watch { procedure_numbered n ≢ Unkeep → WatchStays memory.old memory.new }
@@ -165,7 +165,7 @@ fn keep_row(
         (reach_of memory.new.words registers.new frames.new.places rows.now units.now.devices)
         (or_fails (keep_row
         (reach_of memory.old.words registers.old frames.old.places rows.now units.now.devices))) }
-    ensures refused { OnErr result ((memory.new.words ≡ memory.old.words) × (registers.new ≡ registers.old)
+    ensures unchanged { OnErr result ((memory.new.words ≡ memory.old.words) × (registers.new ≡ registers.old)
         × (frames.new.places ≡ frames.old.places)) }
     ensures agrees { Agrees memory.old frames.old registers.old.mp → Agrees memory.new frames.new registers.new.mp }
     ensures watch { WatchStays memory.old memory.new }

@@ -27,7 +27,7 @@ pub fn encode(alloc: Global, text: &[u8]) -> Result<Vec<u8>, TextFault>
     ensures exact { IfOk result (λ bytes. bytes.items ≡ text_file text.now) }
     ensures reads_back { IfOk result (λ bytes. text_of_file bytes.items ≡ completed text.now) }
     ensures sound { OnOk result (text_fault text.now ≡ None) }
-    ensures fault { IfErr result (λ e. e ≢ TextFault.NoMemory → text_fault text.now ≡ Some e) }
+    ensures refusal { IfErr result (λ e. e ≢ TextFault.NoMemory → text_fault text.now ≡ Some e) }
     ensures first { IfErr result (λ e. e ≢ TextFault.NoMemory → IsFirstTextFault text.now e) }
 {
     let mut pages = Pages::new(alloc)?;
@@ -67,7 +67,7 @@ fn plain_length(line: &[u8]) -> usize
 fn check_line(line: &[u8], start: usize, number: usize) -> Result<(), TextFault>
     requires within { start + length line.now < 2 ^ 64 }
     ensures sound { OnOk result (line_fault start number line.now ≡ None) }
-    ensures fault { IfErr result (λ e. line_fault start number line.now ≡ Some e) }
+    ensures refusal { IfErr result (λ e. line_fault start number line.now ≡ Some e) }
 {
     let plain = plain_length(line);
     if plain < line.len() {

@@ -74,7 +74,7 @@ fn system_about(fault: SystemFault) -> About
 fn volume_of(image: Option<Vec<u8>>, place: usize) -> Result<Option<Volume>, BadImage>
     ensures volume { IfOk result (λ volume. volume ≡ option_map vec_items image) }
     ensures sound { OnOk result (disk_fault (option_map vec_items image) ≡ None) }
-    ensures fault { IfErr result (λ bad. disk_fault (option_map vec_items image) ≡ Some bad.1) }
+    ensures refusal { IfErr result (λ bad. disk_fault (option_map vec_items image) ≡ Some bad.1) }
     ensures place { IfErr result (λ bad. bad.0 ≡ place) }
 {
     match image {
@@ -91,7 +91,7 @@ fn volumes_of(disks: [Option<Vec<u8>>; 6]) -> Result<[Option<Volume>; 6], BadIma
     ensures volumes { IfOk result (λ volumes. volumes ≡ images_of disks) }
     ensures sound { OnOk result (first_disk_fault (images_of disks) ≡ None) }
     ensures all { OnOk result (first_bad 0 (images_of disks) ≡ None) }
-    ensures fault { IfErr result (λ bad. first_disk_fault (images_of disks) ≡ Some bad.1) }
+    ensures refusal { IfErr result (λ bad. first_disk_fault (images_of disks) ≡ Some bad.1) }
     ensures place { IfErr result (λ bad. first_bad 0 (images_of disks) ≡ Some bad.0) }
 {
     let mut volumes = [None, None, None, None, None, None];
@@ -112,7 +112,7 @@ fn first_with(
     system: Option<Vec<u8>>,
 ) -> Result<Option<Volume>, SystemFault>
     ensures image { IfOk result (λ new. first_with (option_map vec_items system) name.now volume ≡ Ok new) }
-    ensures refused { IfErr result (λ fault. fault ≢ SystemFault.NoMemory →
+    ensures refusal { IfErr result (λ fault. fault ≢ SystemFault.NoMemory →
         first_with (option_map vec_items system) name.now volume ≡ Err fault) }
 {
     let Some(system) = system else {
@@ -133,7 +133,7 @@ fn with_system(
     system: Option<Vec<u8>>,
 ) -> Result<[Option<Volume>; 6], SystemFault>
     ensures images { IfOk result (λ new. images_with (option_map vec_items system) name.now volumes ≡ Ok new) }
-    ensures refused { IfErr result (λ fault. fault ≢ SystemFault.NoMemory →
+    ensures refusal { IfErr result (λ fault. fault ≢ SystemFault.NoMemory →
         images_with (option_map vec_items system) name.now volumes ≡ Err (Refusal.System fault)) }
 {
     let first = volumes[0].take();

@@ -27,7 +27,7 @@ pub struct Transfer {
 // room.
 pub(crate) fn append(bytes: &mut Vec<u8>, more: &[u8]) -> Result<(), AllocError>
     ensures appended { OnOk result (bytes.new.items ≡ bytes.old.items ++ more.now) }
-    ensures items { OnErr result (bytes.new.items ≡ bytes.old.items) }
+    ensures unchanged { OnErr result (bytes.new.items ≡ bytes.old.items) }
     ensures room { OnErr result ((vec_capacity bytes.new ≡ vec_capacity bytes.old)
         × (vec_len bytes.new ≡ vec_len bytes.old)) }
     ensures full { OnErr result (vec_capacity bytes.old < vec_len bytes.old + length more.now) }

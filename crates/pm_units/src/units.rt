@@ -107,7 +107,7 @@ impl Units {
     pub fn key(&mut self, byte: u8) -> Result<(), AllocError>
         ensures waits { OnOk result (self.new.devices ≡ record self.old.devices
             { queue = self.old.devices.queue ++ byte ∷ [] }) }
-        ensures refused { OnErr result (self.new ≡ self.old) }
+        ensures unchanged { OnErr result (self.new ≡ self.old) }
         ensures full { OnErr result (self.old.room.queue ≡ 0) }
     {
         append(&mut self.queue, &[byte])?;
@@ -140,9 +140,9 @@ impl Units {
     #[tactic(auto, unfolding(crate::specs::Devices::mounted))]
     pub fn mount(&mut self, unit: u8, volume: Volume) -> Result<(), (MountFault, Volume)>
         ensures mounted { OnOk result (mounted unit volume self.old.devices ≡ Ok self.new.devices) }
-        ensures fault { IfErr result (λ e. mounted unit volume self.old.devices ≡ Err e.0) }
+        ensures refusal { IfErr result (λ e. mounted unit volume self.old.devices ≡ Err e.0) }
         ensures returned { IfErr result (λ e. e.1 ≡ volume) }
-        ensures refused { OnErr result (self.new ≡ self.old) }
+        ensures unchanged { OnErr result (self.new ≡ self.old) }
     {
         let Port::Disk(k) = unit_of(u16::from(unit)) else {
             return Err((MountFault::NoUnit, volume));

@@ -58,7 +58,7 @@ impl Disk {
     pub fn write(&mut self, place: usize, bytes: &[u8]) -> bool
         ensures inside { IsTrue result ↔ IsInImage self.old place (length bytes.now) }
         ensures written { OnTrue result (self.new ≡ written self.old place bytes.now) }
-        ensures refused { OnFalse result (self.new ≡ self.old) }
+        ensures unchanged { OnFalse result (self.new ≡ self.old) }
     {
         if place > self.bytes.len() || bytes.len() > self.bytes.len() - place {
             return false;

@@ -75,7 +75,7 @@ impl Volume {
         ensures accepted { IsOk result ↔ IsVolume bytes.items }
         ensures opened { IfOk result (λ v. v ≡ bytes.items) }
         ensures sound { OnOk result (image_fault bytes.items ≡ None) }
-        ensures first_fault { IfErr result (λ e. image_fault bytes.items ≡ Some e.0) }
+        ensures refusal { IfErr result (λ e. image_fault bytes.items ≡ Some e.0) }
         ensures returned { IfErr result (λ e. e.1 ≡ bytes) }
     {
         match fault_of_image(&bytes) {
@@ -92,7 +92,7 @@ impl Volume {
     pub fn repair(bytes: Vec<u8>) -> Result<Volume, (VolumeFault, Vec<u8>)>
         ensures repaired { IfOk result (λ v. repaired bytes.items ≡ Ok v) }
         ensures volume { IfOk result (λ v. IsVolume v) }
-        ensures refused { IfErr result (λ e. repaired bytes.items ≡ Err e.0) }
+        ensures refusal { IfErr result (λ e. repaired bytes.items ≡ Err e.0) }
         ensures returned { IfErr result (λ e. e.1 ≡ bytes) }
     {
         match fault_of_image(&bytes) {
@@ -116,7 +116,7 @@ impl Volume {
         ensures copies { IfOk result (λ v. HasCopies v copies.Single) }
         ensures empty { IfOk result (λ v. files_of v ≡ []) }
         ensures sound { OnOk result (blank_fault name.now blocks ≡ None) }
-        ensures refused { IfErr result (λ fault. fault ≡ unwrap_or (blank_fault name.now blocks) VolumeFault.NoMemory) }
+        ensures refusal { IfErr result (λ fault. fault ≡ unwrap_or (blank_fault name.now blocks) VolumeFault.NoMemory) }
     {
         if !is_new_name(LONGEST_VOLUME_NAME, name.as_bytes()) {
             return Err(VolumeFault::BadName);
@@ -246,7 +246,7 @@ impl Volume {
         ensures stay { OnOk result (FilesStay self.old self.new) }
         ensures rest { IfOk result (λ e. IfOk (place_for self.old name.now (blocks_for (length bytes.now)))
             (λ gap. ChangesOnly (added_spans (directory_of self.old) gap e) self.old self.new)) }
-        ensures refused { IfErr result
+        ensures refusal { IfErr result
             (λ fault. place_for self.old name.now (blocks_for (length bytes.now)) ≡ Err fault) }
         ensures unchanged { OnErr result (self.new ≡ self.old) }
     {
@@ -268,7 +268,7 @@ impl Volume {
         ensures stay { OnOk result (FilesStay self.old self.new) }
         ensures rest { IfSome (slot_named (directory_of self.old) name.now)
             (λ slot. ChangesOnly (removed_spans (directory_of self.old) slot) self.old self.new) }
-        ensures refused { IfErr result (λ fault. (fault ≡ VolumeFault.NoFile)
+        ensures refusal { IfErr result (λ fault. (fault ≡ VolumeFault.NoFile)
             × (slot_named (directory_of self.old) name.now ≡ None)) }
         ensures unchanged { OnErr result (self.new ≡ self.old) }
     {
@@ -287,7 +287,7 @@ impl Volume {
         ensures stay { OnOk result (FilesStay self.old self.new) }
         ensures rest { IfSome (slot_numbered (directory_of self.old) slot)
             (λ slot. ChangesOnly (removed_spans (directory_of self.old) slot) self.old self.new) }
-        ensures refused { IfErr result (λ fault. (fault ≡ VolumeFault.NoFile)
+        ensures refusal { IfErr result (λ fault. (fault ≡ VolumeFault.NoFile)
             × (slot_numbered (directory_of self.old) slot ≡ None)) }
         ensures unchanged { OnErr result (self.new ≡ self.old) }
     {
@@ -307,7 +307,7 @@ impl Volume {
         ensures rest { IfOk
             (slot_to_rename (directory_of self.old) (slot_named (directory_of self.old) old.now) new.now)
             (λ slot. ChangesOnly (and_second (directory_of self.old) (name_span slot ∷ [])) self.old self.new) }
-        ensures refused { IfErr result (λ fault.
+        ensures refusal { IfErr result (λ fault.
             slot_to_rename (directory_of self.old) (slot_named (directory_of self.old) old.now) new.now ≡ Err fault) }
         ensures unchanged { OnErr result (self.new ≡ self.old) }
     {
@@ -327,7 +327,7 @@ impl Volume {
         ensures rest { IfOk
             (slot_to_rename (directory_of self.old) (slot_numbered (directory_of self.old) slot) new.now)
             (λ slot. ChangesOnly (and_second (directory_of self.old) (name_span slot ∷ [])) self.old self.new) }
-        ensures refused { IfErr result (λ fault.
+        ensures refusal { IfErr result (λ fault.
             slot_to_rename (directory_of self.old) (slot_numbered (directory_of self.old) slot) new.now ≡ Err fault) }
         ensures unchanged { OnErr result (self.new ≡ self.old) }
     {
@@ -345,7 +345,7 @@ impl Volume {
         ensures stay { OnOk result (FilesStay self.old self.new) }
         ensures rest { IfSome (slot_named (directory_of self.old) name.now)
             (λ slot. ChangesOnly (and_second (directory_of self.old) (kind_span slot ∷ [])) self.old self.new) }
-        ensures refused { IfErr result (λ fault. (fault ≡ VolumeFault.NoFile)
+        ensures refusal { IfErr result (λ fault. (fault ≡ VolumeFault.NoFile)
             × (slot_named (directory_of self.old) name.now ≡ None)) }
         ensures unchanged { OnErr result (self.new ≡ self.old) }
     {
@@ -364,7 +364,7 @@ impl Volume {
         ensures stay { OnOk result (FilesStay self.old self.new) }
         ensures rest { IfSome (slot_numbered (directory_of self.old) slot)
             (λ slot. ChangesOnly (and_second (directory_of self.old) (kind_span slot ∷ [])) self.old self.new) }
-        ensures refused { IfErr result (λ fault. (fault ≡ VolumeFault.NoFile)
+        ensures refusal { IfErr result (λ fault. (fault ≡ VolumeFault.NoFile)
             × (slot_numbered (directory_of self.old) slot ≡ None)) }
         ensures unchanged { OnErr result (self.new ≡ self.old) }
     {
@@ -409,7 +409,7 @@ impl Volume {
         ensures copies { OnOk result (CopiesStay self.old self.new) }
         ensures rest { OnOk result
             (ChangesOnly (and_second (directory_of self.old) (directory_span ∷ [])) self.old self.new) }
-        ensures refused { IfErr result (λ fault. fault ≡ VolumeFault.BadName) }
+        ensures refusal { IfErr result (λ fault. fault ≡ VolumeFault.BadName) }
         ensures unchanged { OnErr result (self.new ≡ self.old) }
     {
         let _ = &self.bytes;
@@ -436,7 +436,7 @@ impl Volume {
         ensures files { OnOk result (files_of self.new ≡ files_of self.old) }
         ensures stay { OnOk result (FilesStay self.old self.new) }
         ensures rest { OnOk result (ChangesOnly (past_span ∷ second_span ∷ []) self.old self.new) }
-        ensures refused { IfErr result (λ fault. doubled self.old ≡ Err fault) }
+        ensures refusal { IfErr result (λ fault. doubled self.old ≡ Err fault) }
         ensures unchanged { OnErr result (self.new ≡ self.old) }
     {
         if self.blocks() < PAST_SECOND {
@@ -507,7 +507,7 @@ impl Volume {
         ensures stay { OnOk result (FilesStay self.old self.new) }
         ensures rest { IfSome slot
             (λ slot. ChangesOnly (removed_spans (directory_of self.old) slot) self.old self.new) }
-        ensures refused { IfErr result (λ fault. (fault ≡ VolumeFault.NoFile) × (slot ≡ None)) }
+        ensures refusal { IfErr result (λ fault. (fault ≡ VolumeFault.NoFile) × (slot ≡ None)) }
         ensures unchanged { OnErr result (self.new ≡ self.old) }
     {
         let _ = &self.bytes;
@@ -527,7 +527,7 @@ impl Volume {
         ensures stay { OnOk result (FilesStay self.old self.new) }
         ensures rest { IfOk (slot_to_rename (directory_of self.old) slot new.now)
             (λ slot. ChangesOnly (and_second (directory_of self.old) (name_span slot ∷ [])) self.old self.new) }
-        ensures refused { IfErr result (λ fault. slot_to_rename (directory_of self.old) slot new.now ≡ Err fault) }
+        ensures refusal { IfErr result (λ fault. slot_to_rename (directory_of self.old) slot new.now ≡ Err fault) }
         ensures unchanged { OnErr result (self.new ≡ self.old) }
     {
         let slot = self.slot_to_rename(slot, new)?;
@@ -566,7 +566,7 @@ impl Volume {
         ensures stay { OnOk result (FilesStay self.old self.new) }
         ensures rest { IfSome slot
             (λ slot. ChangesOnly (and_second (directory_of self.old) (kind_span slot ∷ [])) self.old self.new) }
-        ensures refused { IfErr result (λ fault. (fault ≡ VolumeFault.NoFile) × (slot ≡ None)) }
+        ensures refusal { IfErr result (λ fault. (fault ≡ VolumeFault.NoFile) × (slot ≡ None)) }
         ensures unchanged { OnErr result (self.new ≡ self.old) }
     {
         let _ = &self.bytes;

@@ -1,16 +1,16 @@
-//! The addresses that every machine has.
+//! Fixed addresses of the memory.
 
-/// Where the stack ends: SP where nothing stands on it, and the SP that the frame of the system keeps.
+/// The end of the stack: SP if the stack is empty, and the SP that the system's frame saves.
 pub const STACK_END: u16 = 65_504;
 
-/// The highest word that the stack may hold, and the highest in which a segment may end.
+/// The address of the highest word that the stack can hold. A segment cannot end above it.
 pub const HIGHEST_WORD: u16 = 65_502;
 
-/// The frame of the system, where every chain of frames ends.
+/// The address of the system's frame, which ends every chain of frames.
 pub const SYSTEM_FRAME: u16 = 65_492;
 
-/// Where the heap begins, and bare code.
+/// The address at which the heap, or bare code, begins.
 pub const HEAP: u16 = 1024;
 
-/// The most bytes of bare code, and of a segment that is assembled.
+/// The maximum length in bytes of bare code, and of a segment that is assembled.
 pub const LONGEST_CODE: usize = 60_000;

@@ -1,4 +1,4 @@
-//! The memory of the p-machine, the execution errors, and the steps of a row on the stack.
+//! The memory of the p-machine, the execution errors, and the stack operations of which instruction rules consist.
 #![tactic(auto)]
 
 mod error;

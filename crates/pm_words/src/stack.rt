@@ -1,5 +1,5 @@
-//! The steps of which a row on the stack is made. The stack grows down: SP is the address of the
-//! word on its top, and NP, the top of the heap, bounds it below.
+//! The stack operations of which instruction rules consist. The stack grows down: SP is the address of the word on top
+//! of it. SP is never below NP, the top of the heap.
 
 ghost use Rattle.std.specs.Prelude.{◌≡◌, ℕ, IfOk};
 ghost use Rattle.pm_words.specs.Stack.{Changes, IsStack, Writes, load, pop, push, store};
@@ -7,7 +7,11 @@ ghost use Rattle.pm_words.specs.Stack.{Changes, IsStack, Writes, load, pop, push
 use crate::layout::HIGHEST_WORD;
 use crate::{ExecError, Memory};
 
-/// The word at an address; `InvalidMemory` where that is odd.
+/// Returns the word at `address`.
+///
+/// # Errors
+///
+/// `InvalidMemory`: the address is odd.
 #[inline(always)]
 pub fn load(memory: &Memory, address: u16) -> Result<u16, ExecError>
     ensures word { result ≡ load memory.now.words address }
@@ -15,7 +19,11 @@ pub fn load(memory: &Memory, address: u16) -> Result<u16, ExecError>
     memory.word(address).ok_or(ExecError::InvalidMemory)
 }
 
-/// Writes a word at an address; `InvalidMemory`, and nothing changed, where that is odd.
+/// Writes `word` at `address`.
+///
+/// # Errors
+///
+/// `InvalidMemory`: the address is odd. Nothing changes.
 #[inline(always)]
 pub fn store(memory: &mut Memory, address: u16, word: u16) -> Result<(), ExecError>
     ensures stored { Writes result memory.old memory.new (store memory.old.words address word) }
@@ -32,11 +40,15 @@ pub fn store(memory: &mut Memory, address: u16, word: u16) -> Result<(), ExecErr
 pub struct Popped {
     /// The word that was on the top of the stack.
     pub word: u16,
-    /// The SP above it.
+    /// SP after the pop.
     pub above: u16,
 }
 
-/// The word on the stack, and the SP above it; `InvalidMemory` where that would pass 65,504.
+/// Returns the word on top of the stack, and SP after the pop.
+///
+/// # Errors
+///
+/// `InvalidMemory`: SP would be above 65,504, or is odd.
 #[inline(always)]
 pub fn pop(memory: &Memory, sp: u16) -> Result<Popped, ExecError>
     ensures row { result ≡ pop memory.now.words sp }
@@ -52,8 +64,13 @@ pub fn pop(memory: &Memory, sp: u16) -> Result<Popped, ExecError>
     })
 }
 
-/// Puts a word on the stack, and gives the new SP; `StackOverflow`, and nothing changed, where that
-/// would be below NP.
+/// Pushes `word` and returns the new SP.
+///
+/// # Errors
+///
+/// Nothing changes. Checked in this order:
+/// - `StackOverflow`: SP would be below NP.
+/// - `InvalidMemory`: SP is odd.
 #[inline(always)]
 pub fn push(memory: &mut Memory, sp: u16, np: u16, word: u16) -> Result<u16, ExecError>
     ensures row { Changes result memory.old memory.new (push memory.old.words sp np word) }

@@ -23,7 +23,7 @@ pub struct Segment {
 pub fn set_byte(bytes: &mut Vec<u8>, place: usize, value: u8) -> io::Result<()>
     ensures there { OnOk result (place < length bytes.old.items) }
     ensures set { OnOk result (bytes.new.items ≡ set bytes.old.items place value) }
-    ensures refused { OnErr result (bytes.new ≡ bytes.old) }
+    ensures unchanged { OnErr result (bytes.new ≡ bytes.old) }
 {
     if place >= bytes.len() {
         return Err(unreadable());

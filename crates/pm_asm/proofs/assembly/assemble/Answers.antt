@@ -10,7 +10,7 @@ use Rattle.pm_asm.proofs.assembly.assemble.Goals as goal
 pub returns-in_err-program-clause-unspelled : goal.returns-in_err-program-clause-unspelled
 returns-in_err-program-clause-unspelled c =
     let p = err_from_is_err_and c.from_residual.result c.from_residual.ensures.1 in
-    rw (p.1, p.2) (λ other. refused_spells_nothing c.args.text.now c.in_err-program.field-0.0 (c.in_err-program.ensures.refused other))
+    rw (p.1, p.2) (λ other. refused_spells_nothing c.args.text.now c.in_err-program.field-0.0 (c.in_err-program.ensures.refusal other))
 
 pub code_file-requires-clause-program : goal.code_file-requires-clause-program
 code_file-requires-clause-program c =

@@ -12,17 +12,17 @@ use Rattle.pm_asm.proofs.Ordered.{found_ascending}
 use Rattle.pm_asm.proofs.Stages.{IsReady, label_refused, line_refused, program_found, ready_faultless, too_long_refused}
 use Rattle.pm_asm.proofs.assembly.program_of.Goals as goal
 
-pub returns-in_err-segments-clause-refused : goal.returns-in_err-segments-clause-refused
-returns-in_err-segments-clause-refused c =
+pub returns-in_err-segments-clause-refusal : goal.returns-in_err-segments-clause-refusal
+returns-in_err-segments-clause-refusal c =
     let p = err_from_is_err_and c.from_residual.result c.from_residual.ensures.1 in
-    rw (p.1, p.2) (λ other. line_refused c.args.text.now c.in_err-segments.field-0.0 c.in_err-segments.ensures.fault other)
+    rw (p.1, p.2) (λ other. line_refused c.args.text.now c.in_err-segments.field-0.0 c.in_err-segments.ensures.refusal other)
 
-pub returns-in_err-found-clause-refused : goal.returns-in_err-found-clause-refused
-returns-in_err-found-clause-refused c =
+pub returns-in_err-found-clause-refusal : goal.returns-in_err-found-clause-refusal
+returns-in_err-found-clause-refusal c =
     let p = err_from_is_err_and c.from_residual-in_err-found.result c.from_residual-in_err-found.ensures.1 in
     let read = ap labelled_segments c.deref.ensures.value ∙ c.in_ok-segments.ensures.read in
     rw (p.1, p.2) (λ other. label_refused c.args.text.now (labelled_segments c.deref.result.now) c.in_err-found.field-0.0
-    c.in_ok-segments.ensures.faultless read c.in_err-found.ensures.fault other)
+    c.in_ok-segments.ensures.faultless read c.in_err-found.ensures.refusal other)
 
 pub check_lengths-requires : goal.check_lengths-requires
 check_lengths-requires c =
@@ -31,8 +31,8 @@ check_lengths-requires c =
     let same = ap program_seen c.deref-2.ensures.value ∙ ordered ∙ ap (by_number 0 16) c.in_ok-found.ensures.found ∙ found_ascending ss in
     record { follow = subst (λ ts. AllByRecursion (λ s. FollowFrom 0 s.procedures) ts) (sym same) (all_follow (ascending ss)) }
 
-pub returns-in_err-check_lengths-clause-refused : goal.returns-in_err-check_lengths-clause-refused
-returns-in_err-check_lengths-clause-refused c =
+pub returns-in_err-check_lengths-clause-refusal : goal.returns-in_err-check_lengths-clause-refusal
+returns-in_err-check_lengths-clause-refusal c =
     let p = err_from_is_err_and c.from_residual-in_err-check_lengths.result c.from_residual-in_err-check_lengths.ensures.1 in
     let text = c.args.text.now in
     let ss = labelled_segments c.deref.result.now in
@@ -43,7 +43,7 @@ returns-in_err-check_lengths-clause-refused c =
     let same = program_found text ss (program_seen c.in_ok-found.found.items) (program_seen c.deref-2.result.now) read c.in_ok-found.ensures.found
     (ap program_seen c.deref-2.ensures.value ∙ ordered) in
     rw (p.1, p.2) (λ other. too_long_refused text ss (program_seen c.deref-2.result.now) c.in_err-check_lengths.field-0.0 ready same
-    c.in_err-check_lengths.ensures.fault other)
+    c.in_err-check_lengths.ensures.refusal other)
 
 pub returns-clause-program : goal.returns-clause-program
 returns-clause-program c =

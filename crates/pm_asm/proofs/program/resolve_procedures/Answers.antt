@@ -16,8 +16,8 @@ first_left : (fault : AsmFault) (at i : ℕ) (ps : List LabelledProcedure) (p : 
 first_left fault at i ps p whole l e w h =
     rw (← w, drop-cons ps i p, ← e) (procedure_first fault at (labelled_procedure p) (map labelled_procedure (drop (suc i) ps)) h)
 
-pub returns-in_err-one-clause-fault : goal.returns-in_err-one-clause-fault
-returns-in_err-one-clause-fault c =
+pub returns-in_err-one-clause-refusal : goal.returns-in_err-one-clause-refusal
+returns-in_err-one-clause-refusal c =
     let p = err_from_is_err_and c.from_residual.result c.from_residual.ensures.1 in
     rw (p.1, p.2) (λ known. first_left _ c.loop-procedure.at c.loop-procedure.procedure-index c.args.procedures.now c.procedure-item.result _
-    (omega arith) c.procedure-item.is c.loop-procedure.invariant.faults (c.in_err-one.ensures.fault known))
+    (omega arith) c.procedure-item.is c.loop-procedure.invariant.faults (c.in_err-one.ensures.refusal known))

@@ -31,8 +31,8 @@ returns-then-is_last-clause-watch c = WatchStays-trans _ _ _ c.loop-count.invari
 pub returns-clause-watch : goal.returns-clause-watch
 returns-clause-watch c = c.loop-count.invariant.watch
 
-pub returns-in_err-is_last-clause-stopped : goal.returns-in_err-is_last-clause-stopped
-returns-in_err-is_last-clause-stopped c =
+pub returns-in_err-is_last-clause-refusal : goal.returns-in_err-is_last-clause-refusal
+returns-in_err-is_last-clause-refusal c =
     let p = err_from_is_err_and c.from_residual.result c.from_residual.ensures.1 in
     rw (p.1, p.2) (walked-fails _ _ _ _ _ (omega arith) c.loop-count.invariant.passed
     (rw (← c.loop-count.invariant.frame) (sym c.in_err-is_last.ensures.met)))
@@ -44,5 +44,5 @@ returns-then-is_last-clause-walked c =
     walked-there _ _ _ _ (omega arith) c.loop-count.invariant.passed here
     ∙ rw (with_exits-more _ _ _ _ c.loop-count.invariant.frame, ← c.loop-count.invariant.written) (rw c.leave.ensures.written refl)
 
-pub returns-clause-stopped : goal.returns-clause-stopped
-returns-clause-stopped c = walked-round _ _ _ _ (omega arith) c.loop-count.invariant.passed
+pub returns-clause-refusal : goal.returns-clause-refusal
+returns-clause-refusal c = walked-round _ _ _ _ (omega arith) c.loop-count.invariant.passed

@@ -21,10 +21,10 @@ pub returns-clause-saved : goal.returns-clause-saved
 returns-clause-saved c =
     sym c.loop-file.invariant.rest ∙ saved-done c.args.image.now c.args.taken.now c.args.count c.args.taken.now c.loop-file.file-index _ (omega arith)
 
-pub returns-in_err-save-clause-refused : goal.returns-in_err-save-clause-refused
-returns-in_err-save-clause-refused c =
+pub returns-in_err-save-clause-refusal : goal.returns-in_err-save-clause-refusal
+returns-in_err-save-clause-refusal c =
     let p = err_from_is_err_and c.from_residual.result c.from_residual.ensures.1 in
     rw (p.1, p.2)
     (λ other. sym c.loop-file.invariant.rest
     ∙ saved-fault c.args.image.now c.args.taken.now c.args.count c.args.taken.now c.loop-file.file-index _ no_file _ (omega arith)
-    (c.in_err-save.ensures.refused other))
+    (c.in_err-save.ensures.refusal other))

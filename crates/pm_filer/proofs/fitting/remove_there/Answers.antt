@@ -7,4 +7,4 @@ returns-in-Ok-clause-removed c = rw (made-slot_removed _ _ _ c.in-Ok.ensures.rem
 
 pub returns-in-Err-clause-removed : goal.returns-in-Err-clause-removed
 returns-in-Err-clause-removed c =
-    rw (c.in-Err.ensures.unchanged, made-slot_unremoved _ _ (c.in-Err.ensures.refused.1)) refl
+    rw (c.in-Err.ensures.unchanged, made-slot_unremoved _ _ (c.in-Err.ensures.refusal.1)) refl

@@ -5,8 +5,8 @@ use Rattle.pm_filer.proofs.system_disk.exchange.Goals as goal
 pub returns-clause-done : goal.returns-clause-done
 returns-clause-done c = rw (made-removed _ _ _ c.in_ok-remove.ensures.removed) c.put_code.ensures.done
 
-pub returns-clause-refused : goal.returns-clause-refused
-returns-clause-refused c = rw (made-removed _ _ _ c.in_ok-remove.ensures.removed) c.put_code.ensures.refused
+pub returns-clause-refusal : goal.returns-clause-refusal
+returns-clause-refusal c = rw (made-removed _ _ _ c.in_ok-remove.ensures.removed) c.put_code.ensures.refusal
 
 pub returns-clause-stay : goal.returns-clause-stay
 returns-clause-stay c = where_ok c.put_code.result

@@ -11,7 +11,7 @@ returns-in_err-save_at-2-clause-front g c =
     c.index-images-4.result c.type_inv.images in
     let r = c.from_residual-in_err-save_at-2 in
     let p = err_from_is_err_and r.result r.ensures.1 in
-    rw (p.1, paths, images) (inr (_, c.in_ok-save_at.ensures.saved, inl c.in_err-save_at-2.ensures.stays))
+    rw (p.1, paths, images) (inr (_, c.in_ok-save_at.ensures.saved, inl c.in_err-save_at-2.ensures.unchanged))
 
 pub returns-in_err-save_at-3-clause-front : goal.returns-in_err-save_at-3-clause-front
 returns-in_err-save_at-3-clause-front g c =
@@ -21,7 +21,7 @@ returns-in_err-save_at-3-clause-front g c =
     c.index-images-4.result c.type_inv.images in
     let r = c.from_residual-in_err-save_at-3 in
     let p = err_from_is_err_and r.result r.ensures.1 in
-    rw (p.1, paths, images) (inr (_, c.in_ok-save_at.ensures.saved, inr (_, c.in_ok-save_at-2.ensures.saved, inl c.in_err-save_at-3.ensures.stays)))
+    rw (p.1, paths, images) (inr (_, c.in_ok-save_at.ensures.saved, inr (_, c.in_ok-save_at-2.ensures.saved, inl c.in_err-save_at-3.ensures.unchanged)))
 
 pub returns-in_err-save_at-4-clause-front : goal.returns-in_err-save_at-4-clause-front
 returns-in_err-save_at-4-clause-front g c =
@@ -37,7 +37,7 @@ returns-in_err-save_at-4-clause-front g c =
       inr (
         _,
         c.in_ok-save_at-2.ensures.saved,
-        inr (_, c.in_ok-save_at-3.ensures.saved, inl c.in_err-save_at-4.ensures.stays),
+        inr (_, c.in_ok-save_at-3.ensures.saved, inl c.in_err-save_at-4.ensures.unchanged),
       ),
     ))
 
@@ -78,4 +78,4 @@ returns-clause-front g c =
         inr (_, c.in_ok-save_at-3.ensures.saved, inr (_, c.in_ok-save_at-4.ensures.saved, inl stays)),
       ),
     )))
-    c.save_at-5.ensures.stays
+    c.save_at-5.ensures.unchanged

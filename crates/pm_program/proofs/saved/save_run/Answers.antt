@@ -7,4 +7,4 @@ returns-clause-saved g c = where_ok c.save_printer.result (λ prints. (_, c.in_o
 
 pub returns-clause-front : goal.returns-clause-front
 returns-clause-front g c = where_err c.save_printer.result (printer_front _ _ _ _ _ c.in_ok-save_images.ensures.saved)
-    c.save_printer.ensures.stays
+    c.save_printer.ensures.unchanged

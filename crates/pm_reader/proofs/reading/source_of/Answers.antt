@@ -37,8 +37,8 @@ loop-part-preserved c =
       said = said_behind texts n part _ _ _ here taken c.loop-part.invariant.said;
     }
 
-pub returns-in_err-read_line-clause-fault : goal.returns-in_err-read_line-clause-fault
-returns-in_err-read_line-clause-fault c =
+pub returns-in_err-read_line-clause-refusal : goal.returns-in_err-read_line-clause-refusal
+returns-in_err-read_line-clause-refusal c =
     let texts = lines c.args.text.now in
     let n = c.loop-part.number in
     let part = c.in-Some.part.now in
@@ -51,7 +51,7 @@ returns-in_err-read_line-clause-fault c =
     let same = c.as_bytes.ensures.value in
     let first : IsFirstOf c.in_err-read_line.field-0.0 (line_faults (n + 1) before (line_of (n + 1) part) (seen_from (n + 1) texts)) =
     subst (λ t. IsFirstOf c.in_err-read_line.field-0.0 (line_faults (n + 1) before (line_of (n + 1) t) (seen_from (n + 1) texts))) same
-    (c.in_err-read_line.ensures.fault _ (later texts (n + 1) _ last)) in
+    (c.in_err-read_line.ensures.refusal _ (later texts (n + 1) _ last)) in
     let p = err_from_is_err_and c.from_residual.result c.from_residual.ensures.1 in
     rw (p.1, p.2) (first_fault texts n part _ _ _ here first c.loop-part.invariant.faults)
 

@@ -60,13 +60,13 @@ returns-clause-exact c = pages_laid c
 pub returns-clause-file : goal.returns-clause-file
 returns-clause-file c = Writes-from_laid _ _ (no_fault c) (pages_laid c)
 
-pub returns-in_err-check_line-clause-fault : goal.returns-in_err-check_line-clause-fault
-returns-in_err-check_line-clause-fault c =
+pub returns-in_err-check_line-clause-refusal : goal.returns-in_err-check_line-clause-refusal
+returns-in_err-check_line-clause-refusal c =
     let p = err_from_is_err_and c.from_residual-in_err-check_line.result c.from_residual-in_err-check_line.ensures.1 in
     let start = c.loop-start.start in
     let long = c.line_length.ensures.length ∙ ap line_length (take_rest c.args.text.now start) in
     rw (p.1, p.2) (λ _. fault_of_line c.args.text.now start c.loop-start.number c.line_length.result _ (omega arith) long
-    c.loop-start.invariant.faults c.in_err-check_line.ensures.fault)
+    c.loop-start.invariant.faults c.in_err-check_line.ensures.refusal)
 
 pub returns-in_err-check_line-clause-first : goal.returns-in_err-check_line-clause-first
 returns-in_err-check_line-clause-first c =
@@ -74,7 +74,7 @@ returns-in_err-check_line-clause-first c =
     let start = c.loop-start.start in
     let long = c.line_length.ensures.length ∙ ap line_length (take_rest c.args.text.now start) in
     rw (p.1, p.2) (λ _. first-from_fault c.args.text.now _ (fault_of_line c.args.text.now start c.loop-start.number c.line_length.result _ (omega arith) long
-    c.loop-start.invariant.faults c.in_err-check_line.ensures.fault))
+    c.loop-start.invariant.faults c.in_err-check_line.ensures.refusal))
 
 pub returns-clause-reads_back : goal.returns-clause-reads_back
 returns-clause-reads_back c = text_of-written _ _ (Writes-from_laid _ _ (no_fault c) (pages_laid c))

@@ -18,7 +18,7 @@ pub returns-in_err-byte-clause-cut : goal.returns-in_err-byte-clause-cut
 returns-in_err-byte-clause-cut g c =
     let p = err_from_is_err_and c.from_residual.result c.from_residual.ensures.1 in
     rw (p.1, p.2) (cut_taking _ _ (g.R.Source.seen c.next_byte.new.source) _ _ _ _ c.bytes.invariant.talking c.in_err-byte.ensures.none
-    _ c.in_err-byte.ensures.fault c.bytes.invariant.sink_well)
+    _ c.in_err-byte.ensures.refusal c.bytes.invariant.sink_well)
 
 pub returns-in_err-turn-clause-cut : goal.returns-in_err-turn-clause-cut
 returns-in_err-turn-clause-cut g c =

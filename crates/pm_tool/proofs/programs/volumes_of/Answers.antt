@@ -17,16 +17,16 @@ opening-init c =
       size = refl;
     }
 
-pub returns-in_err-volumes-clause-fault : goal.returns-in_err-volumes-clause-fault
-returns-in_err-volumes-clause-fault c =
+pub returns-in_err-volumes-clause-refusal : goal.returns-in_err-volumes-clause-refusal
+returns-in_err-volumes-clause-refusal c =
     let p = err_from_is_err_and c.from_residual.result c.from_residual.ensures.1 in
-    rw (p.1, p.2) (fault_here _ _ c.in-Some.image c.in-Some.ensures.steps _ _ c.opening.invariant.sound c.in_err-volumes.ensures.fault)
+    rw (p.1, p.2) (fault_here _ _ c.in-Some.image c.in-Some.ensures.steps _ _ c.opening.invariant.sound c.in_err-volumes.ensures.refusal)
 
 pub returns-in_err-volumes-clause-place : goal.returns-in_err-volumes-clause-place
 returns-in_err-volumes-clause-place c =
     let p = err_from_is_err_and c.from_residual.result c.from_residual.ensures.1 in
     rw (p.1, p.2) (place_here _ _ c.in-Some.image c.in-Some.ensures.steps _ c.opening.place _ c.opening.invariant.bad
-    c.in_err-volumes.ensures.fault ∙ ap Some (sym c.in_err-volumes.ensures.place))
+    c.in_err-volumes.ensures.refusal ∙ ap Some (sym c.in_err-volumes.ensures.place))
 
 pub offset_bounds-volumes-place : goal.offset_bounds-volumes-place
 offset_bounds-volumes-place c =

@@ -77,7 +77,7 @@ returns-in_err-byte-in-Waiting-clause-broken g c =
     (under_way_cleared _ _ _ _ _ _ _ _ _
     (under_way_waited _ _ _ _ _ _ _ _ _ c.steps.invariant.under_way c.step.new.page.items c.step.new.machine.state (omega arith) (search rules))
     _ _ c.in_ok-write_page-in-Waiting.ensures.written c.in_ok-write_page-in-Waiting.ensures.cleared)
-    c.in_err-byte-in-Waiting.ensures.none _ c.in_err-byte-in-Waiting.ensures.fault c.in_ok-write_page-in-Waiting.ensures.well
+    c.in_err-byte-in-Waiting.ensures.none _ c.in_err-byte-in-Waiting.ensures.refusal c.in_ok-write_page-in-Waiting.ensures.well
     c.in_ok-write_page-in-Waiting.ensures.cleared c.step.new.machine.state (omega arith) (search rules))
 
 pub returns-in_default-clause-over : goal.returns-in_default-clause-over

@@ -41,9 +41,9 @@ returns-clause-agrees c = λ h.
           record { bases = m.bases; kept = m.kept; watched = m.watched };
     }
 
-pub returns-in-Err-clause-refused : goal.returns-in-Err-clause-refused
+pub returns-in-Err-clause-unchanged : goal.returns-in-Err-clause-unchanged
 unfolding bytes_at
-returns-in-Err-clause-refused c =
+returns-in-Err-clause-unchanged c =
     let m = c.args.memory.now.words in
     let code = c.args.code.now in
     let sp = c.registers-old.result.sp in
@@ -59,8 +59,8 @@ returns-in-Err-clause-refused c =
     = rw (c.bytes-in-Err.ensures.contents, c.put_code.ensures.written, c.from-end.ensures, count) refl in
     let stays = below_put_back m c.args.scratch.now.words code kept back sp c.bytes.ensures.memory c.put_code.ensures.memory bytes fits
     (omega (arith, below)) kept_is back_is in (
-      rw (c.put_code-in-Err.ensures.written, c.in-Err.ensures.refused.0, c.put_code-2.ensures.written) stays,
-      c.in-Err.ensures.refused.1,
+      rw (c.put_code-in-Err.ensures.written, c.in-Err.ensures.unchanged.0, c.put_code-2.ensures.written) stays,
+      c.in-Err.ensures.unchanged.1,
       c.enter.ensures.places,
     )
 
@@ -69,7 +69,7 @@ returns-in-Err-clause-done c = λ h.
     let entered = c.in-Err.ensures.entered (Agrees-keeps _ _ _ _ c.put_code-2.ensures.watch h) in
     let some : 0 < length c.args.code.now = search rules in
     let room : c.args.registers.now.np + length c.args.code.now ≤ c.args.registers.now.sp = search rules in
-    let back = returns-in-Err-clause-refused c in (
+    let back = returns-in-Err-clause-unchanged c in (
       called_loading-refused _ _ _ _ _ some room
           (rw (c.put_code-2.ensures.written, c.registers-old.ensures.registers) at entered),
       rw (back.0, back.1, back.2) refl,

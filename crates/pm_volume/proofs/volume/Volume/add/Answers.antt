@@ -77,8 +77,8 @@ returns-clause-added c =
           ((Changed-added c.args.self.now c.args.name.now c.args.bytes.now c.args.kind c.args.date c.in_ok-gap.gap c.place.ensures.volume p fit).files);
     }
 
-pub returns-in_err-gap-clause-refused : goal.returns-in_err-gap-clause-refused
-returns-in_err-gap-clause-refused c =
+pub returns-in_err-gap-clause-refusal : goal.returns-in_err-gap-clause-refusal
+returns-in_err-gap-clause-refusal c =
     let p = err_from_is_err_and c.from_residual.result c.from_residual.ensures.1 in
     rw (p.1, p.2) (
     let placed = rw c.blocks_for-need.ensures.count at c.place.ensures.placed in

@@ -222,7 +222,7 @@ for first, path in FAULTS:
     for number, text in re.findall(r'/// (\d+): [^#]*?#\[error\("(.*)"\)\]', "\n".join(lines("crates/%s.rt" % path))):
         said = told.get(str(first + int(number)))
         text = re.sub(r"^(entry) \{0\}", r"an \1", text)
-        text = re.sub(r"(?:the )?\b(line|segment|slot|byte)( at)? \{0\}", r"the \1", text)
+        text = re.sub(r"(?:the )?\b(line|segment|slot|byte)( at position)? \{0\}", r"the \1", text)
         if said is not None and said.rstrip('",') != text:
             tell("sentence", "%d says %s where crates/%s.rt says %s" % (first + int(number), said, path, text))
 

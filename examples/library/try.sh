@@ -64,7 +64,7 @@ cat >"$made/wanted" <<'END'
 00000001 01025 65490 65492 65492 01028 00002 SLDC 3
 00000002 01026 65488 65492 65492 01028 00003 ADI
 00000003 01027 65490 65492 65492 01028 00005 XIT
-2: the program has come to its end, or the job is refused
+2: the program has ended, or the job is refused
 END
 $cc -std=c99 -Wall -Wextra -Werror -I"$here" "$here/first.c" "$LIBPM_C" "$heap" -o "$made/first"
 "$made/first" >"$made/said"
@@ -101,7 +101,7 @@ break 1
 8 the handle has no machine
 404 an entry of the directory is damaged
 502 not set
-602 the line has an unknown mnemonic, directive or type word
+602 the line has an unknown mnemonic, directive or type keyword
 1 14 b''
 2 b'refused filer 1 11'
 END

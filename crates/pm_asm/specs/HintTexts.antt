@@ -32,33 +32,33 @@ example forms.Jumps = codes "1, 2, OTHER, ONE, TWO"
 abbrev pub form_text : Form → List ℕ
 form_text forms.Plain = codes "no operand"
 form_text forms.Unassigned = codes "no operand"
-form_text forms.Ub = codes "a number, 0 to 255"
-form_text forms.Db = codes "a number, 0 to 255"
-form_text forms.B = codes "a number, 0 to 32767"
-form_text forms.UbUb = codes "two numbers, 0 to 255, with a comma between"
-form_text forms.UbB = codes "a number, 0 to 255, a comma, and a number, 0 to 32767"
-form_text forms.DbB = codes "a number, 0 to 255, a comma, and a number, 0 to 32767"
-form_text forms.W = codes "a number, -32768 to 65535"
-form_text forms.Words = codes "up to 255 numbers, -32768 to 65535, with commas between"
+form_text forms.Ub = codes "a number from 0 to 255"
+form_text forms.Db = codes "a number from 0 to 255"
+form_text forms.B = codes "a number from 0 to 32767"
+form_text forms.UbUb = codes "two numbers from 0 to 255, separated by a comma"
+form_text forms.UbB = codes "a number from 0 to 255, a comma, and a number from 0 to 32767"
+form_text forms.DbB = codes "a number from 0 to 255, a comma, and a number from 0 to 32767"
+form_text forms.W = codes "a number from -32768 to 65535"
+form_text forms.Words = codes "up to 255 numbers from -32768 to 65535, separated by commas"
 form_text forms.Chars = codes "a text of up to 255 bytes between double quotes"
-form_text forms.Typed = codes "REAL, STR, BOOL, SET, BYTES n or WORDS n, n being 0 to 32767"
-form_text forms.Sb = codes "a label, or ^k for the k-th line of .JUMP, counted from 0 to 59"
+form_text forms.Typed = codes "REAL, STR, BOOL, SET, BYTES n or WORDS n (n from 0 to 32767)"
+form_text forms.Sb = codes "a label, or ^k for the k-th .JUMP line (k from 0 to 59)"
 form_text forms.Jumps =
-    codes "two numbers, -32768 to 32767, a label, and a label for each number from the one to the other"
+    codes "two numbers from -32768 to 32767, a label for all others, and one for each from the first to the second"
 
 -- an example, behind what it is one of
 abbrev pub example_text : List ℕ → Form → List ℕ
 example_text name forms.Plain = []
 example_text name forms.Unassigned = []
-example_text name form = codes ", as " ++ name ++ 32 ∷ example form
+example_text name form = codes ", for example " ++ name ++ 32 ∷ example form
 
 -- what an instruction takes whose number stands in the opcode, the first of its name
 unfoldable pub range_text : ℕ → List ℕ
 range_text op =
-    if op == 0 then codes "SLDC takes a number, 0 to 127; LDCI takes more"
-    else if op == 216 then codes "SLDL takes a number, 1 to 16; LDL takes more"
-    else if op == 232 then codes "SLDO takes a number, 1 to 16; LDO takes more"
-    else codes "SIND takes a number, 0 to 7; IND takes more"
+    if op == 0 then codes "SLDC takes a number from 0 to 127; LDCI takes larger ones"
+    else if op == 216 then codes "SLDL takes a number from 1 to 16; LDL takes larger ones"
+    else if op == 232 then codes "SLDO takes a number from 1 to 16; LDO takes larger ones"
+    else codes "SIND takes a number from 0 to 7; IND takes larger ones"
 
 abbrev pub takes_by : ℕ → Option (ℕ × ℕ) → List ℕ
 takes_by op (Some range) = range_text op
@@ -81,62 +81,66 @@ keyword_text (Mnemonic op) = mnemonic_of op
 
 -- what stands behind a mnemonic or a directive
 abbrev pub taken_text : Keyword → List ℕ
-taken_text OfSegment = codes ".SEG takes a number, 0 to 15, and a name of 1 to 8 characters, as .SEG 1 HELLO"
+taken_text OfSegment =
+    codes ".SEG takes a number from 0 to 15 and a name of 1 to 8 characters, for example .SEG 1 HELLO"
 taken_text OfProcedure =
-    codes ".PROC takes its number, counted from 1 on in a segment, its level, -128 to 127, "
-    ++ codes "and the bytes of parameters and of locals, two a word, so both even, as .PROC 1 0 0 4"
-taken_text OfExit = codes ".EXIT takes nothing"
-taken_text OfJump = codes ".JUMP takes a label, as .JUMP L"
-taken_text OfEnd = codes ".END takes nothing"
-taken_text OfBytes = codes ".BYTE takes numbers, 0 to 255, with commas between, as .BYTE 1, 2"
+    codes ".PROC takes its number (counted from 1 in each segment), its level (from -128 to 127), "
+    ++ codes "and its bytes of parameters and of locals (two per word, so both even), for example .PROC 1 0 0 4"
+taken_text OfExit = codes ".EXIT takes no operand"
+taken_text OfJump = codes ".JUMP takes a label, for example .JUMP L"
+taken_text OfEnd = codes ".END takes no operand"
+taken_text OfBytes = codes ".BYTE takes numbers from 0 to 255, separated by commas, for example .BYTE 1, 2"
 taken_text (Mnemonic op) = takes_text op
 
 -- where a line stands
 abbrev pub stands_text : Keyword → List ℕ
-stands_text OfSegment = codes ".SEG stands outside procedures, so the one before it has to end by .END"
-stands_text OfProcedure = codes ".PROC stands behind a .SEG, outside other procedures, and a later line is its .END"
-stands_text OfExit = codes ".EXIT stands in a procedure, before its first .JUMP"
-stands_text OfJump = codes ".JUMP stands in a procedure, before its .END"
-stands_text OfEnd = codes ".END stands at the end of a procedure, and behind its .EXIT, which every procedure has"
+stands_text OfSegment = codes ".SEG must be outside procedures, so the procedure before it needs an .END"
+stands_text OfProcedure =
+    codes ".PROC must be after a .SEG, outside other procedures, and needs an .END on a later line"
+stands_text OfExit = codes ".EXIT must be in a procedure, before its first .JUMP"
+stands_text OfJump = codes ".JUMP must be in a procedure, before its .END"
+stands_text OfEnd = codes ".END must be at the end of a procedure, after its .EXIT, which every procedure needs"
 stands_text OfBytes =
-    codes "instructions, .BYTE and labels stand in a procedure, behind .PROC and before its first .JUMP"
+    codes "instructions, .BYTE and labels must be in a procedure, after .PROC and before its first .JUMP"
 stands_text (Mnemonic op) =
-    codes "instructions, .BYTE and labels stand in a procedure, behind .PROC and before its first .JUMP"
+    codes "instructions, .BYTE and labels must be in a procedure, after .PROC and before its first .JUMP"
 
 -- what stands once
 abbrev pub once_text : Keyword → List ℕ
-once_text OfSegment = codes "a segment of that number is there already"
-once_text OfExit = codes ".EXIT stands once in a procedure, not again"
-once_text _ = codes "a label stands once in a procedure, not again"
+once_text OfSegment = codes "the text has a segment of that number already"
+once_text OfExit = codes ".EXIT cannot be used again in the same procedure"
+once_text _ = codes "the label cannot be defined again in the same procedure"
 
 -- what a line is told that names neither operands nor another word
 abbrev pub fixed_text : Hint → List ℕ
-fixed_text Characters = codes "a text has tabs and the characters 32 to 126, and no others"
-fixed_text Labels = codes "a label is a letter or _, then letters, digits and _, at most 32, and a colon"
-fixed_text BeforeLabelled = codes "a label stands before an instruction or .BYTE, or alone on its line"
+fixed_text Characters =
+    codes "a text can contain only tabs and the characters 32 to 126; a file with others may be binary"
+fixed_text Labels = codes "a label is a letter or _, then letters, digits and _ (at most 32 characters), and a colon"
+fixed_text BeforeLabelled = codes "a label must be before an instruction or .BYTE, or on a line of its own"
 fixed_text (Stands keyword) = stands_text keyword
 fixed_text Words =
-    codes "no mnemonic or directive is like it; a label has a colon behind it, a comment ; in front"
-fixed_text Named = codes "the label stands at no line of this procedure; upper and lower case differ"
+    codes "no mnemonic or directive is similar; write a colon after a label, and ; before a comment"
+fixed_text Named = codes "no line of this procedure defines the label; labels are case-sensitive"
 fixed_text (Once keyword) = once_text keyword
 fixed_text _ = []
 
 -- how many `.JUMP` lines there are, and how many the code takes
 abbrev pub counts_text : ℕ → ℕ → List ℕ
-counts_text entries taken = decimal entries ++ codes "; its code takes " ++ decimal taken ++ codes ", from ^0 on"
+counts_text entries taken = decimal entries ++ codes "; its code uses " ++ decimal taken ++ codes ", from ^0 on"
 
 -- What a line is told, in words.
 unfoldable pub hint_text : Hint → List ℕ
 hint_text (Takes keyword) = taken_text keyword
 hint_text (Meant keyword) = codes "did you mean " ++ keyword_text keyword ++ codes "?"
-hint_text Ended = codes "either the code has an odd number of bytes, and one more NOP makes it even, "
-    ++ codes "or its .JUMP lines are not one for each entry, from ^0 to the greatest ^k"
+hint_text Ended =
+    codes "either the procedure has an odd number of bytes (add a NOP after its last instruction), "
+    ++ codes "or not one .JUMP line per entry, from ^0 to the last ^k"
 hint_text (Odd procedure bytes) = codes ".PROC " ++ decimal procedure ++ codes " has an odd number of bytes, "
-    ++ decimal bytes ++ codes ": a NOP before .END makes it even"
+    ++ decimal bytes ++ codes ": add a NOP after its last instruction, before any .JUMP, to make it even"
 hint_text (Counted procedure entries taken) =
     codes ".JUMP lines of .PROC " ++ decimal procedure ++ codes ": " ++ counts_text entries taken
 hint_text (Reached keyword) = keyword_text keyword ++ codes " reaches a label at most 127 bytes ahead; "
-    ++ codes "to go back or farther, write ^0 for the label, and a line .JUMP with the label before .END"
+    ++ codes "to jump back or farther, write ^0 for the label, and a line .JUMP with the label before .END"
 hint_text hint = fixed_text hint
 
 -- operands that are taken, with nothing wrong in them

@@ -28,8 +28,8 @@ pub record WorkedHints : Type 0 where
   pub segment : hint_of (Twice 3) (codes ".SEG 1 A") ≡ Some (Once OfSegment)
   pub jump : hint_of (Far 3) (codes "FJP L") ≡ Some (Reached (Mnemonic 161))
   pub bytes_told : hint_text (Takes (Mnemonic 205))
-      ≡ codes "CXP takes two numbers, 0 to 255, with a comma between, as CXP 2, 1"
-  pub range_told : hint_text (Takes (Mnemonic 216)) ≡ codes "SLDL takes a number, 1 to 16; LDL takes more"
+      ≡ codes "CXP takes two numbers from 0 to 255, separated by a comma, for example CXP 2, 1"
+  pub range_told : hint_text (Takes (Mnemonic 216)) ≡ codes "SLDL takes a number from 1 to 16; LDL takes larger ones"
   pub nothing_told : hint_text (Takes (Mnemonic 130)) ≡ codes "ADI takes no operand"
   pub name_told : hint_text (Meant (Mnemonic 130)) ≡ codes "did you mean ADI?"
   -- bytes that are odd are told before entries

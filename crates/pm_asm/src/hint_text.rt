@@ -36,17 +36,17 @@ fn form_text(form: Form) -> &'static str
 {
     match form {
         Form::Plain | Form::Unassigned => "no operand",
-        Form::Ub | Form::Db => "a number, 0 to 255",
-        Form::B => "a number, 0 to 32767",
-        Form::UbUb => "two numbers, 0 to 255, with a comma between",
-        Form::UbB | Form::DbB => "a number, 0 to 255, a comma, and a number, 0 to 32767",
-        Form::W => "a number, -32768 to 65535",
-        Form::Words => "up to 255 numbers, -32768 to 65535, with commas between",
+        Form::Ub | Form::Db => "a number from 0 to 255",
+        Form::B => "a number from 0 to 32767",
+        Form::UbUb => "two numbers from 0 to 255, separated by a comma",
+        Form::UbB | Form::DbB => "a number from 0 to 255, a comma, and a number from 0 to 32767",
+        Form::W => "a number from -32768 to 65535",
+        Form::Words => "up to 255 numbers from -32768 to 65535, separated by commas",
         Form::Chars => "a text of up to 255 bytes between double quotes",
-        Form::Typed => "REAL, STR, BOOL, SET, BYTES n or WORDS n, n being 0 to 32767",
-        Form::Sb => "a label, or ^k for the k-th line of .JUMP, counted from 0 to 59",
+        Form::Typed => "REAL, STR, BOOL, SET, BYTES n or WORDS n (n from 0 to 32767)",
+        Form::Sb => "a label, or ^k for the k-th .JUMP line (k from 0 to 59)",
         Form::Jumps =>
-            "two numbers, -32768 to 32767, a label, and a label for each number from the one to the other",
+            "two numbers from -32768 to 32767, a label for all others, and one for each from the first to the second",
     }
 }
 
@@ -56,10 +56,10 @@ fn range_text(op: u8) -> &'static str
     ensures text { result.now ≡ range_text op }
 {
     match op {
-        0 => "SLDC takes a number, 0 to 127; LDCI takes more",
-        216 => "SLDL takes a number, 1 to 16; LDL takes more",
-        232 => "SLDO takes a number, 1 to 16; LDO takes more",
-        _ => "SIND takes a number, 0 to 7; IND takes more",
+        0 => "SLDC takes a number from 0 to 127; LDCI takes larger ones",
+        216 => "SLDL takes a number from 1 to 16; LDL takes larger ones",
+        232 => "SLDO takes a number from 1 to 16; LDO takes larger ones",
+        _ => "SIND takes a number from 0 to 7; IND takes larger ones",
     }
 }
 
@@ -79,7 +79,7 @@ impl fmt::Display for ShownExample<'_> {
             form => {
                 let name = self.name;
                 let operands = example(form);
-                write!(f, ", as {name} {operands}")
+                write!(f, ", for example {name} {operands}")
             }
         }
     }
@@ -134,25 +134,25 @@ impl fmt::Display for Taken {
             Keyword::Segment => {
                 write!(
                     f,
-                    ".SEG takes a number, 0 to 15, and a name of 1 to 8 characters, as .SEG 1 HELLO"
+                    ".SEG takes a number from 0 to 15 and a name of 1 to 8 characters, for example .SEG 1 HELLO"
                 )
             }
             Keyword::Procedure => {
                 write!(
                     f,
-                    ".PROC takes its number, counted from 1 on in a segment, its level, -128 to 127, "
+                    ".PROC takes its number (counted from 1 in each segment), its level (from -128 to 127), "
                 )?;
                 write!(
                     f,
-                    "and the bytes of parameters and of locals, two a word, so both even, as .PROC 1 0 0 4"
+                    "and its bytes of parameters and of locals (two per word, so both even), for example .PROC 1 0 0 4"
                 )
             }
-            Keyword::Exit => write!(f, ".EXIT takes nothing"),
-            Keyword::Jump => write!(f, ".JUMP takes a label, as .JUMP L"),
-            Keyword::End => write!(f, ".END takes nothing"),
+            Keyword::Exit => write!(f, ".EXIT takes no operand"),
+            Keyword::Jump => write!(f, ".JUMP takes a label, for example .JUMP L"),
+            Keyword::End => write!(f, ".END takes no operand"),
             Keyword::Bytes => write!(
                 f,
-                ".BYTE takes numbers, 0 to 255, with commas between, as .BYTE 1, 2"
+                ".BYTE takes numbers from 0 to 255, separated by commas, for example .BYTE 1, 2"
             ),
             Keyword::Mnemonic(op) => write!(f, "{}", Operands(op)),
         }
@@ -165,15 +165,15 @@ fn stands_text(keyword: Keyword) -> &'static str
 {
     match keyword {
         Keyword::Segment =>
-            ".SEG stands outside procedures, so the one before it has to end by .END",
+            ".SEG must be outside procedures, so the procedure before it needs an .END",
         Keyword::Procedure =>
-            ".PROC stands behind a .SEG, outside other procedures, and a later line is its .END",
-        Keyword::Exit => ".EXIT stands in a procedure, before its first .JUMP",
-        Keyword::Jump => ".JUMP stands in a procedure, before its .END",
+            ".PROC must be after a .SEG, outside other procedures, and needs an .END on a later line",
+        Keyword::Exit => ".EXIT must be in a procedure, before its first .JUMP",
+        Keyword::Jump => ".JUMP must be in a procedure, before its .END",
         Keyword::End =>
-            ".END stands at the end of a procedure, and behind its .EXIT, which every procedure has",
+            ".END must be at the end of a procedure, after its .EXIT, which every procedure needs",
         Keyword::Bytes | Keyword::Mnemonic(_) => {
-            "instructions, .BYTE and labels stand in a procedure, behind .PROC and before its first .JUMP"
+            "instructions, .BYTE and labels must be in a procedure, after .PROC and before its first .JUMP"
         }
     }
 }
@@ -183,33 +183,34 @@ fn once_text(keyword: Keyword) -> &'static str
     ensures text { result.now ≡ once_text (keyword_seen keyword) }
 {
     match keyword {
-        Keyword::Segment => "a segment of that number is there already",
-        Keyword::Exit => ".EXIT stands once in a procedure, not again",
-        _ => "a label stands once in a procedure, not again",
+        Keyword::Segment => "the text has a segment of that number already",
+        Keyword::Exit => ".EXIT cannot be used again in the same procedure",
+        _ => "the label cannot be defined again in the same procedure",
     }
 }
 
 /// What reaches any label.
 const REACHING: &str =
-    "to go back or farther, write ^0 for the label, and a line .JUMP with the label before .END";
+    "to jump back or farther, write ^0 for the label, and a line .JUMP with the label before .END";
 
 /// What a line is told that names neither operands nor another word.
 fn fixed_text(hint: Hint) -> &'static str
     ensures text { result.now ≡ fixed_text (hint_seen hint) }
 {
     match hint {
-        Hint::Characters => "a text has tabs and the characters 32 to 126, and no others",
+        Hint::Characters =>
+            "a text can contain only tabs and the characters 32 to 126; a file with others may be binary",
         Hint::Labels => {
-            "a label is a letter or _, then letters, digits and _, at most 32, and a colon"
+            "a label is a letter or _, then letters, digits and _ (at most 32 characters), and a colon"
         }
         Hint::BeforeLabelled => {
-            "a label stands before an instruction or .BYTE, or alone on its line"
+            "a label must be before an instruction or .BYTE, or on a line of its own"
         }
         Hint::Stands(keyword) => stands_text(keyword),
         Hint::Words => {
-            "no mnemonic or directive is like it; a label has a colon behind it, a comment ; in front"
+            "no mnemonic or directive is similar; write a colon after a label, and ; before a comment"
         }
-        Hint::Named => "the label stands at no line of this procedure; upper and lower case differ",
+        Hint::Named => "no line of this procedure defines the label; labels are case-sensitive",
         Hint::Once(keyword) => once_text(keyword),
         _ => "",
     }
@@ -227,7 +228,7 @@ impl fmt::Display for ShownCounts {
 
     fn fmt<W: fmt::Write>(&self, f: &mut fmt::Formatter<W>) -> fmt::Result {
         let (entries, taken) = (self.entries, self.taken);
-        write!(f, "{entries}; its code takes {taken}, from ^0 on")
+        write!(f, "{entries}; its code uses {taken}, from ^0 on")
     }
 }
 
@@ -245,16 +246,16 @@ impl fmt::Display for Hint {
             Hint::Ended => {
                 write!(
                     f,
-                    "either the code has an odd number of bytes, and one more NOP makes it even, "
+                    "either the procedure has an odd number of bytes (add a NOP after its last instruction), "
                 )?;
-                write!(
-                    f,
-                    "or its .JUMP lines are not one for each entry, from ^0 to the greatest ^k"
-                )
+                write!(f, "or not one .JUMP line per entry, from ^0 to the last ^k")
             }
             Hint::Odd { procedure, bytes } => {
                 write!(f, ".PROC {procedure} has an odd number of bytes, ")?;
-                write!(f, "{bytes}: a NOP before .END makes it even")
+                write!(
+                    f,
+                    "{bytes}: add a NOP after its last instruction, before any .JUMP, to make it even"
+                )
             }
             Hint::Counted(procedure, entries, taken) => {
                 let counts = ShownCounts { entries, taken };

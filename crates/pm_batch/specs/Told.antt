@@ -16,11 +16,11 @@ is_behind_header _ = false
 -- which form it is, and what takes it
 abbrev pub form_sentence : Form → List ℕ
 form_sentence forms.Dos =
-    codes "the image has the form dos, its sectors in the order of DOS: --form dos takes it as it is"
+    codes "the image has the form dos (sectors in DOS order): add --form dos to the command"
 form_sentence forms.Swapped =
-    codes "the image has the form swapped, the bytes of each word: --form swapped takes it as it is"
+    codes "the image has the form swapped (the bytes of each word are swapped): add --form swapped to the command"
 form_sentence _ =
-    codes "a header is before the image's blocks: --form 2mg goes by it, examples/form.sh IMAGE NEW takes it away"
+    codes "the image has a header before its blocks: --form 2mg reads it, examples/form.sh IMAGE NEW removes it"
 
 -- what is told of a fault and of the form in which the image has a header, if there is one
 abbrev pub form_told : VolumeFault → Option Form → Option (List ℕ)

@@ -99,7 +99,7 @@ fn told_missing(
         Some(longer) => longer,
         None => longer_name(alloc, volume, name.as_str(), ".CODE")?,
     };
-    format!(in alloc; "no file of that name; {longer} is there").ok()
+    format!(in alloc; "no file of that name, but there is {longer}").ok()
 }
 
 /// Whether a fault is one behind a header that is that of a volume.
@@ -121,12 +121,12 @@ fn form_sentence(form: Form) -> &'static str
 {
     match form {
         Form::Dos =>
-            "the image has the form dos, its sectors in the order of DOS: --form dos takes it as it is",
+            "the image has the form dos (sectors in DOS order): add --form dos to the command",
         Form::Swapped => {
-            "the image has the form swapped, the bytes of each word: --form swapped takes it as it is"
+            "the image has the form swapped (the bytes of each word are swapped): add --form swapped to the command"
         }
         Form::FrontBlocks | Form::FrontDos | Form::FrontSwapped => {
-            "a header is before the image's blocks: --form 2mg goes by it, examples/form.sh IMAGE NEW takes it away"
+            "the image has a header before its blocks: --form 2mg reads it, examples/form.sh IMAGE NEW removes it"
         }
     }
 }
@@ -149,7 +149,7 @@ fn told_checked(alloc: Global, fault: VolumeFault, form: Option<Form>) -> Option
     match fault {
         VolumeFault::BadEntry(_) | VolumeFault::TooManyFiles | VolumeFault::PastEnd => {
             let help =
-                "files salvage NEW, with the same image, makes a volume NEW of the files whose entries make sense";
+                "'files salvage NEW', with the same image, copies the files with valid entries to the new volume NEW";
             String::from_str(alloc, help).ok()
         }
         _ => form_told(alloc, fault, form),
@@ -187,7 +187,7 @@ pub(crate) fn file(
 /// What is told where a new volume is not made, if it is not why an image is no volume.
 fn told_new(alloc: Global, fault: VolumeFault) -> Option<String> {
     match fault {
-        VolumeFault::BadHeader => String::from_str(alloc, "a volume has 6 blocks or more").ok(),
+        VolumeFault::BadHeader => String::from_str(alloc, "a volume has at least 6 blocks").ok(),
         _ => None,
     }
 }

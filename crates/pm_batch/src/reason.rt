@@ -11,20 +11,20 @@ use std::fmt;
 fn help_for(fault: VolumeFault) -> &'static str {
     match fault {
         VolumeFault::NotBlocks => {
-            "; it may have a header or be cut: examples/form.sh IMAGE tells its form, files check what is wrong"
+            "; it may have a header or be truncated: examples/form.sh IMAGE shows its form, 'files check' all faults"
         }
-        VolumeFault::TooShort => "; a volume has 6 blocks of 512 bytes or more",
+        VolumeFault::TooShort => "; a volume has at least 6 blocks of 512 bytes",
         VolumeFault::BadHeader => {
-            ", or the image has another form: --form dos for DOS order; examples/form.sh tells it, files check the rest"
+            ", or the image has another form: --form dos for DOS order; see examples/form.sh IMAGE and 'files check'"
         }
         VolumeFault::BadEntry(_) | VolumeFault::TooManyFiles => {
-            "; files check tells what is wrong, files salvage NEW takes the files out"
+            "; 'files check' lists all faults, 'files salvage NEW' copies the valid files to the new volume NEW"
         }
         VolumeFault::PastEnd => {
-            " of the image, which may be cut; files check tells what is wrong, files salvage NEW takes the files out"
+            "; the image may be truncated: 'files check' lists all faults, 'files salvage NEW' copies the valid files"
         }
-        VolumeFault::FirstCopyBad(_) => "; files repair puts the second in its place",
-        VolumeFault::BadName => ": a volume's has 1 to 7 characters, without blanks and colons",
+        VolumeFault::FirstCopyBad(_) => "; 'files repair' restores the first from the second",
+        VolumeFault::BadName => ": a volume name has 1 to 7 characters, without spaces and colons",
         _ => "",
     }
 }
@@ -32,15 +32,16 @@ fn help_for(fault: VolumeFault) -> &'static str {
 /// What helps where a volume refuses a command.
 fn help_of_command(fault: VolumeFault) -> &'static str {
     match fault {
-        VolumeFault::NoRoom => "; files krunch makes one of all, files remove makes room",
-        VolumeFault::DirectoryFull => ", which has room for 77 files; files remove makes room",
+        VolumeFault::NoRoom =>
+            "; 'files krunch' joins the free areas, 'files remove NAME' frees space",
+        VolumeFault::DirectoryFull => ": it has 77 files; 'files remove NAME' frees an entry",
         VolumeFault::Duplicate =>
-            "; files remove takes it away, files change gives it another name",
+            "; 'files remove NAME' removes it, 'files change OLD NEW' renames it",
         VolumeFault::BadName => {
-            ": a file's has 1 to 15 characters, a volume's 1 to 7, without blanks and colons"
+            ": a file name has 1 to 15 characters, a volume name 1 to 7, without spaces and colons"
         }
-        VolumeFault::NoFile => "; files list shows the names",
-        VolumeFault::Occupied => "; blocks 6 to 9 have to be free",
+        VolumeFault::NoFile => "; 'files list' shows the names",
+        VolumeFault::Occupied => "; blocks 6 to 9 must be free",
         _ => "",
     }
 }
@@ -48,9 +49,9 @@ fn help_of_command(fault: VolumeFault) -> &'static str {
 /// What helps where a text, or a text file, has a fault.
 fn help_of_text(fault: TextFault) -> &'static str {
     match fault {
-        TextFault::NoHeader => ", so it is no text file; files get writes its bytes as they are",
+        TextFault::NoHeader => ", so it is not a text file; 'files get' writes its bytes unchanged",
         TextFault::LineTooLong(_) => " of 1,024 bytes",
-        TextFault::BadByte(_) => "; files put NAME data takes any bytes",
+        TextFault::BadByte(_) => "; 'files put NAME data' accepts any bytes",
         TextFault::NoMemory => "",
     }
 }
@@ -58,8 +59,8 @@ fn help_of_text(fault: TextFault) -> &'static str {
 /// What helps where the system's segment is not put in.
 fn help_of_system(fault: SystemFault) -> &'static str {
     match fault {
-        SystemFault::NoCode(_) => "; asm of examples/system/system.text makes one",
-        SystemFault::NoSegment => "; asm of examples/system/system.text makes a file with one",
+        SystemFault::NoCode(_) => "; 'asm' of examples/system/system.text makes one",
+        SystemFault::NoSegment => "; 'asm' of examples/system/system.text makes a file with one",
         SystemFault::Volume(fault) => help_of_command(fault),
         _ => "",
     }
@@ -81,7 +82,7 @@ impl fmt::Display for Unfiled {
                 write!(f, "{fault}{help}")
             }
             FilerFault::BadDate => f.write_str(
-                "not a date: a year is 0 to 127, as 84 for 1984, a month 1 to 12, a day 1 to 31",
+                "invalid date: the year is 0 to 127 (84 for 1984), the month 1 to 12, the day 1 to 31",
             ),
             FilerFault::NoMemory => write!(f, "{}", FilerFault::NoMemory),
         }
@@ -96,16 +97,19 @@ impl fmt::Display for Reason {
     fn fmt<W: fmt::Write>(&self, f: &mut fmt::Formatter<W>) -> fmt::Result {
         match self.0 {
             Refusal::Hex => f.write_str(
-                "not pairs of hexadecimal digits and white space, as in 02 03 82 D6",
+                "the input is not pairs of hexadecimal digits and white space, for example 02 03 82 D6",
             ),
             Refusal::Boot(BootFault::Exec(error)) => {
-                write!(f, "execution error at the first call: {error}")
+                write!(
+                    f,
+                    "execution error in the call of the main program: {error}"
+                )
             }
             Refusal::Boot(BootFault::NoFile) => f.write_str(
-                "no such file: files list shows the names",
+                "no such file; 'files list' shows the names",
             ),
             Refusal::Boot(BootFault::NotCode) => f.write_str(
-                "not a code file: files list shows its kind, files put NAME code adds one",
+                "not a code file; 'files list' shows its kind, 'files put NAME code' adds one",
             ),
             Refusal::Boot(fault) => write!(f, "{fault}"),
             Refusal::Volume(fault) => {
@@ -114,12 +118,12 @@ impl fmt::Display for Reason {
             }
             Refusal::Filer(fault) => write!(f, "{}", Unfiled(fault)),
             Refusal::Code(CodeFault::NoDictionary) => f.write_str(
-                "the file has no dictionary: a code file has 512 bytes or more; asm makes one of a text",
+                "the file has no dictionary: a code file has at least 512 bytes; 'asm' makes one from an assembly text",
             ),
             Refusal::Code(fault) => {
                 write!(
                     f,
-                    "{fault}, so it is no code file; files get takes one out of an image"
+                    "{fault}, so it is not a code file; 'files get' copies one from an image"
                 )
             }
             Refusal::Asm(fault) => write!(f, "{fault}"),

@@ -6,22 +6,22 @@ use Rattle.std.specs.Option.{option_or}
 -- of what calls, machines, starts and units answer
 unfoldable pub call_sentences : List (ℕ × List ℕ)
 call_sentences =
-    (0, codes "done; of a step and a run: the machine goes on") ∷
+    (0, codes "success; of a step and a run: the machine can continue") ∷
     (1, codes "the machine waits for console bytes") ∷
-    (2, codes "the program has come to its end, or the job is refused") ∷
+    (2, codes "the program has ended, or the job is refused") ∷
     (3, codes "an execution error stopped the program") ∷
     (4, codes "the input is too long") ∷
     (5, codes "out of memory") ∷
-    (6, codes "the limit of the steps, or the program waits for a key") ∷
+    (6, codes "the step limit was reached, or the program waits for console bytes") ∷
     (7, codes "the buffer is too short") ∷
     (8, codes "the handle has no machine") ∷
     (9, codes "the handle has a machine already") ∷
     (10, codes "odd address") ∷
-    (11, codes "no disk is there") ∷
-    (12, codes "the name is no text in UTF-8") ∷
-    (13, codes "the machine stands nowhere in the code") ∷
-    (14, codes "no file has a kind above 15") ∷
-    (15, codes "the run has come to a breakpoint") ∷
+    (11, codes "the unit has no disk") ∷
+    (12, codes "the name is not UTF-8") ∷
+    (13, codes "SEG or JTAB is odd, so the position in the code is unknown") ∷
+    (14, codes "the kind is above 15") ∷
+    (15, codes "the run has reached a breakpoint") ∷
     (16, codes "a watched word has changed") ∷
     (101, codes "invalid index") ∷
     (102, codes "no segment or bad code file") ∷
@@ -37,44 +37,44 @@ call_sentences =
     (201, codes "no such file") ∷
     (202, codes "not a code file") ∷
     (203, codes "bad code file") ∷
-    (301, codes "no disk unit") ∷
-    (302, codes "a disk is mounted there") ∷
+    (301, codes "not a disk unit") ∷
+    (302, codes "the unit has a disk already") ∷
     []
 
 -- of volumes, of what stops a run of the debugger, and of texts of the assembler, code files and text files
 unfoldable pub file_sentences : List (ℕ × List ℕ)
 file_sentences =
-    (401, codes "the image is not made of whole blocks") ∷
-    (402, codes "the image has no room for a directory") ∷
-    (403, codes "the directory's header is damaged") ∷
+    (401, codes "the length of the image is not a multiple of 512 bytes") ∷
+    (402, codes "the image is too short for a directory") ∷
+    (403, codes "the header of the directory is damaged") ∷
     (404, codes "an entry of the directory is damaged") ∷
-    (405, codes "the directory names too many files") ∷
-    (406, codes "a file or the volume passes the end") ∷
-    (407, codes "no gap is large enough") ∷
+    (405, codes "the header of the directory states more than 77 files") ∷
+    (406, codes "the volume extends past the end of the image, or a file past the end of the volume") ∷
+    (407, codes "no free area is large enough") ∷
     (408, codes "the directory is full") ∷
-    (409, codes "a file of that name is there") ∷
-    (410, codes "not a name") ∷
+    (409, codes "a file of that name exists") ∷
+    (410, codes "invalid name") ∷
     (411, codes "no file of that name") ∷
     (413, codes "the first copy of the directory is damaged, the second is good") ∷
-    (414, codes "a file stands where the second copy would") ∷
+    (414, codes "a file is in the blocks of the second copy of the directory") ∷
     (501, codes "too many breakpoints or watched words") ∷
     (502, codes "not set") ∷
     (503, codes "odd address") ∷
-    (601, codes "the line is ill-formed or out of place") ∷
-    (602, codes "the line has an unknown mnemonic, directive or type word") ∷ (
+    (601, codes "the line is ill-formed or in the wrong place") ∷
+    (602, codes "the line has an unknown mnemonic, directive or type keyword") ∷ (
       603,
-      codes "the line has a number out of range, or ends code of an odd length or with a wrong number of jump entries",
+      codes "the line has a number out of range, or ends a procedure with odd length or a wrong number of .JUMP lines",
     ) ∷
     (604, codes "the line names a label that its procedure does not have") ∷
-    (605, codes "the line says a segment, a label or the exit code again") ∷
+    (605, codes "the line defines a segment, a label or .EXIT again") ∷
     (606, codes "the line jumps backward, or more than 127 bytes forward") ∷
     (607, codes "the segment has more than 60,000 bytes") ∷
     (701, codes "the file has no dictionary") ∷
-    (702, codes "the segment of the slot passes the end of the file") ∷
+    (702, codes "the segment of the slot extends past the end of the file") ∷
     (703, codes "the length of the slot is odd") ∷
     (801, codes "the file has no header") ∷
     (803, codes "the line does not fit in a page") ∷
-    (804, codes "the byte cannot stand in a text file") ∷
+    (804, codes "the byte is not allowed in a text file") ∷
     []
 
 unfoldable pub file_sentence : ℕ → Option (List ℕ)

@@ -1,18 +1,18 @@
-//! Why bytes are no code file.
+//! Why bytes are not a code file.
 
 ghost use Rattle.std.specs.Prelude.{◌≡◌};
 ghost use Rattle.pm_codefile.specs.Faults.{number_of, slot_of_fault};
 
 use thiserror::Error;
 
-/// Why bytes are no code file. A number names the slot of the dictionary, 0 to 15.
+/// Why bytes are not a code file. A number is the slot of the dictionary, 0 to 15.
 #[derive(Clone, Copy, Debug, Error)]
 pub enum CodeFault {
-    /// 1: there are fewer than 512 bytes.
+    /// 1: the file has fewer than 512 bytes, the length of a dictionary.
     #[error("the file has no dictionary")]
     NoDictionary,
-    /// 2: the segment of a slot passes the end of the file.
-    #[error("the segment of slot {0} passes the end of the file")]
+    /// 2: the segment of a slot extends past the end of the file.
+    #[error("the segment of slot {0} extends past the end of the file")]
     SlotPastEnd(u8),
     /// 3: the length of a slot is odd.
     #[error("the length of slot {0} is odd")]

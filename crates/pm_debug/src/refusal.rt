@@ -7,7 +7,7 @@ use pm_words::ExecError;
 use std::alloc::{AllocError, AllocFailed};
 use thiserror::Error;
 
-/// Why the debugger refuses a call. Nothing has changed then.
+/// Why the debugger refuses a call. Nothing has changed.
 #[derive(Clone, Copy, Debug, Drop, Error, PartialEq, Eq)]
 pub enum DebugRefusal {
     /// 1: there are 64 breakpoints, or 64 watched words, already.
@@ -16,7 +16,7 @@ pub enum DebugRefusal {
     /// 2: there is no such breakpoint, or no such watched word.
     #[error("not set")]
     NotSet,
-    /// 3: an odd address on the way.
+    /// 3: an address that has to be read is odd.
     #[error("odd address")]
     OddAddress,
     /// 4: there is no memory for the answer.
@@ -25,8 +25,8 @@ pub enum DebugRefusal {
     /// 5: more than 127 static links.
     #[error("too many static links")]
     TooDeep,
-    /// 6: nothing is left of the last run.
-    #[error("nothing is left of the last run")]
+    /// 6: there is no run to continue.
+    #[error("there is no run to continue")]
     NothingLeft,
 }
 

@@ -7,7 +7,7 @@ use pm_volume::VolumeFault;
 use std::alloc::AllocError;
 use thiserror::Error;
 
-/// Why a command is refused. The volume is then as it was.
+/// Why a command is refused. The volume has not changed.
 #[derive(Clone, Copy, Debug, Error)]
 pub enum FilerFault {
     /// The volume refuses it.
@@ -16,10 +16,10 @@ pub enum FilerFault {
     /// The text, or the text file, has a fault.
     #[error("{0}")]
     Text(TextFault),
-    /// A year above 127, a month outside 1 to 12, or a day outside 1 to 31.
+    /// The year is above 127, the month not 1 to 12, or the day not 1 to 31.
     #[error("not a date")]
     BadDate,
-    /// Memory was wanted and refused.
+    /// Memory was refused.
     #[error("out of memory")]
     NoMemory,
 }

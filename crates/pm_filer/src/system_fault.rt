@@ -1,4 +1,4 @@
-//! Why a system segment is not put in.
+//! Why a system segment is not added to a program.
 ghost use Rattle.std.specs.Prelude.{◌≡◌};
 ghost use Rattle.pm_filer.specs.SystemFaults.{number_of};
 
@@ -7,25 +7,25 @@ use pm_volume::VolumeFault;
 use std::alloc::AllocError;
 use thiserror::Error;
 
-/// Why a system segment is not put in. Nothing is changed then.
+/// Why a system segment is not added to a program. Nothing has changed.
 #[derive(Clone, Copy, Debug, Error)]
 pub enum SystemFault {
-    /// 1: the system's file is no code file.
-    #[error("the file behind --system is no code file: {0}")]
+    /// 1: the system's file is not a code file.
+    #[error("the file of --system is not a code file: {0}")]
     NoCode(CodeFault),
     /// 2: slot 0 of the system's file has no segment.
-    #[error("slot 0 of the file behind --system has no segment")]
+    #[error("the file of --system has no segment in slot 0")]
     NoSegment,
-    /// 3: the program's file is no code file.
-    #[error("the program is no code file: {0}")]
+    /// 3: the program's file is not a code file.
+    #[error("the program is not a code file: {0}")]
     NoProgram(CodeFault),
     /// 4: slot 0 of the program's file has a segment.
-    #[error("slot 0 of the program has a segment already; run it without --system")]
+    #[error("the program already has a segment in slot 0; run it without --system")]
     Taken,
-    /// 5: the volume refuses the longer file.
-    #[error("the program with the segment is not put on the volume of unit 4: {0}")]
+    /// 5: the volume refuses the program's file with the segment.
+    #[error("cannot add the system segment to the program on unit 4: {0}")]
     Volume(VolumeFault),
-    /// 6: memory was wanted and refused.
+    /// 6: memory was refused.
     #[error("out of memory")]
     NoMemory,
 }

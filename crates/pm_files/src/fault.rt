@@ -14,13 +14,13 @@ pub enum DiskFault {
     Read(ErrorKind),
     /// The file has more than `IMAGE_LIMIT` bytes.
     TooLong,
-    /// Another program has the file, and is going to write it.
+    /// Another program has locked the file, to write to it.
     Busy,
     /// The file cannot be written.
     Write(ErrorKind),
-    /// Its name leads to another file, or to none, since it was made ready to be written.
+    /// The path names another file, or none, since the file was prepared for writing.
     Replaced,
-    /// What stands beside the file, where the new one is to be made, cannot be taken away.
+    /// The path of the temporary file exists, and what is there cannot be removed.
     InTheWay,
     /// Memory was refused.
     NoMemory,
@@ -55,11 +55,11 @@ impl DiskFault {
     pub fn reason(self) -> &'static str {
         match self {
             DiskFault::Read(kind) | DiskFault::Write(kind) => words(kind),
-            DiskFault::TooLong => "more than 33554432 bytes",
-            DiskFault::Busy => "another program is about to write it",
-            DiskFault::Replaced => "another program has moved or replaced it",
+            DiskFault::TooLong => "more than 33,554,432 bytes",
+            DiskFault::Busy => "another program has locked the file",
+            DiskFault::Replaced => "another program has moved or replaced the file",
             DiskFault::InTheWay =>
-                "it stands where the new file is to be made, and cannot be removed",
+                "the new file must be created at this path, but what exists there cannot be removed",
             DiskFault::NoMemory => "no memory",
         }
     }
@@ -71,12 +71,12 @@ fn words(kind: ErrorKind) -> &'static str {
         ErrorKind::NotFound => "no such file or folder",
         ErrorKind::PermissionDenied => "no permission",
         ErrorKind::IsADirectory => "it is a folder",
-        ErrorKind::NotADirectory => "a part of the path is no folder",
-        ErrorKind::StorageFull => "no room on the device",
-        ErrorKind::FileTooLarge => "too large a file for the system or its limits",
-        ErrorKind::ReadOnlyFilesystem => "the device is read only",
-        ErrorKind::WouldBlock => "another program writes it",
-        _ => "the system refuses it",
+        ErrorKind::NotADirectory => "a part of the path is not a folder",
+        ErrorKind::StorageFull => "no space left on the device",
+        ErrorKind::FileTooLarge => "the file is too large for the system or its limits",
+        ErrorKind::ReadOnlyFilesystem => "the device is read-only",
+        ErrorKind::WouldBlock => "another program is writing the file",
+        _ => "the operating system refuses the access",
     }
 }
 

@@ -8,22 +8,22 @@ use thiserror::Error;
 /// Why a text is refused. Lines are counted from 1.
 #[derive(Clone, Copy, Debug, Error)]
 pub enum AsmFault {
-    /// 1: a line is ill-formed or out of place, or begins a procedure that does not end.
-    #[error("line {0} is ill-formed or out of place")]
+    /// 1: a line is ill-formed or in the wrong place, or begins a procedure without an `.END`.
+    #[error("line {0} is ill-formed or in the wrong place")]
     Syntax(usize),
-    /// 2: a mnemonic, directive or type word is unknown.
-    #[error("line {0} has an unknown mnemonic, directive or type word")]
+    /// 2: a mnemonic, directive or type keyword is unknown.
+    #[error("line {0} has an unknown mnemonic, directive or type keyword")]
     Unknown(usize),
     /// 3: a number is out of its range, or a count or length is wrong.
-    #[error("line {0} has a number out of range, or ends code of an odd length or with a wrong number of jump entries")]
+    #[error("line {0} has a number out of range, or ends a procedure with odd length or a wrong number of .JUMP lines")]
     Range(usize),
-    /// 4: a label does not stand in the procedure.
+    /// 4: the procedure does not define the label.
     #[error("line {0} names a label that its procedure does not have")]
     NoLabel(usize),
-    /// 5: a slot, a label of the procedure or the exit code is there already.
-    #[error("line {0} says a segment, a label or the exit code again")]
+    /// 5: a segment, a label of the procedure or its `.EXIT` is already defined.
+    #[error("line {0} defines a segment, a label or .EXIT again")]
     Twice(usize),
-    /// 6: a short jump leads backward or more than 127 bytes forward.
+    /// 6: a short jump goes backward, or more than 127 bytes forward.
     #[error("line {0} jumps backward, or more than 127 bytes forward")]
     Far(usize),
     /// 7: a segment has more than 60,000 bytes.

@@ -6,20 +6,20 @@ ghost use Rattle.pm_textfile.specs.Faults.{number_of, place_of_text_fault};
 use std::alloc::AllocError;
 use thiserror::Error;
 
-/// Why bytes are no text file, or why a text cannot be one.
+/// Why bytes are not a text file, or why a text cannot be converted to one.
 #[derive(Clone, Copy, Debug, Error)]
 pub enum TextFault {
-    /// 1: there are fewer than 1,024 bytes.
+    /// 1: the file has fewer than 1,024 bytes, the length of a header.
     #[error("the file has no header")]
     NoHeader,
-    /// 2: a growth was refused.
+    /// 2: memory was refused.
     #[error("out of memory")]
     NoMemory,
-    /// 3: a line has more than 1,024 bytes in its form in a file. Lines count from 1.
+    /// 3: a line has more than 1,024 bytes as it is stored in a file. Lines are counted from 1.
     #[error("line {0} does not fit in a page")]
     LineTooLong(usize),
-    /// 4: a byte 0, 13 or 16 of the text, at this place. Places count from 0.
-    #[error("the byte at {0} cannot stand in a text file")]
+    /// 4: the byte at this position of the text is 0, 13 or 16. Positions are counted from 0.
+    #[error("the byte at position {0} is not allowed in a text file")]
     BadByte(usize),
 }
 

@@ -28,7 +28,7 @@ pub enum Hint {
 impl fmt::Display for Hint {
     fn fmt<W: fmt::Write>(&self, f: &mut fmt::Formatter<W>) -> fmt::Result {
         match self {
-            Hint::Named(name) => write!(f, "{name} is there"),
+            Hint::Named(name) => write!(f, "{name} exists"),
             Hint::NoFirst {
                 first: Some(slot),
                 ..
@@ -40,7 +40,7 @@ impl fmt::Display for Hint {
                 first: None,
                 has_system: true,
             } => f.write_str(
-                "slot 1 is empty, and no slot has a segment with number 1; slot 0 has one, as a file for --system",
+                "slot 1 is empty, and no slot has a segment with number 1; slot 0 has one, as in a file for --system",
             ),
             Hint::NoFirst {
                 first: None,

@@ -7,7 +7,8 @@ use pm_words::ExecError;
 use std::fmt;
 
 /// What may be meant where the operating system is called.
-const SYSTEM: &str = "a CXP 0, n calls the operating system, and --system PATH puts its segment in";
+const SYSTEM: &str =
+    "CXP 0, n calls procedure n of the operating system, and --system PATH adds its segment";
 
 /// A procedure of the operating system, by its number and, where it is known, its name.
 #[derive(Clone, Copy)]
@@ -99,7 +100,7 @@ impl RunReason<'_> {
             }
             ExecError::UserIo => write!(f, "; IORESULT is {}", stopped.ioresult),
             ExecError::Unimplemented if is_of_reals(stopped.code) => {
-                f.write_str("; reals are not served")
+                f.write_str("; real arithmetic is not supported")
             }
             _ => Ok(()),
         }
@@ -109,7 +110,7 @@ impl RunReason<'_> {
 impl fmt::Display for RunReason<'_> {
     fn fmt<W: fmt::Write>(&self, f: &mut fmt::Formatter<W>) -> fmt::Result {
         match self.ending {
-            Ending::Ended => f.write_str("the program came to its end"),
+            Ending::Ended => f.write_str("the program ended"),
             Ending::Error(error) => {
                 write!(f, "{error}")?;
                 match self.stopped {
@@ -118,7 +119,7 @@ impl fmt::Display for RunReason<'_> {
                 }
             }
             Ending::Limit => f.write_str(
-                "that many steps were made; --limit N or --unlimited allows more",
+                "the step limit was reached; --limit N or --unlimited allows more steps",
             ),
             Ending::Waiting => f.write_str("the program waits for a key, and the input has ended"),
         }
@@ -136,11 +137,11 @@ impl fmt::Display for Whereabouts<'_> {
             let (segment, procedure, offset) = (place.segment, place.procedure, place.offset);
             write!(
                 f,
-                " in segment {segment}, procedure {procedure}, at {offset}"
+                " in segment {segment}, procedure {procedure}, at offset {offset}"
             )?;
         }
         match &self.0.step {
-            Some(step) => write!(f, ", before {step}"),
+            Some(step) => write!(f, "; the failing step: {step}"),
             None => Ok(()),
         }
     }

@@ -22,14 +22,14 @@ pub enum Port {
     Unknown,
 }
 
-/// Why no disk is mounted.
+/// Why a disk is not mounted.
 #[derive(Clone, Copy, Debug, Drop, Error)]
 pub enum MountFault {
-    /// 1: the number is not that of a disk unit.
-    #[error("no disk unit")]
+    /// 1: the number is not a disk unit.
+    #[error("not a disk unit")]
     NoUnit,
     /// 2: the unit has a disk already.
-    #[error("a disk is mounted there")]
+    #[error("the unit has a disk already")]
     Taken,
 }
 

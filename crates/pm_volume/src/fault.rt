@@ -5,42 +5,43 @@ ghost use Rattle.pm_volume.specs.Faults.{detail_of, number_of};
 
 use thiserror::Error;
 
-/// Why an image is no volume, or why a change of a volume is refused.
+/// Why an image is not a volume, or why a change of a volume is refused.
 #[derive(Clone, Copy, Debug, PartialEq, Eq, Error)]
 pub enum VolumeFault {
-    /// 1: the image's length is no multiple of 512 bytes.
-    #[error("the image is not made of whole blocks")]
+    /// 1: the length of the image is not a multiple of 512 bytes.
+    #[error("the length of the image is not a multiple of 512 bytes")]
     NotBlocks,
-    /// 2: the image has fewer than 6 blocks, so no room for a directory.
-    #[error("the image has no room for a directory")]
+    /// 2: the image has fewer than 6 blocks, too few for a directory.
+    #[error("the image is too short for a directory")]
     TooShort,
-    /// 3: a volume's name without 1 to 7 characters, files that begin neither at block 6 nor at
-    /// block 10, or fewer blocks than that.
-    #[error("the directory's header is damaged")]
+    /// 3: the volume's name does not have 1 to 7 characters, the files begin neither at block 6
+    /// nor at block 10, or the volume has fewer blocks than that.
+    #[error("the header of the directory is damaged")]
     BadHeader,
-    /// 4: this entry has a name without 1 to 15 characters, blocks before the previous entry's
-    /// end, an end before its begin, or a last block without 1 to 512 bytes.
+    /// 4: the name of this entry does not have 1 to 15 characters, its first block is below the end
+    /// of the previous entry, its end is below its first block, or its last block does not have 1
+    /// to 512 bytes.
     #[error("entry {0} of the directory is damaged")]
     BadEntry(u16),
     /// 5: the directory states more than 77 files.
-    #[error("the directory names too many files")]
+    #[error("the header of the directory states more than 77 files")]
     TooManyFiles,
-    /// 6: the volume passes the end of the image, or a file that of the volume.
-    #[error("a file or the volume passes the end")]
+    /// 6: the volume extends past the end of the image, or a file past the end of the volume.
+    #[error("the volume extends past the end of the image, or a file past the end of the volume")]
     PastEnd,
-    /// 7: no gap has enough blocks.
-    #[error("no gap is large enough")]
+    /// 7: no free area has enough blocks.
+    #[error("no free area is large enough")]
     NoRoom,
     /// 8: the directory has 77 files.
     #[error("the directory is full")]
     DirectoryFull,
-    /// 9: a file of that name is there.
-    #[error("a file of that name is there")]
+    /// 9: a file of that name exists.
+    #[error("a file of that name exists")]
     Duplicate,
-    /// 10: the text cannot be a name.
-    #[error("not a name")]
+    /// 10: the text is not a valid name.
+    #[error("invalid name")]
     BadName,
-    /// 11: there is no file of that name.
+    /// 11: no file has that name.
     #[error("no file of that name")]
     NoFile,
     /// 12: memory was refused.
@@ -50,8 +51,8 @@ pub enum VolumeFault {
     /// copy is good.
     #[error("the first copy of the directory is damaged, the second is good")]
     FirstCopyBad(u8),
-    /// 14: a file begins below block 10, where a second copy of the directory would stand.
-    #[error("a file stands where the second copy would")]
+    /// 14: a file begins below block 10, in the blocks of the second copy of the directory.
+    #[error("a file is in the blocks of the second copy of the directory")]
     Occupied,
 }
 

@@ -19,8 +19,8 @@ is_named name e = is_same_name (characters_of e.name) name
 abbrev pub file_named : List ℕ → List ℕ → Option Entry
 file_named image name = find (is_named name) (files_of image)
 
--- The bytes of a file: its blocks, of which the last is cut, or `None` if they are not all in the image. A file without
--- blocks is empty.
+-- The bytes of a file: its blocks, of which the last is cut. `None` if these bytes are not all in the image. A file
+-- without blocks is empty.
 unfoldable pub file_bytes : List ℕ → Entry → Option (List ℕ)
 file_bytes image e =
     let end = BLOCK * (e.end - 1) + e.last_bytes in

@@ -226,7 +226,7 @@ impl Volume {
     /// Returns the bytes of a file: its blocks, of which the last is cut to its number of bytes. They are empty if the
     /// file has no blocks.
     ///
-    /// Returns `None` if the blocks are not all in the image, which is possible for an entry of another volume.
+    /// Returns `None` if these bytes are not all in the image, which is possible for an entry of another volume.
     #[tactic(auto, unfolding(crate::specs::Files::file_bytes))]
     pub fn file(&self, entry: &Entry) -> Option<&[u8]>
         ensures bytes { option_map (λ bytes. bytes.now) result ≡ file_bytes self.now entry.now }

@@ -1,15 +1,15 @@
--- What the code of an assignment writes, told as one list of bytes.
+-- What an assignment of a string writes, as one list of bytes.
 use Rattle.std.proofs.Common.{◌≡◌, ℕ, suc, ◌+◌, ◌<◌, ◌≤◌, List, ◌∷◌, length, drop, get_or, refl, ap, arith}
 use Rattle.std.proofs.lemmas.List.{drop_more}
 use Rattle.pm_words.specs.Words.{IsMemory, byte_at, bytes_at, bytes_of, copied, with_bytes}
 use Rattle.pm_words.proofs.Laws.{AreMemoryBytes-bytes_of}
 use Rattle.pm_words.proofs.RangeLaws.{length-bytes_at}
 
--- a string has as many characters as its length says
+-- The number of characters of a string is its length.
 pub length_string : (ws : List ℕ) (a n : ℕ) → IsMemory ws → a + n ≤ 65536 → length (bytes_at ws a n) ≡ n
 length_string ws a n h room = length-bytes_at ws a n h room
 
--- one byte and the rest of a range
+-- A range of bytes is its first byte and the others.
 bytes_at-first : (ws : List ℕ) (a n : ℕ) → IsMemory ws → a < 65536 → bytes_at ws a (n + 1) ≡ byte_at ws a ∷ bytes_at ws (a + 1) n
 unfolding bytes_at byte_at
 bytes_at-first ws a n h l =
@@ -18,7 +18,7 @@ bytes_at-first ws a n h l =
     let next : n + 1 ≡ suc n = omega arith in
     rw (next, more) refl
 
--- a string copied with its length
+-- A string copied together with its length.
 pub copied_string : (ws : List ℕ) (e d n : ℕ) → IsMemory ws → e < 65536 → copied ws e d (n + 1) ≡ with_bytes ws d (byte_at ws e ∷ bytes_at ws (e + 1) n)
 unfolding copied
 copied_string ws e d n h l = ap (with_bytes ws d) (bytes_at-first ws e n h l)

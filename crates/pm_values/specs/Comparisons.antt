@@ -1,5 +1,5 @@
--- The typed comparisons. The left operand stands below the right one on the stack. A relation that a kind does not have
--- is error 11 before the stack is looked at.
+-- Typed comparisons. The left operand is below the right one on the stack. A relation that is not defined for a type is
+-- error 11, which is checked before the stack is read.
 use Rattle.std.specs.Cmp.Lexicographic.{slice_cmp}
 use Rattle.std.specs.Ordering.{is_eq, is_ge, is_gt, is_le, is_lt, is_ne, nat_cmp}
 use Rattle.std.specs.declared.cmp.Ordering.{Ordering}
@@ -16,7 +16,7 @@ use Rattle.pm_words.specs.Signed.{truth}
 use Rattle.pm_values.specs.Sets.{is_member, pop_set}
 use Rattle.pm_values.specs.Strings.{string_at}
 
--- whether a relation holds of two values in an order
+-- Whether a relation is true for two values with the order `o`.
 abbrev pub holds : Relation → Ordering → Bool
 holds Equal o = is_eq o
 holds NotEqual o = is_ne o
@@ -25,8 +25,8 @@ holds LessOrEqual o = is_le o
 holds Greater o = is_gt o
 holds GreaterOrEqual o = is_ge o
 
--- EQU, NEQ, LES, LEQ, GRT and GEQ STR. .., address, address -> .., 1 or 0: two strings by their unsigned
--- bytes, a proper prefix being less
+-- EQU, NEQ, LES, LEQ, GRT and GEQ STR. .., address, address -> .., 1 or 0: compares two strings by their unsigned
+-- bytes. A proper prefix is less.
 unfoldable pub compare_strings_row : Relation → StackRow
 compare_strings_row r m sp np = do
   b ← pop m sp
@@ -35,16 +35,16 @@ compare_strings_row r m sp np = do
   t ← string_at m b.word
   push m a.above np (truth (holds r (slice_cmp nat_cmp s t)))
 
--- EQU, NEQ, LES, LEQ, GRT and GEQ BOOL. .., a, b -> .., 1 or 0: two truth values by bit 0 alone,
--- false being below true
+-- EQU, NEQ, LES, LEQ, GRT and GEQ BOOL. .., a, b -> .., 1 or 0: compares two truth values by bit 0 only. False is less
+-- than true.
 unfoldable pub compare_booleans_row : Relation → StackRow
 compare_booleans_row r m sp np = do
   b ← pop m sp
   a ← pop m b.above
   push m a.above np (truth (holds r (nat_cmp (a.word % 2) (b.word % 2))))
 
--- EQU, NEQ, LES, LEQ, GRT and GEQ BYTES. .., address, address -> .., 1 or 0: two ranges of n bytes, by the
--- first byte in which they differ, bytes being unsigned
+-- EQU, NEQ, LES, LEQ, GRT and GEQ BYTES. .., address, address -> .., 1 or 0: compares two ranges of `n` bytes by the
+-- first byte in which they differ. Bytes are unsigned.
 unfoldable pub compare_bytes_row : ℕ → Relation → StackRow
 compare_bytes_row n r m sp np = do
   b ← pop m sp
@@ -52,7 +52,7 @@ compare_bytes_row n r m sp np = do
   _ ← demand (lies_in_memory a.word n && lies_in_memory b.word n) InvalidMemory
   push m a.above np (truth (holds r (compared m a.word b.word n)))
 
--- whether a relation asks for equality alone
+-- Whether a relation is equality or inequality.
 abbrev pub is_equality : Relation → Bool
 is_equality Equal = true
 is_equality NotEqual = true
@@ -61,11 +61,11 @@ is_equality LessOrEqual = false
 is_equality Greater = false
 is_equality GreaterOrEqual = false
 
--- whether n words from an address on lie in memory; an operand has at most 32,767 words
+-- Whether the `n` words from address `a` on are in memory. An operand has at most 32,767 words.
 abbrev pub are_words : ℕ → ℕ → Bool
 are_words a n = nat_le n 32767 && words_lie_in_memory a n
 
--- EQU and NEQ WORDS. .., address, address -> .., 1 or 0: whether two ranges of n words are the same
+-- EQU and NEQ WORDS. .., address, address -> .., 1 or 0: compares two ranges of `n` words for equality.
 unfoldable pub compare_words_row : ℕ → Relation → StackRow
 compare_words_row n r m sp np = do
   _ ← demand (is_equality r) Unimplemented
@@ -74,16 +74,16 @@ compare_words_row n r m sp np = do
   _ ← demand (are_words a.word n && are_words b.word n) InvalidMemory
   push m a.above np (truth (holds r (compared m a.word b.word (2 * n))))
 
--- whether none of the n numbers from e on passes the test
+-- Whether none of the `n` numbers from `e` on passes the test `p`.
 unfoldable pub none_from : (ℕ → Bool) → ℕ → ℕ → Bool
 none_from p e zero = true
 none_from p e (suc n) = not (p e) && none_from p (suc e) n
 
--- whether no number is in the set of the words xs and not in that of the words ys
+-- Whether every number in the set with the words `xs` is in the set with the words `ys`.
 unfoldable pub is_subset : List ℕ → List ℕ → Bool
 is_subset xs ys = none_from (λ e. is_member xs e && not (is_member ys e)) 0 (16 * length xs)
 
--- whether sets have the relation
+-- Whether a relation is defined for sets.
 abbrev pub is_of_sets : Relation → Bool
 is_of_sets Equal = true
 is_of_sets NotEqual = true
@@ -92,7 +92,7 @@ is_of_sets LessOrEqual = true
 is_of_sets Greater = false
 is_of_sets GreaterOrEqual = true
 
--- whether a relation holds of two sets of numbers: equal, a subset, a superset
+-- Whether a relation is true for two sets of numbers: equal, subset, superset.
 abbrev pub holds_of_sets : Relation → List ℕ → List ℕ → Bool
 holds_of_sets Equal s t = is_subset s t && is_subset t s
 holds_of_sets NotEqual s t = not (is_subset s t && is_subset t s)
@@ -101,8 +101,8 @@ holds_of_sets LessOrEqual s t = is_subset s t
 holds_of_sets Greater s t = false
 holds_of_sets GreaterOrEqual s t = is_subset t s
 
--- EQU, NEQ, LEQ and GEQ SET. .., set, set -> .., 1 or 0: two sets as sets of numbers, however many words
--- they have
+-- EQU, NEQ, LEQ and GEQ SET. .., set, set -> .., 1 or 0: compares two sets as sets of numbers, regardless of their
+-- numbers of words.
 unfoldable pub compare_sets_row : Relation → StackRow
 compare_sets_row r m sp np = do
   _ ← demand (is_of_sets r) Unimplemented
@@ -110,7 +110,7 @@ compare_sets_row r m sp np = do
   s ← pop_set m t.above
   push m s.above np (truth (holds_of_sets r s.members t.members))
 
--- EQU, NEQ, LES, LEQ, GRT and GEQ of a type. .., a, b -> .., 1 or 0: each kind with its rows; reals have none
+-- EQU, NEQ, LES, LEQ, GRT and GEQ of a type. .., a, b -> .., 1 or 0: each type with its own rule. Reals have none.
 unfoldable pub compare_row : Relation → Kind → StackRow
 compare_row r Real m sp np = Err Unimplemented
 compare_row r String m sp np = compare_strings_row r m sp np

@@ -1,19 +1,19 @@
--- Bytes, and fields of words. A row takes its words from the stack, the top one first, then checks them, then writes or
--- pushes: its lines stand in the order of its faults.
+-- Bytes, and packed fields of words. A rule pops its words, the top one first, then checks them, then writes or pushes.
+-- Its lines are in the order in which errors are checked.
 use Rattle.std.specs.Prelude.{ℕ, ◌+◌, ◌-◌, ◌*◌, ◌/◌, ◌%◌, ◌^◌, ◌==◌, ◌&&◌, Bool, not, [], ◌∷◌, Ok, nat_lt, nat_le}
 use Rattle.pm_words.specs.Words.{byte_at, with_byte}
 use Rattle.pm_words.specs.declared.error.ExecError.TheVariants.{InvalidIndex}
 use Rattle.pm_words.specs.Stack.{◌>>=◌, StackRow, demand, load, pop, push, store}
 use Rattle.pm_values.specs.Several.{push_words}
 
--- LDB. .., base, index -> .., v: the byte at their sum
+-- LDB. .., base, index -> .., v: `v` is the byte at the sum of base and index.
 unfoldable pub load_byte_row : StackRow
 load_byte_row m sp np = do
   i ← pop m sp
   a ← pop m i.above
   push m a.above np (byte_at m ((a.word + i.word) % 65536))
 
--- STB. .., base, index, value -> ..: the value's low byte goes to their sum
+-- STB. .., base, index, value -> ..: the low byte of the value is written at the sum of base and index.
 unfoldable pub store_byte_row : StackRow
 store_byte_row m sp np = do
   v ← pop m sp
@@ -21,21 +21,20 @@ store_byte_row m sp np = do
   a ← pop m i.above
   Ok (with_byte m ((a.word + i.word) % 65536) (v.word % 256), a.above)
 
--- the k bits of a word from bit r on
+-- The `k` bits of the word `w` from bit `r` on.
 unfoldable pub field_of : ℕ → ℕ → ℕ → ℕ
 field_of w r k = (w / 2 ^ r) % 2 ^ k
 
--- the word with those bits replaced by the low bits of v
+-- The word `w` with its `k` bits from bit `r` on replaced by the low bits of `v`.
 unfoldable pub with_field : ℕ → ℕ → ℕ → ℕ → ℕ
 with_field w r k v = (w - field_of w r k * 2 ^ r) + (v % 2 ^ k) * 2 ^ r
 
--- whether k bits from bit r on are a field of a word
+-- Whether `k` bits from bit `r` on are a field of a word.
 abbrev pub is_field : ℕ → ℕ → Bool
 is_field r k = not (k == 0) && nat_le (r + k) 16
 
--- IXP. .., base, index -> .., address, width, lowest bit: the place of an element of an array that packs so many fields
--- of one width in each word. The place is three words: the word's address, the width, and the lowest bit, which is on
--- the top.
+-- IXP. .., base, index -> .., address, width, lowest bit: the location of an element of an array that packs `per_word`
+-- fields of `width` bits into each word. The lowest bit is on top of the stack.
 unfoldable pub index_field_row : ℕ → ℕ → StackRow
 index_field_row per_word width m sp np = do
   i ← pop m sp
@@ -44,7 +43,7 @@ index_field_row per_word width m sp np = do
   _ ← demand (is_field ((i.word % per_word) * width) width) InvalidIndex
   push_words m a.above np ((i.word % per_word) * width ∷ width ∷ (a.word + 2 * (i.word / per_word)) % 65536 ∷ [])
 
--- LDP. .., address, width, lowest bit -> .., v: the field of the word at the address
+-- LDP. .., address, width, lowest bit -> .., v: `v` is the field of the word at the address.
 unfoldable pub load_field_row : StackRow
 load_field_row m sp np = do
   r ← pop m sp
@@ -54,8 +53,8 @@ load_field_row m sp np = do
   w ← load m x.word
   push m x.above np (field_of w r.word k.word)
 
--- STP. .., address, width, lowest bit, value -> ..: the value goes to the field of the word at the address, and the
--- other bits stay
+-- STP. .., address, width, lowest bit, value -> ..: the value is written to the field of the word at the address. The
+-- other bits are unchanged.
 unfoldable pub store_field_row : StackRow
 store_field_row m sp np = do
   v ← pop m sp

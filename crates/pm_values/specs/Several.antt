@@ -1,11 +1,12 @@
--- Several words put on the stack at once.
+-- Pushing several words.
 use Rattle.std.specs.Prelude.{ℕ, ◌+◌, ◌-◌, ◌*◌, List, length, Result, Ok, nat_le}
 use Rattle.pm_words.specs.Words.{with_words}
 use Rattle.pm_words.specs.declared.error.ExecError.{ExecError}
 use Rattle.pm_words.specs.declared.error.ExecError.TheVariants.{StackOverflow}
 use Rattle.pm_words.specs.Stack.{◌>>=◌, demand}
 
--- the memory with words put on the stack, the first of them on its top, and the new sp, which is at least np
+-- The memory with the words `ws` pushed, the first of them on top of the stack, and the new SP, or `StackOverflow` if
+-- that SP would be below `np`.
 abbrev pub push_words : List ℕ → ℕ → ℕ → List ℕ → Result (List ℕ × ℕ) ExecError
 push_words m sp np ws = do
   _ ← demand (nat_le (np + 2 * length ws) sp) StackOverflow

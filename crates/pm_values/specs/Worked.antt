@@ -1,17 +1,17 @@
--- Fields and sets computed: what the definitions give for a few words, worked out by hand.
+-- Computed values of fields and sets: the results of the definitions for a few words, worked out by hand.
 use Rattle.std.specs.Prelude.{◌≡◌, ◌++◌, [], ◌∷◌, replicate, true, false}
 use Rattle.pm_values.specs.Fields.{field_of, with_field}
 use Rattle.pm_values.specs.Sets.{with_length, interval, is_member}
 
 pub record WorkedValues : Type 0 where
-  -- 43,981 is 1010 1011 1100 1101 in bits: the four from bit 4 on are 12; with 3 in their place the word is 43,837
+  -- 43,981 is 1010 1011 1100 1101 in bits. The four bits from bit 4 on are 12. If 3 replaces them, the word is 43,837.
   pub field : field_of 43981 4 4 ≡ 12
   pub replaced : with_field 43981 4 4 3 ≡ 43837
-  -- of a value its low bits alone go into a field
+  -- Only the low bits of a value are written to a field.
   pub low_bits : with_field 0 15 1 2 ≡ 0
-  -- the greatest set of one number: 255 words, of which the last has bit 15
+  -- The largest set of one number has 255 words, of which the last has bit 15.
   pub greatest : with_length (interval 4079 4079) ≡ 255 ∷ replicate 254 0 ++ 32768 ∷ []
-  -- the numbers 14 to 17 are in two words
+  -- The numbers 14 to 17 are in two words.
   pub over_two_words : interval 14 17 ≡ 49152 ∷ 3 ∷ []
   pub inside : is_member (49152 ∷ 3 ∷ []) 17 ≡ true
   pub outside : is_member (49152 ∷ 3 ∷ []) 18 ≡ false

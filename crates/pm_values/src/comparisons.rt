@@ -1,4 +1,4 @@
-//! The typed comparisons.
+//! Typed comparisons.
 
 ghost use Rattle.std.specs.Prelude.{◌≡◌, IfOk};
 ghost use Rattle.pm_words.specs.Stack.{IsStack, Changes};
@@ -13,11 +13,17 @@ use pm_words::stack::{pop, push};
 use pm_words::{ExecError, Memory};
 use std::cmp::Ordering;
 
-/// `EQU`, `NEQ`, `LES`, `LEQ`, `GRT` and `GEQ` of a type. Replaces two operands of a kind, the left one below the right
-/// one, by 1 or 0, whether the relation holds, and gives the new SP. `Unimplemented` straight away for reals, for sets
-/// that are to be less or greater, and for words that are to be anything but equal or not. Then `InvalidMemory` where
-/// there are too few words, or an operand passes the end of memory, or words begin at an odd address; `InvalidIndex`
-/// for a set of more than 255 words. An error changes nothing.
+/// `EQU`, `NEQ`, `LES`, `LEQ`, `GRT` and `GEQ`: replaces two operands of type `kind` by 1 if the relation is true,
+/// otherwise by 0. The right operand is on top of the stack. Returns the new SP.
+///
+/// # Errors
+///
+/// Nothing changes. `Unimplemented` is checked first:
+/// - `Unimplemented`: the operands are reals; or sets, and the relation is less or greater; or words, and the relation
+///   is not equality or inequality.
+/// - `InvalidMemory`: the stack has too few words, an operand extends after the end of memory, or words begin at an odd
+///   address.
+/// - `InvalidIndex`: a set has more than 255 words.
 #[inline(always)]
 #[tactic(auto, unfolding(crate::specs::Comparisons::compare_row), using(pm_words::proofs::WatchLaws::stays))]
 pub fn compare(
@@ -40,7 +46,7 @@ pub fn compare(
     }
 }
 
-// Two strings, by their characters.
+// Compares two strings by their characters.
 #[tactic(auto, unfolding(crate::specs::Comparisons::compare_strings_row), using(pm_words::proofs::WatchLaws::stays))]
 fn compare_strings(
     memory: &mut Memory,
@@ -60,7 +66,7 @@ fn compare_strings(
     push(memory, left.above, np, u16::from(found))
 }
 
-// Two truth values, by bit 0 alone.
+// Compares two truth values, by bit 0 only.
 #[tactic(auto, unfolding(crate::specs::Comparisons::compare_booleans_row), using(pm_words::proofs::WatchLaws::stays))]
 fn compare_booleans(
     memory: &mut Memory,
@@ -79,7 +85,7 @@ fn compare_booleans(
     push(memory, left.above, np, u16::from(found))
 }
 
-// Two ranges of bytes.
+// Compares two ranges of bytes.
 #[tactic(auto, unfolding(crate::specs::Comparisons::compare_bytes_row), using(pm_words::proofs::WatchLaws::stays))]
 fn compare_bytes(
     memory: &mut Memory,
@@ -100,7 +106,7 @@ fn compare_bytes(
     push(memory, left.above, np, u16::from(holds(relation, order)))
 }
 
-// Two ranges of words.
+// Compares two ranges of words.
 #[tactic(auto, unfolding(crate::specs::Comparisons::compare_words_row), using(pm_words::proofs::WatchLaws::stays))]
 fn compare_words(
     memory: &mut Memory,
@@ -127,7 +133,7 @@ fn compare_words(
     push(memory, left.above, np, u16::from(holds(relation, order)))
 }
 
-// Two sets, as sets of numbers.
+// Compares two sets, as sets of numbers.
 #[tactic(auto, unfolding(crate::specs::Comparisons::compare_sets_row), using(pm_words::proofs::WatchLaws::stays))]
 fn compare_sets(memory: &mut Memory, sp: u16, np: u16, relation: Relation) -> Result<u16, ExecError>
     ensures row { Changes result memory.old memory.new (compare_sets_row relation memory.old.words sp np) }
@@ -142,7 +148,7 @@ fn compare_sets(memory: &mut Memory, sp: u16, np: u16, relation: Relation) -> Re
     push(memory, left.above, np, u16::from(found))
 }
 
-// Whether a relation asks for equality alone.
+// Whether a relation is equality or inequality.
 fn is_equality(relation: Relation) -> bool
     ensures equality { result ≡ is_equality relation }
 {
@@ -152,7 +158,7 @@ fn is_equality(relation: Relation) -> bool
     }
 }
 
-// Whether sets have the relation.
+// Whether a relation is defined for sets.
 fn is_of_sets(relation: Relation) -> bool
     ensures sets { result ≡ is_of_sets relation }
 {
@@ -162,7 +168,7 @@ fn is_of_sets(relation: Relation) -> bool
     }
 }
 
-// Whether a relation holds of two values in an order.
+// Whether a relation is true for two values with this order.
 fn holds(relation: Relation, order: Ordering) -> bool
     ensures holds { result ≡ holds relation order }
 {
@@ -176,7 +182,7 @@ fn holds(relation: Relation, order: Ordering) -> bool
     }
 }
 
-// Whether a relation holds of two sets.
+// Whether a relation is true for two sets.
 fn holds_of_sets(relation: Relation, left: &[u16], right: &[u16]) -> bool
     ensures holds { result ≡ holds_of_sets relation left.now right.now }
 {
@@ -189,7 +195,7 @@ fn holds_of_sets(relation: Relation, left: &[u16], right: &[u16]) -> bool
     }
 }
 
-// Whether every number of the one set is in the other.
+// Whether every number of `left` is in `right`.
 fn is_subset(left: &[u16], right: &[u16]) -> bool
     ensures subset { result ≡ is_subset left.now right.now }
 {

@@ -1,4 +1,4 @@
-//! Bytes, and fields of words.
+//! Bytes, and packed fields of words.
 
 ghost use Rattle.std.specs.Prelude.{◌≡◌, ◌+◌, ◌≤◌, IfOk, Err};
 ghost use Rattle.pm_words.specs.Stack.{IsStack, Changes, demand};
@@ -10,8 +10,11 @@ use crate::stack::push_words;
 use pm_words::stack::{load, pop, push, store};
 use pm_words::{ExecError, Memory};
 
-/// `LDB`. Replaces a base and an index in bytes by the byte at their sum, and gives the new SP; `InvalidMemory` where
-/// there are too few words. An error changes nothing.
+/// `LDB`: pops an index in bytes and a base address, and pushes the byte at their sum. Returns the new SP.
+///
+/// # Errors
+///
+/// `InvalidMemory`: the stack has too few words. Nothing changes.
 #[tactic(auto, unfolding(crate::specs::Fields::load_byte_row), using(pm_words::proofs::WatchLaws::stays))]
 pub fn load_byte(memory: &mut Memory, sp: u16, np: u16) -> Result<u16, ExecError>
     ensures row { Changes result memory.old memory.new (load_byte_row memory.old.words sp np) }
@@ -23,8 +26,12 @@ pub fn load_byte(memory: &mut Memory, sp: u16, np: u16) -> Result<u16, ExecError
     push(memory, base.above, np, u16::from(byte))
 }
 
-/// `STB`. Takes a base, an index in bytes and a value from the stack, writes the value's low byte at their sum, and
-/// gives the new SP; `InvalidMemory` where there are too few words. An error changes nothing.
+/// `STB`: pops a value, an index in bytes and a base address, and writes the low byte of the value at the sum of index
+/// and base. Returns the new SP.
+///
+/// # Errors
+///
+/// `InvalidMemory`: the stack has too few words. Nothing changes.
 #[tactic(auto, unfolding(crate::specs::Fields::store_byte_row), using(pm_words::proofs::WatchLaws::stays))]
 pub fn store_byte(memory: &mut Memory, sp: u16, np: u16) -> Result<u16, ExecError>
     ensures row { Changes result memory.old memory.new (store_byte_row memory.old.words sp np) }
@@ -37,11 +44,17 @@ pub fn store_byte(memory: &mut Memory, sp: u16, np: u16) -> Result<u16, ExecErro
     Ok(base.above)
 }
 
-/// `IXP`. Replaces a base and an index in fields by the place of that field, which is the address of its word, its
-/// width and its lowest bit, the last on the top, and gives the new SP. The array packs `per_word` fields of `width`
-/// bits in each word, the first in the lowest bits. `InvalidMemory` where there are too few words; `InvalidIndex` for a
-/// negative index, for no fields a word, and for bits that are no field of a word; `StackOverflow`. An error changes
-/// nothing.
+/// `IXP`: pops an index in fields and a base address, and pushes the location of this field: the address of its word,
+/// its width, and its lowest bit, which is on top. Returns the new SP.
+///
+/// The array packs `per_word` fields of `width` bits into each word, the first field in the lowest bits.
+///
+/// # Errors
+///
+/// Nothing changes:
+/// - `InvalidMemory`: the stack has too few words.
+/// - `InvalidIndex`: the index is negative, `per_word` is 0, or the bits are not a field of a word.
+/// - `StackOverflow`: SP would be below NP.
 #[tactic(auto, unfolding(crate::specs::Fields::index_field_row), using(pm_words::proofs::WatchLaws::stays))]
 pub fn index_field(
     memory: &mut Memory,
@@ -66,9 +79,15 @@ pub fn index_field(
     push_words(memory, base.above, np, &[lowest, width, address])
 }
 
-/// `LDP`. Replaces the place of a field by the field, and gives the new SP. `InvalidMemory` where there are too few
-/// words; `InvalidIndex` for bits that are no field of a word; `InvalidMemory` for an odd address. An error changes
-/// nothing.
+/// `LDP`: pops the location of a field (its lowest bit, its width and the address of its word), and pushes the field.
+/// Returns the new SP.
+///
+/// # Errors
+///
+/// Nothing changes. Checked in this order:
+/// - `InvalidMemory`: the stack has too few words.
+/// - `InvalidIndex`: the bits are not a field of a word.
+/// - `InvalidMemory`: the address is odd.
 #[tactic(auto, unfolding(crate::specs::Fields::load_field_row), using(pm_words::proofs::WatchLaws::stays))]
 pub fn load_field(memory: &mut Memory, sp: u16, np: u16) -> Result<u16, ExecError>
     ensures row { Changes result memory.old memory.new (load_field_row memory.old.words sp np) }
@@ -87,9 +106,15 @@ pub fn load_field(memory: &mut Memory, sp: u16, np: u16) -> Result<u16, ExecErro
     )
 }
 
-/// `STP`. Takes the place of a field and a value from the stack, writes the value's low bits into the field, and gives
-/// the new SP. `InvalidMemory` where there are too few words; `InvalidIndex` for bits that are no field of a word;
-/// `InvalidMemory` for an odd address. An error changes nothing.
+/// `STP`: pops a value and the location of a field (its lowest bit, its width and the address of its word), and writes
+/// the low bits of the value to the field. Returns the new SP.
+///
+/// # Errors
+///
+/// Nothing changes. Checked in this order:
+/// - `InvalidMemory`: the stack has too few words.
+/// - `InvalidIndex`: the bits are not a field of a word.
+/// - `InvalidMemory`: the address is odd.
 #[tactic(auto, unfolding(crate::specs::Fields::store_field_row), using(pm_words::proofs::WatchLaws::stays))]
 pub fn store_field(memory: &mut Memory, sp: u16, np: u16) -> Result<u16, ExecError>
     ensures row { Changes result memory.old memory.new (store_field_row memory.old.words sp np) }
@@ -109,7 +134,7 @@ pub fn store_field(memory: &mut Memory, sp: u16, np: u16) -> Result<u16, ExecErr
     Ok(address.above)
 }
 
-// `InvalidIndex` where `width` bits from bit `lowest` on are no field of a word.
+// Returns `InvalidIndex` if `width` bits from bit `lowest` on are not a field of a word.
 fn check_field(lowest: u16, width: u16) -> Result<(), ExecError>
     ensures field { result ≡ demand (is_field lowest width) InvalidIndex }
 {
@@ -119,7 +144,7 @@ fn check_field(lowest: u16, width: u16) -> Result<(), ExecError>
     Ok(())
 }
 
-// The field of `width` bits from bit `lowest` on.
+// Returns the field of `width` bits from bit `lowest` on.
 fn extracted(word: u16, lowest: u16, width: u16) -> u16
     requires field { lowest + width ≤ 16 }
     ensures field { result ≡ field_of word lowest width }
@@ -129,7 +154,7 @@ fn extracted(word: u16, lowest: u16, width: u16) -> u16
     ((u32::from(word) / place) % size) as u16
 }
 
-// The word with the field of `width` bits from bit `lowest` on replaced.
+// Returns the word with the field of `width` bits from bit `lowest` on replaced by the low bits of `value`.
 fn replaced(word: u16, lowest: u16, width: u16, value: u16) -> u16
     requires field { lowest + width ≤ 16 }
     ensures word { result ≡ with_field word lowest width value }

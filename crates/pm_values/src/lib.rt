@@ -1,4 +1,4 @@
-//! The rows on bytes, fields, strings and sets in memory, and the typed comparisons.
+//! The instruction rules for bytes, packed fields, strings and sets, and the typed comparisons.
 #![tactic(auto)]
 
 mod comparisons;

@@ -24,7 +24,7 @@ const COUNTED_WORDS: usize = 256; // a set's words and their count
 
 const LAST_MEMBER: u16 = 4079;
 
-// How two sets make a third.
+// An operation on two sets.
 #[derive(Clone, Copy)]
 enum Combination {
     Intersection,
@@ -32,7 +32,8 @@ enum Combination {
     Difference,
 }
 
-// Where a set stands on the stack: its words from an even address on, how many they are, and the SP above it.
+// The location of a set on the stack: the even address of its first word, its number of words, and SP after the set is
+// popped.
 #[derive(Clone, Copy)]
 struct SetPlace {
     address: u16,
@@ -40,16 +41,20 @@ struct SetPlace {
     above: u16,
 }
 
-/// A set taken from the stack, and the SP above it.
+/// A set that was popped, and SP after the pop.
 #[derive(Drop)]
 pub struct StackSet {
     pub words: ArrayVec<u16, SET_WORDS>,
     pub above: u16,
 }
 
-/// `INN`. Replaces a value and a set by 1 or 0, whether the signed value is an element, and gives the new SP.
-/// `InvalidMemory` where there are too few words; `InvalidIndex` for a set of more than 255 words. An error changes
-/// nothing.
+/// `INN`: pops a set and a value, and pushes 1 if the signed value is in the set, otherwise 0. Returns the new SP.
+///
+/// # Errors
+///
+/// Nothing changes:
+/// - `InvalidMemory`: the stack has too few words.
+/// - `InvalidIndex`: the set has more than 255 words.
 #[tactic(auto, unfolding(crate::specs::Sets::in_set_row), using(pm_words::proofs::WatchLaws::stays))]
 pub fn in_set(memory: &mut Memory, sp: u16, np: u16) -> Result<u16, ExecError>
     ensures row { Changes result memory.old memory.new (in_set_row memory.old.words sp np) }
@@ -61,9 +66,15 @@ pub fn in_set(memory: &mut Memory, sp: u16, np: u16) -> Result<u16, ExecError>
     push(memory, value.above, np, u16::from(found))
 }
 
-/// `INT`. Replaces two sets by the set of the numbers in both, in as many words as the smaller has, and gives the new
-/// SP. For each operand, the top one first: `InvalidMemory` where there are too few words, `InvalidIndex` for a set of
-/// more than 255 words; then `StackOverflow`. An error changes nothing.
+/// `INT`: replaces two sets by their intersection, which has as many words as the smaller set. Returns the new SP.
+///
+/// # Errors
+///
+/// Nothing changes. Checked for the set on top first, then for the other one:
+/// - `InvalidMemory`: the stack has too few words.
+/// - `InvalidIndex`: the set has more than 255 words.
+///
+/// `StackOverflow` is checked last: SP would be below NP.
 #[tactic(auto, unfolding(crate::specs::Sets::intersect_row), using(pm_words::proofs::WatchLaws::stays))]
 pub fn intersect(memory: &mut Memory, sp: u16, np: u16) -> Result<u16, ExecError>
     ensures row { Changes result memory.old memory.new (intersect_row memory.old.words sp np) }
@@ -72,8 +83,11 @@ pub fn intersect(memory: &mut Memory, sp: u16, np: u16) -> Result<u16, ExecError
     combine(memory, sp, np, Combination::Intersection)
 }
 
-/// `UNI`. Replaces two sets by the set of the numbers in either, in as many words as the larger has, and gives the new
-/// SP. Errors as in `intersect`; an error changes nothing.
+/// `UNI`: replaces two sets by their union, which has as many words as the larger set. Returns the new SP.
+///
+/// # Errors
+///
+/// Those of `intersect`. Nothing changes.
 #[tactic(auto, unfolding(crate::specs::Sets::union_row), using(pm_words::proofs::WatchLaws::stays))]
 pub fn union(memory: &mut Memory, sp: u16, np: u16) -> Result<u16, ExecError>
     ensures row { Changes result memory.old memory.new (union_row memory.old.words sp np) }
@@ -82,8 +96,12 @@ pub fn union(memory: &mut Memory, sp: u16, np: u16) -> Result<u16, ExecError>
     combine(memory, sp, np, Combination::Union)
 }
 
-/// `DIF`. Replaces two sets by the set of the numbers in the lower and not in the upper one, in as many words as the
-/// lower set has, and gives the new SP. Errors as in `intersect`; an error changes nothing.
+/// `DIF`: replaces two sets by the numbers of the lower set in the stack that are not in the upper one. The result has
+/// as many words as the lower set. Returns the new SP.
+///
+/// # Errors
+///
+/// Those of `intersect`. Nothing changes.
 #[tactic(auto, unfolding(crate::specs::Sets::difference_row), using(pm_words::proofs::WatchLaws::stays))]
 pub fn difference(memory: &mut Memory, sp: u16, np: u16) -> Result<u16, ExecError>
     ensures row { Changes result memory.old memory.new (difference_row memory.old.words sp np) }
@@ -92,8 +110,14 @@ pub fn difference(memory: &mut Memory, sp: u16, np: u16) -> Result<u16, ExecErro
     combine(memory, sp, np, Combination::Difference)
 }
 
-/// `SGS`. Replaces a value by the set of that number alone, and gives the new SP. `InvalidMemory` where there are too
-/// few words; `InvalidIndex` for a value that is not 0 to 4,079; `StackOverflow`. An error changes nothing.
+/// `SGS`: replaces a value by the set that has only this number. Returns the new SP.
+///
+/// # Errors
+///
+/// Nothing changes. Checked in this order:
+/// - `InvalidMemory`: the stack has too few words.
+/// - `InvalidIndex`: the value is not in 0 to 4,079.
+/// - `StackOverflow`: SP would be below NP.
 #[tactic(auto, unfolding(crate::specs::Sets::singleton_row), using(pm_words::proofs::WatchLaws::stays))]
 pub fn singleton(memory: &mut Memory, sp: u16, np: u16) -> Result<u16, ExecError>
     ensures row { Changes result memory.old memory.new (singleton_row memory.old.words sp np) }
@@ -106,9 +130,15 @@ pub fn singleton(memory: &mut Memory, sp: u16, np: u16) -> Result<u16, ExecError
     push_words(memory, value.above, np, &interval(value.word, value.word))
 }
 
-/// `SRS`. Replaces two signed values by the set of the numbers from the lower word to the upper one, or by the set of
-/// no words if the first is the greater, and gives the new SP. `InvalidMemory` where there are too few words;
-/// `InvalidIndex` for a bound that is not 0 to 4,079; `StackOverflow`. An error changes nothing.
+/// `SRS`: replaces two signed values by the set of the numbers from the lower value in the stack to the upper one. If
+/// the lower one is the greater, the set has no words. Returns the new SP.
+///
+/// # Errors
+///
+/// Nothing changes. Checked in this order:
+/// - `InvalidMemory`: the stack has too few words.
+/// - `InvalidIndex`: the lower one is not the greater, and a value is not in 0 to 4,079.
+/// - `StackOverflow`: SP would be below NP.
 #[tactic(auto, unfolding(crate::specs::Sets::subrange_row), using(pm_words::proofs::WatchLaws::stays))]
 pub fn subrange(memory: &mut Memory, sp: u16, np: u16) -> Result<u16, ExecError>
     ensures row { Changes result memory.old memory.new (subrange_row memory.old.words sp np) }
@@ -125,9 +155,15 @@ pub fn subrange(memory: &mut Memory, sp: u16, np: u16) -> Result<u16, ExecError>
     push_words(memory, low.above, np, &interval(low.word, high.word))
 }
 
-/// `ADJ`. Replaces a set by `words` words without a count, cut or filled up by zeros at the end of the greatest
-/// elements, and gives the new SP. `InvalidMemory` where there are too few words; `InvalidIndex` for a set of more than
-/// 255 words; `StackOverflow`. An error changes nothing.
+/// `ADJ`: replaces a set by its first `words` words, without a count. If the set has fewer words, zeros follow. Returns
+/// the new SP.
+///
+/// # Errors
+///
+/// Nothing changes:
+/// - `InvalidMemory`: the stack has too few words.
+/// - `InvalidIndex`: the set has more than 255 words.
+/// - `StackOverflow`: SP would be below NP.
 #[tactic(auto, unfolding(crate::specs::Sets::adjust_row), using(pm_words::proofs::WatchLaws::stays))]
 pub fn adjust(memory: &mut Memory, sp: u16, np: u16, words: u8) -> Result<u16, ExecError>
     ensures row { Changes result memory.old memory.new (adjust_row words memory.old.words sp np) }
@@ -143,7 +179,7 @@ pub fn adjust(memory: &mut Memory, sp: u16, np: u16, words: u8) -> Result<u16, E
     Ok(top)
 }
 
-// Replaces two sets by the one that they make.
+// Replaces two sets by their combination.
 #[tactic(auto, using(pm_words::proofs::WatchLaws::stays))]
 fn combine(
     memory: &mut Memory,
@@ -171,8 +207,8 @@ fn combine(
     push_words(memory, lower.above, np, &set)
 }
 
-// Replaces two sets by the one that they make where that has as many words as the lower one: it stands in the lower
-// one's place.
+// Replaces two sets by their combination, if it has as many words as the lower set in the stack. It is written over the
+// lower set.
 #[inline(always)]
 #[tactic(auto, using(pm_words::proofs::WatchLaws::stays))]
 fn combine_in_place(
@@ -203,7 +239,7 @@ fn combine_in_place(
     Ok(top)
 }
 
-// Writes the words that two sets make over those of the lower one.
+// Overwrites the words of the lower set with those of the combination.
 #[inline(always)]
 fn write_combined(memory: &mut Memory, combination: Combination, lower: SetPlace, upper: SetPlace)
     requires lower_even { lower.address % 2 ≡ 0 }
@@ -227,7 +263,7 @@ fn write_combined(memory: &mut Memory, combination: Combination, lower: SetPlace
     }
 }
 
-// The set on the stack, left where it stands.
+// Returns the location of the set on top of the stack, without popping it.
 #[inline(always)]
 #[tactic(auto, unfolding(crate::specs::Sets::pop_set))]
 fn find_set(memory: &Memory, sp: u16) -> Result<SetPlace, ExecError>
@@ -256,7 +292,7 @@ fn find_set(memory: &Memory, sp: u16) -> Result<SetPlace, ExecError>
     })
 }
 
-// A word of a set that stands in memory, 0 past its end.
+// Returns a word of a set in memory, or 0 after its end.
 #[inline(always)]
 fn set_word(memory: &Memory, set: SetPlace, index: usize) -> u16
     requires even { set.address % 2 ≡ 0 }
@@ -270,7 +306,12 @@ fn set_word(memory: &Memory, set: SetPlace, index: usize) -> u16
     memory.word(set.address + 2 * index as u16).unwrap_or(0)
 }
 
-/// Takes a set from the stack.
+/// Returns the set on top of the stack, and SP after the pop.
+///
+/// # Errors
+///
+/// - `InvalidMemory`: the stack has too few words.
+/// - `InvalidIndex`: the set has more than 255 words.
 pub fn take_set(memory: &Memory, sp: u16) -> Result<StackSet, ExecError>
     ensures set { MatchResult result
         (λ s. pop_set memory.now.words sp ≡ Ok (record { members = s.words.items; above = s.above }))
@@ -286,7 +327,7 @@ pub fn take_set(memory: &Memory, sp: u16) -> Result<StackSet, ExecError>
     })
 }
 
-// The words from an even address on.
+// Returns `count` words from an even address on.
 fn words_on_stack(
     memory: &Memory,
     address: u16,
@@ -306,7 +347,7 @@ fn words_on_stack(
     Ok(words)
 }
 
-// Whether a number is in a set that stands in memory.
+// Whether a number is in a set in memory.
 #[tactic(auto, unfolding(crate::specs::Sets::is_member))]
 fn contains(memory: &Memory, set: SetPlace, value: u16) -> bool
     requires even { set.address % 2 ≡ 0 }
@@ -316,15 +357,15 @@ fn contains(memory: &Memory, set: SetPlace, value: u16) -> bool
     (set_word(memory, set, usize::from(value / 16)) >> (value % 16)) % 2 == 1
 }
 
-/// The word at a place, 0 past the end.
+/// Returns the word at `index`, or 0 after the end.
 pub fn word_or_zero(words: &[u16], index: usize) -> u16
     ensures word { result ≡ slice_index words.now index }
 {
     words.get(index).copied().unwrap_or(0)
 }
 
-// Puts the set that two sets in memory make into an empty list of words, its count first. The list is the caller's, so
-// that it is not copied.
+// Appends the combination of two sets in memory to an empty list of words, its count first. The list belongs to the
+// caller, so that it is not copied.
 #[inline(always)]
 fn combined(
     memory: &Memory,
@@ -357,7 +398,7 @@ fn combined(
     }
 }
 
-// Of how many words the set is that two sets make.
+// Returns the number of words of the combination of two sets with `lower` and `upper` words.
 fn combined_count(combination: Combination, lower: usize, upper: usize) -> usize
     ensures count { result ≡ count_of combination lower upper }
 {
@@ -368,7 +409,7 @@ fn combined_count(combination: Combination, lower: usize, upper: usize) -> usize
     }
 }
 
-// The word that two words of sets make.
+// Returns the combination of two words of sets.
 fn combined_word(combination: Combination, lower: u16, upper: u16) -> u16
     ensures word { result ≡ combined_word combination lower upper }
 {
@@ -379,7 +420,7 @@ fn combined_word(combination: Combination, lower: u16, upper: u16) -> u16
     }
 }
 
-// The set of the numbers from `low` to `high`, its count first.
+// Returns the set of the numbers from `low` to `high`, its count first.
 fn interval(low: u16, high: u16) -> ArrayVec<u16, COUNTED_WORDS>
     requires order { low ≤ high }
     requires bound { high ≤ 4079 }
@@ -395,7 +436,7 @@ fn interval(low: u16, high: u16) -> ArrayVec<u16, COUNTED_WORDS>
     words
 }
 
-// The word of an interval of numbers that begins with the number `first`.
+// Returns the word with the numbers `first` to `first + 15` of the set of the numbers from `low` to `high`.
 fn interval_word(low: u16, high: u16, first: u16) -> u16
     requires order { low ≤ high }
     requires bound { high ≤ 4079 }
@@ -406,7 +447,7 @@ fn interval_word(low: u16, high: u16, first: u16) -> u16
     ((1u32 << to) - (1u32 << from)) as u16
 }
 
-// Moves the words of a set to an even address, cut or filled up by zeros to `count` words.
+// Copies the first `count` words of a set to an even address. If the set has fewer words, zeros follow.
 #[inline(always)]
 fn resize(memory: &mut Memory, set: SetPlace, to: u16, count: u16)
     requires even { set.address % 2 ≡ 0 }

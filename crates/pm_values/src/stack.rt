@@ -1,4 +1,4 @@
-//! Several words put on the stack at once.
+//! Pushing several words.
 
 ghost use Rattle.std.specs.Prelude.{◌≡◌, ◌%◌, ◌≤◌, IfOk, length};
 ghost use Rattle.pm_words.specs.Stack.{IsStack, Changes};
@@ -6,8 +6,11 @@ ghost use Rattle.pm_values.specs.Several.{push_words};
 
 use pm_words::{ExecError, Memory};
 
-/// Puts words on the stack, the first of them on its top, and gives the new SP; `StackOverflow`,
-/// and nothing changed, where that would be below NP.
+/// Pushes words, the first of them on top of the stack, and returns the new SP.
+///
+/// # Errors
+///
+/// `StackOverflow`: SP would be below NP. Nothing changes.
 #[tactic(auto, using(pm_words::proofs::WatchLaws::stays))]
 pub fn push_words(memory: &mut Memory, sp: u16, np: u16, words: &[u16]) -> Result<u16, ExecError>
     requires even { sp % 2 ≡ 0 }

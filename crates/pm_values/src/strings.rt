@@ -8,9 +8,13 @@ ghost use Rattle.pm_values.specs.Strings.{assign_row, index_string_row, string_a
 use pm_words::stack::pop;
 use pm_words::{ExecError, Memory};
 
-/// `IXS`. Checks an index against the string whose address stands below it, leaves both, and gives the SP as it was.
-/// `InvalidMemory` where there are too few words; `InvalidIndex` for an index above the string's length, both unsigned.
-/// It changes nothing.
+/// `IXS`: checks that the index on top of the stack is not above the length of the string whose address is below it.
+/// Both remain on the stack. Returns SP, which is unchanged, as is everything else.
+///
+/// # Errors
+///
+/// - `InvalidMemory`: the stack has too few words.
+/// - `InvalidIndex`: the index is above the length of the string. Both are unsigned.
 #[tactic(auto, unfolding(crate::specs::Strings::index_string_row), using(pm_words::proofs::WatchLaws::stays))]
 pub fn index_string(memory: &mut Memory, sp: u16, np: u16) -> Result<u16, ExecError>
     ensures row { Changes result memory.old memory.new (index_string_row memory.old.words sp np) }
@@ -24,10 +28,15 @@ pub fn index_string(memory: &mut Memory, sp: u16, np: u16) -> Result<u16, ExecEr
     Ok(sp)
 }
 
-/// `SAS`. Takes a destination and a source from the stack, writes the source's length and characters to the
-/// destination, and gives the new SP. A source below 256 is one character, another the address of a string.
-/// `InvalidMemory` where there are too few words, or the string passes the end of memory; `StringTooLong` for more than
-/// `limit` characters; `InvalidMemory` where the destination passes the end. An error changes nothing.
+/// `SAS`: pops a source and a destination address, and writes the length and characters of the source at the
+/// destination. Returns the new SP. A source below 256 is a character, any other is the address of a string.
+///
+/// # Errors
+///
+/// Nothing changes. Checked in this order:
+/// - `InvalidMemory`: the stack has too few words, or the source extends after the end of memory.
+/// - `StringTooLong`: the source has more than `limit` characters.
+/// - `InvalidMemory`: the destination extends after the end of memory.
 #[tactic(auto, unfolding(crate::specs::Strings::assign_row), using(pm_words::proofs::WatchLaws::stays, crate::proofs::StringLaws::strings))]
 pub fn assign(memory: &mut Memory, sp: u16, np: u16, limit: u8) -> Result<u16, ExecError>
     ensures row { Changes result memory.old memory.new (assign_row limit memory.old.words sp np) }
@@ -54,7 +63,11 @@ pub fn assign(memory: &mut Memory, sp: u16, np: u16, limit: u8) -> Result<u16, E
     Ok(place.above)
 }
 
-/// The characters of the string at an address; `InvalidMemory` where they pass the end of memory.
+/// Returns the characters of the string at `address`.
+///
+/// # Errors
+///
+/// `InvalidMemory`: the characters extend after the end of memory.
 #[tactic(auto, unfolding(pm_words::specs::Words::byte_at, pm_words::specs::Words::bytes_at))]
 pub fn characters(memory: &Memory, address: u16) -> Result<&[u8], ExecError>
     ensures memory { IsMemory memory.now.words }

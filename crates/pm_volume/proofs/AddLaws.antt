@@ -1,4 +1,4 @@
--- What an added file leaves: the list of files with it, and its bytes.
+-- The volume after a file is added: its list of files, and the bytes of the new file.
 use Rattle.std.proofs.Common.{◌≡◌, ◌≤◌, ℕ, ◌+◌, ◌-◌, ◌*◌, List, [], ◌∷◌, ◌∙◌, ap, sym, refl, inl, inr, length, Some, arith}
 use Rattle.std.proofs.lemmas.Bool.{cases_lt, le-leb, lt-leb}
 use Rattle.std.proofs.lemmas.List.{take_all}
@@ -19,7 +19,7 @@ empty (x ∷ xs) h = absurd (omega arith)
 
 module _ (image name bytes : List ℕ) (kind date : ℕ) (g : Gap) (v : IsVolume image)
     (p : IsPlaced image name (blocks_for (length bytes)) g) (fit : FitsSlot (new_entry g name kind (length bytes) date)) where
-  -- the files are those before and the new one
+  -- The files are the old ones and the new one.
   pub files-added : files_of (with_file image g.place (new_entry g name kind (length bytes) date) bytes)
       ≡ insert (files_of image) (g.place - 1) (new_entry g name kind (length bytes) date)
   files-added =
@@ -35,7 +35,7 @@ module _ (image name bytes : List ℕ) (kind date : ℕ) (g : Gap) (v : IsVolume
       rw (listed, count) (entries-with_slot d slot g.place whole size r.few r.first r.last
       ∙ ap (insert (files_of image) (g.place - 1)) (entry_of-slot_of e fit))
 
-  -- the file has the bytes handed in
+  -- The file has the given bytes.
   pub bytes-added : file_bytes (with_file image g.place (new_entry g name kind (length bytes) date) bytes) (new_entry g name kind (length bytes) date)
       ≡ Some bytes
   unfolding file_bytes

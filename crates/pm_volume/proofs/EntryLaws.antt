@@ -1,4 +1,4 @@
--- An entry reads back from its slot.
+-- Reading an entry from its slot returns the entry.
 use Rattle.byteorder.specs.Endian.{little_bytes}
 use Rattle.std.proofs.Math.Nat.{mod-eq_of_lt}
 use Rattle.std.proofs.Common.{◌≡◌, ◌≤◌, ℕ, ◌+◌, ◌-◌, ◌%◌, List, ◌∙◌, ap, refl, length, get_or, slice_range, arith}
@@ -56,7 +56,7 @@ module _ (e : Entry) (f : FitsSlot e) where
   unfolding s6
   l6 = length-written s5 24 (little_bytes 2 e.date) (omega (arith, l5)) ∙ l5
 
-  -- a word below the name survives the name, the bytes of the last block and the date
+  -- Writing the name, the number of bytes of the last block and the date does not change a word before the name.
   stay : (place : ℕ) → place + 2 ≤ 6 → word_in s6 place ≡ word_in s3 place
   unfolding s4 s5 s6
   stay place below =

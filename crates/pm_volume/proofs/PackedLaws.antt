@@ -1,4 +1,4 @@
--- Files moved together, one after the other.
+-- Moving files together, one after the other.
 use Rattle.std.proofs.Common.{◌≡◌, ◌==◌, ◌<◌, ◌≤◌, ◌⊎◌, ℕ, zero, suc, ◌+◌, ◌-◌, ◌*◌, List, [], ◌∷◌, ◌∙◌, ap, sym, refl, inl, inr, length, get_or, arith}
 use Rattle.std.proofs.lemmas.Bool.{cases_Bool}
 use Rattle.std.specs.List.{AllZip}
@@ -14,7 +14,7 @@ use Rattle.pm_volume.proofs.SlotRemoval.{earlier}
 use Rattle.pm_volume.proofs.PackLaws.{entries-behind, entry-moved, length-moved, moved_inside, moved_outside}
 use Rattle.pm_volume.proofs.WrittenLaws.{length-directory, same_parts}
 
--- a file goes past the one before it, and never up
+-- The new first block of a file is not before the end of the file before it.
 pub new_place-after : (from : ℕ) (e : Entry) → from ≤ e.first → from ≤ new_place from e
 new_place-after from e after = elim (cases_Bool (e.kind == 1)) [
   | inl bad ↦ rw bad after
@@ -27,7 +27,7 @@ new_place-down from e after = elim (cases_Bool (e.kind == 1)) [
   | inr other ↦ rw other after
 ]
 
--- files in order stay so where they are moved together
+-- Files in order are in order after they are moved together.
 pub order-packed : (blocks from : ℕ) (es : List Entry) → AreInOrder blocks from es → AreInOrder blocks from (packed from es)
 unfolding AreInOrder packed
 order-packed blocks from [] order = tt
@@ -54,7 +54,7 @@ unfolding packed
 length-packed from [] = refl
 length-packed from (e ∷ es) = ap suc (length-packed (new_place from e + (e.end - e.first)) es)
 
--- the files from slot n on, in order: the one in slot n and the rest
+-- The files from slot `n` on, in order: the one in slot `n` and the others.
 pub order-more : (d : List ℕ) (blocks from n end : ℕ) → n < end → AreInOrder blocks from (entries_from d n (end - n))
     → IsSoundEntry from (entry_in d n) × ((entry_in d n).end ≤ blocks) × AreInOrder blocks (entry_in d n).end (entries_from d (n + 1) (end - (n + 1)))
 unfolding AreInOrder
@@ -62,7 +62,7 @@ order-more d blocks from n end below order =
     let more = entries_from-more d n end below in
     rw more at order
 
--- moving the files from slot n on is moving the one in slot n and then the rest
+-- Moving the files from slot `n` on is moving the one in slot `n` and then the others.
 pub packed_image-more : (image : List ℕ) (n from end : ℕ) → n < end → packed_image image n from (end - n)
     ≡ packed_image (with_moved image n (entry_in (directory_of image) n) (new_place from (entry_in (directory_of image) n))) (n + 1)
     (new_place from (entry_in (directory_of image) n) + ((entry_in (directory_of image) n).end - (entry_in (directory_of image) n).first)) (end - (n + 1))
@@ -77,7 +77,8 @@ packed_image-done image n from end over =
     let e : end - n ≡ 0 = omega arith in
     rw e
 
--- the file in slot n, those from there on being in order: where it goes, and what is left to move
+-- The file in slot `n`, if the files from there on are in order: its new block, and the files that are still to be
+-- moved.
 module _ (image : List ℕ) (blocks n from end : ℕ) (long : 3072 ≤ length image) (room : 512 * blocks ≤ length image) (few : end ≤ 78) (below : n < end)
     (past : 6 ≤ from) (order : AreInOrder blocks from (entries_from (directory_of image) n (end - n))) where
   file : Entry
@@ -121,7 +122,7 @@ module _ (image : List ℕ) (blocks n from end : ℕ) (long : 3072 ≤ length im
       (n + 1) (end - (n + 1)) (omega arith) (omega arith) in
       rw same (earlier blocks (to + (f.end - f.first)) f.end _ (omega (arith, file-ordered)) sound.2)
 
--- a place below those that change: before the slots and the directory's end
+-- An offset before the bytes that change.
 pub spans-outside : (blocks place n from : ℕ) (es : List Entry) → AreInOrder blocks from es → n + length es ≤ 78
     → (place < 1024 + 26 * n) ⊎ (3072 ≤ place) → place < 512 * from → IsOutside place (packed_spans n (packed from es))
 unfolding AreInOrder packed packed_spans
@@ -147,11 +148,11 @@ spans-outside blocks place n from (e ∷ es) order few side below =
     next place n (inl low) = inl (omega arith)
     next place n (inr high) = inr high
 
--- the blocks of each of two lists of files agree
+-- The blocks of two files are equal.
 abbrev pub SameBlocks : List ℕ → List ℕ → Entry → Entry → Type 0
 SameBlocks old new e f = blocks_of new f ≡ blocks_of old e
 
--- blocks agree with those of an image before, where it has the same
+-- Blocks that are equal to those of an image are equal to those of another one that has the same bytes there.
 zip-before : (image image' new : List ℕ) (blocks from : ℕ) (es fs : List Entry) → AreInOrder blocks from es
     → ((e : Entry) → from ≤ e.first → e.first ≤ e.end → e.end ≤ blocks → blocks_of image' e ≡ blocks_of image e)
     → AllZip (SameBlocks image' new) es fs → AllZip (SameBlocks image new) es fs
@@ -164,20 +165,20 @@ zip-before image image' new blocks from (e ∷ es) (f ∷ fs) order same zip = (
   zip-before image image' new blocks e.end es fs order.2 (λ x after. same x (omega (arith, order.0.after, order.0.ordered))) zip.1,
 )
 
--- what moving the files es from slot n on gives: their entries fs, their blocks, and all else
+-- The image after the files `es` from slot `n` on are moved: their entries `fs`, their blocks, and all other bytes.
 pub record Packs (n left : ℕ) (es fs : List Entry) (old new : List ℕ) : Type 0 where
   pub entries : entries_from (directory_of new) n left ≡ fs
   pub blocks : AllZip (SameBlocks old new) es fs
   pub rest : ChangesOnly (packed_spans n fs) old new
 
--- two directories with the same bytes in a slot
+-- Two directories with the same bytes in a slot have the same entry there.
 slot_same : (xs ys : List ℕ) (n : ℕ) → length xs ≡ 2048 → length ys ≡ 2048 → n ≤ 77
     → ((k : ℕ) → k < 26 → get_or xs (26 * n + k) 0 ≡ get_or ys (26 * n + k) 0) → entry_in xs n ≡ entry_in ys n
 slot_same xs ys n left right few same =
     let width : 26 * n + 26 - 26 * n ≡ 26 = omega arith in
     ap entry_of (rw width (same_parts xs ys (26 * n) (26 * n) 26 (omega arith) (omega arith) same))
 
--- the file in slot n moved, and then those behind it
+-- The file in slot `n` is moved, and then those after it.
 module _ (image : List ℕ) (n left from blocks : ℕ) (es : List Entry) (new : List ℕ) (long : 3072 ≤ length image) (room : 512 * blocks ≤ length image)
     (fits : blocks < 65536) (few : n + suc left ≤ 78) (past : 6 ≤ from) (sound : IsSoundEntry from (entry_in (directory_of image) n))
     (within : (entry_in (directory_of image) n).end ≤ blocks) (order : AreInOrder blocks (entry_in (directory_of image) n).end es)
@@ -232,7 +233,7 @@ module _ (image : List ℕ) (n left from blocks : ℕ) (es : List Entry) (new : 
     whole : length new ≡ length image
     whole = ih.rest.size ∙ size
 
-    -- a place that later moves leave
+    -- An offset whose byte later moves do not change.
     left_alone : (place : ℕ) → (place < 1024 + 26 * (n + 1)) ⊎ (3072 ≤ place) → place < 512 * end → get_or new place 0 ≡ get_or image' place 0
     left_alone place side below = ih.rest.rest place (spans-outside blocks place (n + 1) end es order' (omega (arith, few, count)) side below)
 
@@ -289,7 +290,7 @@ module _ (image : List ℕ) (n left from blocks : ℕ) (es : List Entry) (new : 
       };
     }
 
--- moving all the files from slot n on
+-- Moving all files from slot `n` on.
 pub packs : (left n from blocks : ℕ) (image : List ℕ) → 3072 ≤ length image → 512 * blocks ≤ length image → blocks < 65536 → n + left ≤ 78 → 6 ≤ from
     → AreInOrder blocks from (entries_from (directory_of image) n left)
     → Packs n left (entries_from (directory_of image) n left) (packed from (entries_from (directory_of image) n left)) image (packed_image image n from left)

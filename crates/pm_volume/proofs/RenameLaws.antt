@@ -16,7 +16,7 @@ use Rattle.pm_volume.proofs.NameLaws.{length-name_field}
 use Rattle.pm_volume.proofs.SlotChanges.{entries_from-add, entries_from-same, first_entry, length-entries_from}
 use Rattle.pm_volume.proofs.WrittenLaws.{get_written_below, get_written_in, length-directory, length-written, same_parts, word_in-above, word_in-below}
 
--- a byte and a word of a slot
+-- A byte and a word of a slot.
 pub slot_byte : (d : List ℕ) (n k : ℕ) → k < 26 → get_or (slice_range d (26 * n) (26 * n + 26)) k 0 ≡ get_or d (26 * n + k) 0
 slot_byte d n k below =
     let size : 26 * n + 26 - 26 * n ≡ 26 = omega arith in
@@ -28,14 +28,14 @@ slot_word d n place below =
     let at : 26 * n + (place + 1) ≡ (26 * n + place) + 1 = omega arith in
     rw (slot_byte d n place (omega arith), slot_byte d n (place + 1) (omega arith), at) refl
 
--- files in order stay so where one is described otherwise
+-- Files in order are in order after one entry is replaced by another that is valid wherever the old one is.
 pub order-named : (blocks from : ℕ) (xs : List Entry) (e e' : Entry) (ys : List Entry) → ((f : ℕ) → IsSoundEntry f e → IsSoundEntry f e')
     → e'.end ≡ e.end → AreInOrder blocks from (xs ++ e ∷ ys) → AreInOrder blocks from (xs ++ e' ∷ ys)
 unfolding AreInOrder
 order-named blocks from [] e e' ys sound end order = (sound from order.0, omega (arith, end, order.1), rw end order.2)
 order-named blocks from (x ∷ xs) e e' ys sound end order = (order.0, order.1, order-named blocks x.end xs e e' ys sound end order.2)
 
--- the file in a slot, those before it and those behind it
+-- The file in a slot, those before it and those after it.
 pub files-split : (d : List ℕ) (n : ℕ) → 1 ≤ n → n ≤ file_count d
     → files_in d ≡ entries_from d 1 (n - 1) ++ entry_in d n ∷ entries_from d (n + 1) (file_count d - n)
 files-split d n from within =

@@ -1,4 +1,4 @@
--- A second copy that is dropped, or put in the place of the first.
+-- Removing a second copy, and writing it over the first.
 use Rattle.std.proofs.Common.{◌≡◌, ◌<◌, ◌≤◌, ◌⊎◌, false, true, ℕ, ◌+◌, List, [], ◌∷◌, ◌∙◌, inl, inr, refl, length, drop, get_or, arith, length-take}
 use Rattle.std.proofs.Common.{length-drop}
 use Rattle.std.proofs.lemmas.Bool.{cases_Bool}
@@ -22,7 +22,7 @@ use Rattle.pm_volume.proofs.OrderLaws.{IsWithin}
 use Rattle.pm_volume.proofs.SlotRemoval.{earlier}
 use Rattle.pm_volume.proofs.WrittenLaws.{get_written_above, get_written_below, length-written, same_parts}
 
--- a second copy that is dropped
+-- A volume with a second copy, which is removed.
 module _ (image : List ℕ) (v : IsVolume image) (said : has_second image ≡ true) where
   ten : files_begin (directory_of image) ≡ 10
   ten = second_said image v said
@@ -102,7 +102,7 @@ module _ (image : List ℕ) (v : IsVolume image) (said : has_second image ≡ tr
   pub HasCopies-dropped : HasCopies (singled image) Single
   HasCopies-dropped = rw (same, directory) six
 
--- a volume that has no second copy to drop
+-- A volume without a second copy.
 module _ (image : List ℕ) (v : IsVolume image) (none : has_second image ≡ false) where
   pub singled-none : singled image ≡ image
   unfolding singled
@@ -131,7 +131,7 @@ HasCopies-singled image v = elim (cases_Bool (has_second image)) [
   | inr none ↦ HasCopies-none image v none
 ]
 
--- an image whose first copy alone is bad is a volume with the second in its place
+-- If only the first copy is damaged, the image with the second copy written over it is a volume.
 pub IsVolume-restored : (image : List ℕ) → IsFirstBad image → IsVolume (restored image)
 unfolding restored
 IsVolume-restored image b =

@@ -11,7 +11,7 @@ use Rattle.pm_volume.specs.Entries.{AreInOrder, entry_of}
 use Rattle.pm_volume.specs.declared.entry.Entry.{Entry}
 use Rattle.pm_volume.proofs.WrittenLaws.{get_written_above, get_written_below, get_written_in, get_written_outside, length-written, same_parts, word_in-written}
 
--- the entries of one directory are those of another, so many slots on
+-- The entries of one directory are those of another, shifted by a number of slots.
 pub entries_from-same : (d d' : List ℕ) (left i j : ℕ) → ((k : ℕ) → k < left → entry_in d (i + k) ≡ entry_in d' (j + k))
     → entries_from d i left ≡ entries_from d' j left
 unfolding entries_from
@@ -65,7 +65,7 @@ module _ (d slot : List ℕ) (n : ℕ) (whole : length d ≡ 2048) (size : lengt
           length-drop (26 * n) d,
         )
 
-    -- the byte at a place
+    -- A byte by its offset.
     get_with_slot_below : (k : ℕ) → 18 ≤ k → k < 26 * n → get_or (with_slot d n slot) k 0 ≡ get_or d k 0
     unfolding with_slot moved
     get_with_slot_below k after below =
@@ -139,7 +139,7 @@ module _ (d slot : List ℕ) (n : ℕ) (whole : length d ≡ 2048) (size : lengt
         (λ k small. let place : 26 * (m + 1) + k ≡ 26 + (26 * m + k) = omega arith in
         rw place (get_with_slot_above (26 * m + k) (omega arith) (omega arith)))))
 
-    -- the entries with the new one in its place
+    -- The entries with the new one inserted.
     pub entries-with_slot : entries_from (with_slot d n slot) 1 (file_count d + 1)
         ≡ insert (entries_from d 1 (file_count d)) (n - 1) (entry_of slot)
     entries-with_slot =
@@ -187,7 +187,7 @@ module _ (d slot : List ℕ) (n : ℕ) (whole : length d ≡ 2048) (size : lengt
         let same = length-written d (26 * n) moved room in
         word_in-written (written d (26 * n) moved) 16 (file_count d + 1) (omega (arith, same, whole)) (omega (arith, free))
 
-    -- a directory with one more file in order is one
+    -- A directory with one more file, in order, is a directory.
     pub IsDirectory-with_slot : (blocks : ℕ) → IsDirectory d blocks
         → AreInOrder (block_count d) (files_begin d) (insert (files_in d) (n - 1) (entry_of slot))
         → IsDirectory (with_slot d n slot) blocks
@@ -208,5 +208,5 @@ module _ (d slot : List ℕ) (n : ℕ) (whole : length d ≡ 2048) (size : lengt
           in_order = rw (total, begins, files) order;
         }
 
--- how many entries there are
+-- The number of entries.
 pub ruleset entry_counts = (length-entries_from)

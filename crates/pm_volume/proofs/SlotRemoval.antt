@@ -22,7 +22,7 @@ unfolding AreInOrder
 earlier blocks from later [] h order = tt
 earlier blocks from later (x ∷ xs) h order = (IsSound-later later from x (omega (arith, order.0.after)) order.0, order.1, order.2)
 
--- files in order stay so where one goes
+-- Files in order are in order after one is removed.
 order-remove : (blocks from k : ℕ) (es : List Entry) → AreInOrder blocks from es → AreInOrder blocks from (remove es k)
 unfolding AreInOrder
 order-remove blocks from zero [] order = tt

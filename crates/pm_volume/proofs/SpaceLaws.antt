@@ -7,7 +7,7 @@ use Rattle.pm_volume.specs.declared.gap.Gap.{Gap}
 use Rattle.pm_volume.proofs.DirectoryLaws.{entries_from-more}
 
 module _ (f : ℕ → Gap → ℕ) (a : ℕ) (directory : List ℕ) (blocks n from end : ℕ) where
-  -- the gap before the next entry counts, and then those behind it
+  -- The gap before the next entry counts, and then those after it.
   pub fold-next : n < end
       → fold f a (gaps blocks n from (entries_from directory n (end - n)))
       ≡ fold f (f a (record { place = n; begin = from; end = (entry_in directory n).first }))

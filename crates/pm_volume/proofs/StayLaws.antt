@@ -1,4 +1,4 @@
--- What a change leaves as it was.
+-- What a change keeps.
 use Rattle.byteorder.specs.Endian.{little_bytes}
 use Rattle.std.proofs.Common.{◌≡◌, ◌<◌, ◌≤◌, ◌⊎◌, ℕ, ◌+◌, ◌-◌, ◌*◌, ◌/◌, List, [], ◌∷◌, ◌∙◌, ap, refl, inl, inr, length, drop, get_or, arith, Some}
 use Rattle.std.proofs.lemmas.Bool.{cases_lt, le-leb, lt-leb}
@@ -27,13 +27,13 @@ use Rattle.pm_volume.proofs.WrittenLaws.{same_parts, shifted}
 pub directory_byte : (image : List ℕ) (k : ℕ) → k < 2048 → get_or (directory_of image) k 0 ≡ get_or image (1024 + k) 0
 directory_byte image k below = get_or-take 2048 (drop 1024 image) k 0 below ∙ get_or-drop 1024 image k 0
 
--- a byte of an image whose directory is another one
+-- A byte outside the directory, in an image with another directory.
 pub with_directory_outside : (image d : List ℕ) (place : ℕ) → 3072 ≤ length image → length d ≡ 2048 → (place < 1024) ⊎ (3072 ≤ place)
     → get_or (with_directory image d) place 0 ≡ get_or image place 0
 with_directory_outside image d place long size (inl below) = get_written_below image 1024 d place (omega arith) below
 with_directory_outside image d place long size (inr above) = get_written_above image 1024 d place (omega arith) (omega arith)
 
--- an image with another directory is the same where the directory is
+-- An image with another directory has the same byte wherever the directories have.
 pub with_directory_same : (image d : List ℕ) (place : ℕ) → 3072 ≤ length image → length d ≡ 2048
     → (1024 ≤ place → place < 3072 → get_or d (place - 1024) 0 ≡ get_or (directory_of image) (place - 1024) 0)
     → get_or (with_directory image d) place 0 ≡ get_or image place 0
@@ -52,7 +52,7 @@ with_directory_same image d place long size same = elim (cases_lt place 1024) [
 pub length-with_directory : (image d : List ℕ) → 3072 ≤ length image → length d ≡ 2048 → length (with_directory image d) ≡ length image
 length-with_directory image d long size = length-written image 1024 d (omega arith)
 
--- a file keeps its bytes where no byte of its blocks changes
+-- A file keeps its bytes if no byte of its blocks changes.
 pub FileStays-from_outside : (old new : List ℕ) (e : Entry) → length new ≡ length old → 512 * e.end ≤ length old
     → e.first ≤ e.end → (e.first < e.end → e.last_bytes ≤ 512)
     → ((place : ℕ) → 512 * e.first ≤ place → place < 512 * e.end → get_or new place 0 ≡ get_or old place 0)
@@ -73,11 +73,11 @@ FileStays-from_outside old new e size within ordered one_block same = record {
       (λ k below. same (512 * e.first + k) (omega arith) (omega arith));
 }
 
--- the files of a volume, each by where it lies
+-- The blocks of the files of a volume are within the volume.
 pub files_within : (image : List ℕ) → IsVolume image → All (IsWithin (files_begin (directory_of image)) (block_count (directory_of image))) (files_of image)
 files_within image v = all_within (block_count (directory_of image)) (files_begin (directory_of image)) (files_of image) v.has_directory.in_order
 
--- all files keep their bytes where the directory alone is another one
+-- All files keep their bytes if only the directory changes.
 pub FilesStay-with_directory : (image d : List ℕ) → IsVolume image → length d ≡ 2048 → FilesStay image (with_directory image d)
 FilesStay-with_directory image d v size =
     All-weaker (IsWithin (files_begin (directory_of image)) (block_count (directory_of image))) (FileStays image (with_directory image d))
@@ -88,7 +88,7 @@ FilesStay-with_directory image d v size =
     (inr (omega (arith, w.after, past_directory (directory_of image) (length image / 512) v.has_directory)))))
     (files_of image) (files_within image v)
 
--- what another directory changes, where the rest of the directory is the same
+-- The bytes that another directory changes.
 pub ChangesOnly-with_directory : (image d : List ℕ) (spans : List Span) → 3072 ≤ length image → length d ≡ 2048
     → ((place : ℕ) → IsOutside place spans → 1024 ≤ place → place < 3072 → get_or d (place - 1024) 0 ≡ get_or (directory_of image) (place - 1024) 0)
     → ChangesOnly spans image (with_directory image d)
@@ -97,7 +97,7 @@ ChangesOnly-with_directory image d spans long size same = record {
   rest = λ place out. with_directory_same image d place long size (same place out);
 }
 
--- what the removal of a file changes but for the second copy
+-- The bytes that removing a file changes, except for the second copy.
 abbrev pub removed_first : List ℕ → ℕ → List Span
 removed_first directory n = count_span ∷ slots_span n (file_count directory + 1) ∷ []
 

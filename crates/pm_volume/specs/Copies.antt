@@ -14,36 +14,36 @@ use Rattle.pm_volume.specs.declared.fields.TheConstants.{DIRECTORY, PAST_DIRECTO
 unfoldable pub has_second : List ℕ → Bool
 has_second image = nat_le SECOND_END (length image) && (files_begin (directory_of image) == PAST_SECOND)
 
--- what an image has of its directory: one copy, two that are the same, or two that differ
+-- The copies of its directory that an image has: one, two that are equal, or two that differ.
 abbrev pub HasCopies : List ℕ → Copies → Type 0
 HasCopies image Single = files_begin (directory_of image) ≡ PAST_DIRECTORY
 HasCopies image Same = (files_begin (directory_of image) ≡ PAST_SECOND) × (second_of image ≡ directory_of image)
 HasCopies image Differs = (files_begin (directory_of image) ≡ PAST_SECOND) × (second_of image ≢ directory_of image)
 
--- after a change there are as many copies as before, and two are the same
+-- A change keeps the number of copies, and two copies are equal after it.
 pub record CopiesStay (old new : List ℕ) : Type 0 where
   pub single : files_begin (directory_of old) ≡ PAST_DIRECTORY → HasCopies new Single
   pub same : files_begin (directory_of old) ≡ PAST_SECOND → HasCopies new Same
 
--- an image with blocks 2 to 5 copied to blocks 6 to 9, where it has a second copy
+-- The image with blocks 2 to 5 copied to blocks 6 to 9, if it has a second copy.
 unfoldable pub mirrored : List ℕ → List ℕ
 mirrored image = if has_second image then written image SECOND (directory_of image) else image
 
--- these spans, and the second copy where a directory has one
+-- The spans, with that of the second copy if the directory has one.
 abbrev pub and_second : List ℕ → List Span → List Span
 and_second directory spans = if files_begin directory == PAST_SECOND then second_span ∷ spans else spans
 
--- an image with its second copy in the place of the first
+-- The image with its second copy written over the first.
 unfoldable pub restored : List ℕ → List ℕ
 restored image = written image DIRECTORY (second_of image)
 
--- the volume that an image with this fault or none is or becomes, or why there is none
+-- The volume that an image with this fault, or with none, is after a repair, or the fault if it cannot be repaired.
 abbrev pub repaired_from : List ℕ → Option VolumeFault → Result (List ℕ) VolumeFault
 repaired_from image None = Ok image
 repaired_from image (Some (FirstCopyBad number)) = Ok (restored image)
 repaired_from image (Some fault) = Err fault
 
--- an image that can be opened as it is, one whose first copy alone is bad with its second in that place, or why it is
--- no volume
+-- The image itself if it is a volume; with the second copy written over the first if only the first is damaged;
+-- otherwise its fault.
 unfoldable pub repaired : List ℕ → Result (List ℕ) VolumeFault
 repaired image = repaired_from image (image_fault image)

@@ -7,19 +7,20 @@ use Rattle.pm_volume.specs.Names.{characters_of, is_same_name}
 use Rattle.pm_volume.specs.declared.entry.Entry.{Entry}
 use Rattle.pm_bytes.specs.declared.blocks.TheConstants.{BLOCK}
 
--- the files of an image in block order
+-- The entries of the files of an image, in block order.
 abbrev pub files_of : List ℕ → List Entry
 files_of image = files_in (directory_of image)
 
--- whether an entry has this name
+-- Whether an entry has this name.
 abbrev pub is_named : List ℕ → Entry → Bool
 is_named name e = is_same_name (characters_of e.name) name
 
--- the first file of a name
+-- The entry of the first file with this name.
 abbrev pub file_named : List ℕ → List ℕ → Option Entry
 file_named image name = find (is_named name) (files_of image)
 
--- the bytes of a file: its blocks with the last one cut, none if they leave the image; a file without blocks is empty
+-- The bytes of a file: its blocks, of which the last is cut. `None` if these bytes are not all in the image. A file
+-- without blocks is empty.
 unfoldable pub file_bytes : List ℕ → Entry → Option (List ℕ)
 file_bytes image e =
     let end = BLOCK * (e.end - 1) + e.last_bytes in

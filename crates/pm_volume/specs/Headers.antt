@@ -11,12 +11,12 @@ use Rattle.pm_volume.specs.declared.fields.TheConstants.{DIRECTORY_SIZE, HEADER_
 use Rattle.pm_volume.specs.declared.fields.TheConstants.{HEADER_NAME, LONGEST_VOLUME_NAME, PAST_DIRECTORY}
 use Rattle.pm_bytes.specs.declared.blocks.TheConstants.{BLOCK}
 
--- the date that a volume was last set to
+-- The last date of a volume that was set.
 abbrev pub last_date_of : List ℕ → ℕ
 last_date_of directory = word_in directory HEADER_DATE
 
--- a directory without files: the block past it, the volume's name, its number of blocks and its last date; all else is
--- zero
+-- A directory without files: the block at which files begin, the volume's name, its number of blocks and its last date.
+-- All else is zero.
 unfoldable pub new_directory : ℕ → List ℕ → ℕ → ℕ → List ℕ
 new_directory past name blocks date =
     with_word_in
@@ -26,24 +26,24 @@ new_directory past name blocks date =
     HEADER_BLOCKS blocks)
     HEADER_DATE date
 
--- the image of a new volume: zeros but for its directory in blocks 2 to 5
+-- The image of a new volume. All bytes are zero, except for the directory in blocks 2 to 5.
 abbrev pub blank_image : List ℕ → ℕ → List ℕ
 blank_image name blocks = with_directory (zeros (BLOCK * blocks)) (new_directory PAST_DIRECTORY name blocks 0)
 
--- why there is no volume of this name with so many blocks
+-- The fault of a new volume of this name and number of blocks.
 unfoldable pub blank_fault : List ℕ → ℕ → Option VolumeFault
 blank_fault name blocks =
     if not (is_new_name LONGEST_VOLUME_NAME name) then Some BadName
     else (if nat_lt blocks PAST_DIRECTORY then Some BadHeader else None)
 
--- the image with a new directory of this name, where files begin as before, of as many blocks and with the same last
--- date
+-- The image with a new directory of this name. Files begin at the old block, and the number of blocks and the last date
+-- are unchanged.
 abbrev pub zeroed_image : List ℕ → List ℕ → List ℕ
 zeroed_image image name =
     let directory = directory_of image in
     mirrored (with_directory image
     (new_directory (files_begin directory) name (block_count directory) (last_date_of directory)))
 
--- the image with another last date
+-- The image with another last date.
 abbrev pub dated_image : List ℕ → ℕ → List ℕ
 dated_image image date = mirrored (with_directory image (with_word_in (directory_of image) HEADER_DATE date))

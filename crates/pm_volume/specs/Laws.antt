@@ -1,4 +1,4 @@
--- What a second copy of the directory is good for.
+-- Laws of the second copy of the directory.
 use Rattle.std.specs.Prelude.{◌≡◌, ◌⊎◌, ℕ, ◌%◌, true, List, length, Some, None, Ok}
 use Rattle.std.specs.List.{All}
 use Rattle.pm_volume.specs.Copies.{HasCopies, repaired}
@@ -11,8 +11,8 @@ use Rattle.pm_volume.specs.declared.fault.VolumeFault.TheVariants.{FirstCopyBad}
 use Rattle.pm_volume.specs.declared.fields.TheConstants.{DIRECTORY, DIRECTORY_SIZE}
 use Rattle.pm_bytes.specs.declared.blocks.TheConstants.{BLOCK}
 
--- an image is refused for its first copy alone, and repaired it is a volume with the files of the second copy, each
--- with its bytes
+-- Only the first copy of the image is damaged. After a repair, the image is a volume with the files of the second copy,
+-- each with its bytes.
 pub record IsSaved (image : List ℕ) : Type 0 where
   pub number : ℕ
   pub fault : image_fault image ≡ Some (FirstCopyBad number)
@@ -22,19 +22,20 @@ pub record IsSaved (image : List ℕ) : Type 0 where
   pub files : files_of new ≡ files_in (second_of image)
   pub stay : All (FileStays image new) (files_of new)
 
--- an image of whole blocks whose second copy is good opens by its first copy, or its files are saved by the second,
--- whatever bytes stand in the first
+-- An image of whole blocks with a valid second copy is either opened by its first copy, or its files are saved by the
+-- second copy, for any bytes in the first.
 abbrev pub SecondCopySaves : Type 0
 SecondCopySaves =
     (image : List ℕ) → length image % BLOCK ≡ 0 → is_second_good image ≡ true → (image_fault image ≡ None) ⊎
     IsSaved image
 
--- a volume with two equal copies whose first is overwritten opens by what was written, or is repaired to what it was
+-- If the first of two equal copies is overwritten, the image is either opened by the bytes that were written, or
+-- repaired to what it was.
 abbrev pub DamageIsUndone : Type 0
 DamageIsUndone =
     (image bytes : List ℕ) → IsVolume image → HasCopies image Same → length bytes ≡ DIRECTORY_SIZE
     → (image_fault (written image DIRECTORY bytes) ≡ None) ⊎ (repaired (written image DIRECTORY bytes) ≡ Ok image)
 
--- an image that opens is left as it is
+-- Repairing a volume does not change it.
 abbrev pub GoodImagesStay : Type 0
 GoodImagesStay = (image : List ℕ) → IsVolume image → repaired image ≡ Ok image

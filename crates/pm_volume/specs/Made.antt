@@ -1,4 +1,4 @@
--- The image that a change makes, or why it is refused.
+-- The image after a change, or the fault if the change is refused.
 use Rattle.std.specs.Prelude.{Bool, nat_lt, ℕ, List, length, Option, Some, None, Result, Ok, Err, if◌then◌else◌}
 use Rattle.std.specs.List.{list_any}
 use Rattle.pm_volume.specs.Changes.{blocks_for, new_entry, place_for, slot_named, slot_numbered, slot_to_rename}
@@ -16,13 +16,13 @@ use Rattle.pm_volume.specs.declared.gap.Gap.{Gap}
 use Rattle.pm_volume.specs.declared.fields.TheConstants.{DIRECTORY_SIZE, HEADER_FILES_BEGIN, LONGEST_VOLUME_NAME}
 use Rattle.pm_volume.specs.declared.fields.TheConstants.{PAST_DIRECTORY, PAST_SECOND, SECOND}
 
--- a new file in a gap
+-- The image with a new file in the gap.
 abbrev pub added_in : List ℕ → List ℕ → ℕ → List ℕ → ℕ → Result Gap VolumeFault → Result (List ℕ) VolumeFault
 added_in image name kind bytes date (Ok gap) =
     Ok (mirrored (with_file image gap.place (new_entry gap name kind (length bytes) date) bytes))
 added_in image name kind bytes date (Err fault) = Err fault
 
--- the image with a new file of this name, kind, bytes and date
+-- The image with a new file of this name, kind, bytes and date.
 unfoldable pub added : List ℕ → List ℕ → ℕ → List ℕ → ℕ → Result (List ℕ) VolumeFault
 added image name kind bytes date =
     added_in image name kind bytes date (place_for image name (blocks_for (length bytes)))
@@ -31,11 +31,11 @@ abbrev pub removed_at : List ℕ → Option ℕ → Result (List ℕ) VolumeFaul
 removed_at image (Some slot) = Ok (mirrored (without_file image slot))
 removed_at image None = Err NoFile
 
--- the image without the first file of this name
+-- The image without the first file of this name.
 unfoldable pub file_removed : List ℕ → List ℕ → Result (List ℕ) VolumeFault
 file_removed image name = removed_at image (slot_named (directory_of image) name)
 
--- the image without the file in this slot
+-- The image without the file in this slot.
 unfoldable pub slot_removed : List ℕ → ℕ → Result (List ℕ) VolumeFault
 slot_removed image slot = removed_at image (slot_numbered (directory_of image) slot)
 
@@ -43,12 +43,12 @@ abbrev pub renamed_at : List ℕ → List ℕ → Result ℕ VolumeFault → Res
 renamed_at image name (Ok slot) = Ok (mirrored (with_name image slot name))
 renamed_at image name (Err fault) = Err fault
 
--- the image with another name for the first file of this name
+-- The image in which the first file with the name `old` has the name `new`.
 unfoldable pub renamed : List ℕ → List ℕ → List ℕ → Result (List ℕ) VolumeFault
 renamed image old new =
     renamed_at image new (slot_to_rename (directory_of image) (slot_named (directory_of image) old) new)
 
--- the image with another name for the file in this slot
+-- The image in which the file in this slot has the name `new`.
 unfoldable pub slot_renamed : List ℕ → ℕ → List ℕ → Result (List ℕ) VolumeFault
 slot_renamed image slot new =
     renamed_at image new (slot_to_rename (directory_of image) (slot_numbered (directory_of image) slot) new)
@@ -57,33 +57,33 @@ abbrev pub kind_set_at : List ℕ → ℕ → Option ℕ → Result (List ℕ) V
 kind_set_at image kind (Some slot) = Ok (mirrored (with_kind image slot kind))
 kind_set_at image kind None = Err NoFile
 
--- the image with another kind for the first file of this name
+-- The image in which the first file of this name has another kind.
 unfoldable pub kind_set : List ℕ → List ℕ → ℕ → Result (List ℕ) VolumeFault
 kind_set image name kind = kind_set_at image kind (slot_named (directory_of image) name)
 
--- the image with another kind for the file in this slot
+-- The image in which the file in this slot has another kind.
 unfoldable pub slot_kind_set : List ℕ → ℕ → ℕ → Result (List ℕ) VolumeFault
 slot_kind_set image slot kind = kind_set_at image kind (slot_numbered (directory_of image) slot)
 
--- the image with a new directory of this name
+-- The image with a new directory of this name.
 unfoldable pub zeroed : List ℕ → List ℕ → Result (List ℕ) VolumeFault
 zeroed image name = if is_new_name LONGEST_VOLUME_NAME name then Ok (zeroed_image image name) else Err BadName
 
--- an image whose files begin at another block
+-- The image in which files begin at block `past`.
 abbrev pub begun_at : List ℕ → ℕ → List ℕ
 begun_at image past = with_directory image (with_word_in (directory_of image) HEADER_FILES_BEGIN past)
 
--- whether a file begins below block 10, where a second copy ends
+-- Whether a file begins before block 10, the end of a second copy.
 abbrev pub is_occupied : List ℕ → Bool
 is_occupied image = list_any (λ (e : Entry). nat_lt e.first PAST_SECOND) (files_of image)
 
--- the image with a second copy of its directory
+-- The image with a second copy of its directory.
 unfoldable pub doubled : List ℕ → Result (List ℕ) VolumeFault
 doubled image =
     if nat_lt (block_count (directory_of image)) PAST_SECOND then Err BadHeader
     else (if is_occupied image then Err Occupied else Ok (mirrored (begun_at image PAST_SECOND)))
 
--- the image without its second copy, whose blocks become zero; one that has none stays
+-- The image without its second copy, whose blocks are zero. An image without a second copy is unchanged.
 unfoldable pub singled : List ℕ → List ℕ
 singled image =
     if has_second image then written (begun_at image PAST_DIRECTORY) SECOND (zeros DIRECTORY_SIZE) else image

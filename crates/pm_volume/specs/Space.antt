@@ -6,24 +6,24 @@ use Rattle.pm_volume.specs.Directory.{block_count, directory_of, files_begin, fi
 use Rattle.pm_volume.specs.declared.gap.Gap.{Gap}
 use Rattle.pm_volume.specs.declared.fields.TheConstants.{HEADER_NAME}
 
--- the characters of the volume's name
+-- The characters of the volume's name.
 abbrev pub volume_name : List ℕ → List ℕ
 volume_name image =
     slice_range (directory_of image) (HEADER_NAME + 1) (HEADER_NAME + 1 + slice_index (directory_of image) HEADER_NAME)
 
--- the blocks of a gap
+-- The number of blocks of a gap.
 abbrev pub gap_size : Gap → ℕ
 gap_size gap = gap.end - gap.begin
 
--- all gaps of a directory, lowest first
+-- All gaps of a directory, the lowest first.
 abbrev pub gaps_in : List ℕ → List Gap
 gaps_in directory = gaps (block_count directory) 1 (files_begin directory) (files_in directory)
 
--- the blocks of all gaps
+-- The number of blocks of all gaps.
 abbrev pub free_in : List ℕ → ℕ
 free_in directory = sum_by gap_size (gaps_in directory)
 
--- the blocks of the largest gap, 0 where no block is free
+-- The number of blocks of the largest gap, 0 if no block is free.
 abbrev pub largest_in : List ℕ → ℕ
 largest_in directory = fold (λ most gap. max most (gap_size gap)) 0 (gaps_in directory)
 

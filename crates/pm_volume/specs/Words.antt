@@ -1,3 +1,3 @@
--- Words and bytes in a list of bytes, as pm_bytes has them.
+-- Words and bytes in a list of bytes, from pm_bytes.
 unfoldable pub use Rattle.pm_bytes.specs.Words.{word_in, written, zeros}
 pub use Rattle.pm_bytes.specs.Words.{with_word_in}

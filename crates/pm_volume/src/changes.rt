@@ -1,4 +1,4 @@
-//! Changes of an image: files put in, taken out and renamed, and new headers.
+//! Changes of an image: files added, removed and renamed, and new headers.
 
 ghost use Rattle.std.specs.Prelude.{◌≡◌, ◌+◌, ◌<◌, ◌≤◌, ◌*◌, length};
 ghost use Rattle.pm_volume.specs.Changes.{FitsSlot, blocks_for, new_entry, with_directory, with_file, with_kind};
@@ -23,7 +23,7 @@ use crate::gap::Gap;
 use crate::slots::{insert_slot, remove_slot};
 use pm_bytes::{BLOCK, blocks_for, clear, clear_all, set_bytes, set_word};
 
-// The entry of a new file in a gap.
+// Returns the entry of a new file of `size` bytes in a gap.
 pub(crate) fn new_entry(gap: Gap, name: &str, kind: u8, size: usize, date: u16) -> Entry
     requires named { length name.now ≤ LONGEST_NAME }
     requires room { gap.begin + blocks_for size ≤ gap.end }
@@ -41,7 +41,7 @@ pub(crate) fn new_entry(gap: Gap, name: &str, kind: u8, size: usize, date: u16) 
     }
 }
 
-// Writes a file's entry, its bytes, and zeros to the end of its last block.
+// Writes the entry of a file in slot `n`, its bytes, and zeros up to the end of its last block.
 #[tactic(auto, unfolding(crate::specs::Changes::with_file))]
 pub(crate) fn put_file(image: &mut [u8], n: u16, entry: &Entry, bytes: &[u8])
     requires whole { DIRECTORY_END ≤ length image.old }
@@ -61,7 +61,7 @@ pub(crate) fn put_file(image: &mut [u8], n: u16, entry: &Entry, bytes: &[u8])
     mirror(image);
 }
 
-// Takes a file's entry out. Its blocks keep their bytes.
+// Removes the entry of the file in `slot`. Its blocks keep their bytes.
 pub(crate) fn take_file(image: &mut [u8], slot: u16)
     requires whole { DIRECTORY_END ≤ length image.old }
     requires few { file_count (directory_of image.old) ≤ MOST_FILES }
@@ -73,7 +73,7 @@ pub(crate) fn take_file(image: &mut [u8], slot: u16)
     mirror(image);
 }
 
-// Gives the file in a slot another name.
+// Renames the file in `slot`.
 pub(crate) fn name_file(image: &mut [u8], slot: u16, name: &[u8])
     requires whole { DIRECTORY_END ≤ length image.old }
     requires short { length name.now ≤ LONGEST_NAME }
@@ -87,7 +87,7 @@ pub(crate) fn name_file(image: &mut [u8], slot: u16, name: &[u8])
     mirror(image);
 }
 
-// Gives the file in a slot another kind.
+// Sets the kind of the file in `slot`.
 pub(crate) fn type_file(image: &mut [u8], slot: u16, kind: u8)
     requires whole { DIRECTORY_END ≤ length image.old }
     requires from { 1 ≤ slot }
@@ -101,7 +101,7 @@ pub(crate) fn type_file(image: &mut [u8], slot: u16, kind: u8)
     mirror(image);
 }
 
-// Sets the last date.
+// Sets the last date of the volume.
 pub(crate) fn date_volume(image: &mut [u8], date: u16)
     requires whole { DIRECTORY_END ≤ length image.old }
     ensures image { image.new
@@ -127,7 +127,7 @@ pub(crate) fn renew_directory(image: &mut [u8], past: u16, name: &[u8], blocks: 
     mirror(image);
 }
 
-// Says where files begin.
+// Sets the block at which files begin.
 fn begin_at(image: &mut [u8], past: u16)
     requires whole { DIRECTORY_END ≤ length image.old }
     ensures begun { image.new ≡ begun_at image.old past }
@@ -139,7 +139,7 @@ fn begin_at(image: &mut [u8], past: u16)
     );
 }
 
-// Makes a second copy of the directory.
+// Writes a second copy of the directory.
 pub(crate) fn add_second(image: &mut [u8])
     requires whole { DIRECTORY_END ≤ length image.old }
     ensures image { image.new ≡ mirrored (begun_at image.old PAST_SECOND) }
@@ -148,7 +148,7 @@ pub(crate) fn add_second(image: &mut [u8])
     mirror(image);
 }
 
-// Drops the second copy, if there is one; its blocks become zero.
+// Removes the second copy, if there is one, and sets its blocks to zero.
 #[tactic(auto, unfolding(crate::specs::Made::singled))]
 pub(crate) fn drop_second(image: &mut [u8])
     requires whole { DIRECTORY_END ≤ length image.old }

@@ -13,14 +13,14 @@ use crate::fields::{
 };
 use pm_bytes::{BLOCK, word};
 
-/// What a volume has of its directory, in four blocks each: one copy, or two.
+/// Whether a volume has one or two copies of its directory. Each copy has four blocks.
 #[derive(Clone, Copy, Debug, PartialEq, Eq)]
 pub enum Copies {
-    /// Blocks 2 to 5 alone; files begin at block 6.
+    /// One copy, in blocks 2 to 5. Files begin at block 6.
     Single,
-    /// Blocks 6 to 9 too, with the same bytes; files begin at block 10.
+    /// A second copy, in blocks 6 to 9, with the same bytes. Files begin at block 10.
     Same,
-    /// Blocks 6 to 9 too, with other bytes; files begin at block 10.
+    /// A second copy, in blocks 6 to 9, with other bytes. Files begin at block 10.
     Differs,
 }
 
@@ -35,7 +35,7 @@ pub(crate) fn has_second(image: &[u8]) -> bool
         && word(&image[DIRECTORY..DIRECTORY_END], HEADER_FILES_BEGIN) == PAST_SECOND
 }
 
-// Whether the second copy is good.
+// Whether an image has a second copy that is valid.
 #[tactic(auto, unfolding(crate::specs::Directory::is_second_good))]
 pub(crate) fn is_second_good(image: &[u8]) -> bool
     ensures good { result ≡ is_second_good image.now }
@@ -55,7 +55,7 @@ pub(crate) fn are_same(left: &[u8], right: &[u8]) -> bool
     left == right
 }
 
-// Copies four blocks to another place.
+// Copies the four blocks at byte `from` of the image to byte `to`.
 fn copy_directory(image: &mut [u8], from: usize, to: usize)
     requires source { from + DIRECTORY_SIZE ≤ length image.old }
     requires target { to + DIRECTORY_SIZE ≤ length image.old }
@@ -64,7 +64,7 @@ fn copy_directory(image: &mut [u8], from: usize, to: usize)
     image.copy_within(from..from + DIRECTORY_SIZE, to);
 }
 
-// Makes the second copy, if there is one, the same as the first.
+// Overwrites the second copy, if there is one, with the first.
 #[tactic(auto, unfolding(crate::specs::Copies::mirrored))]
 pub(crate) fn mirror(image: &mut [u8])
     requires whole { DIRECTORY_END ≤ length image.old }
@@ -75,7 +75,7 @@ pub(crate) fn mirror(image: &mut [u8])
     }
 }
 
-// Makes the first copy the same as the second.
+// Overwrites the first copy with the second.
 #[tactic(auto, unfolding(crate::specs::Copies::restored))]
 pub(crate) fn restore(image: &mut [u8])
     requires whole { SECOND_END ≤ length image.old }

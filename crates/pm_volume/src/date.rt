@@ -1,22 +1,21 @@
-//! Dates, as a directory has them.
+//! Dates, as stored in a directory.
 
 ghost use Rattle.std.specs.Prelude.{◌≡◌, IfSome, None, Some, if◌then◌else◌};
 ghost use Rattle.pm_volume.specs.Dates.{date_of, date_word, is_date};
 
-/// A date, which a directory has in one word: the month in bits 0 to 3, the day in bits 4 to 8, the year in bits 9 to
-/// 15.
+/// A date. A directory stores it as a word: the month in bits 0 to 3, the day in bits 4 to 8, the year in bits 9 to 15.
 #[derive(Clone, Copy)]
 pub struct Date {
-    /// The year of the century, 0 to 127.
+    /// The year within its century, 0 to 127.
     pub year: u8,
-    /// The month, 1 to 12; a word may hold 0 to 15.
+    /// The month, 1 to 12. A word can contain 0 to 15.
     pub month: u8,
-    /// The day, 1 to 31; a word may hold 0.
+    /// The day, 1 to 31. A word can contain 0.
     pub day: u8,
 }
 
 impl Date {
-    /// The year, the month and the day that a word holds.
+    /// Returns the year, month and day that a word contains, valid or not.
     pub fn of(word: u16) -> Date
         ensures date { result ≡ date_of word }
     {
@@ -27,7 +26,7 @@ impl Date {
         }
     }
 
-    /// The word of the date; `None` unless the year is 0 to 127, the month 1 to 12 and the day 1 to 31.
+    /// Returns the word of the date, or `None` unless the year is 0 to 127, the month 1 to 12 and the day 1 to 31.
     pub fn word(self) -> Option<u16>
         ensures word { result ≡ (if is_date self.year self.month self.day
             then Some (date_word self.year self.month self.day) else None) }

@@ -1,4 +1,4 @@
-//! Disks: images of whole blocks without a look at their directory.
+//! Disks: images of whole blocks, whose directory is not checked.
 
 ghost use Rattle.std.specs.Prelude.{◌≡◌, ◌↔◌, ◌/◌, ◌%◌, IfSome, IsTrue, length};
 ghost use Rattle.std.specs.Bool.{OnFalse, OnTrue};
@@ -10,7 +10,7 @@ ghost use Rattle.pm_bytes.specs.declared.blocks.TheConstants.{BLOCK};
 use pm_bytes::{BLOCK, set_bytes};
 use std::marker::Model;
 
-/// A disk: an image of whole blocks of 512 bytes, seen as the list of its bytes.
+/// A disk: an image of whole blocks of 512 bytes. Contracts see it as the list of its bytes.
 #[derive(Drop)]
 pub struct Disk {
     pub(crate) bytes: Vec<u8>,
@@ -30,7 +30,7 @@ impl Model for Disk {
 }
 
 impl Disk {
-    /// The number of blocks of the whole image.
+    /// Returns the number of blocks of the image.
     pub fn blocks(&self) -> usize
         ensures whole { length self.now % BLOCK ≡ 0 }
         ensures count { result ≡ length self.now / BLOCK }
@@ -38,14 +38,14 @@ impl Disk {
         self.bytes.len() / BLOCK
     }
 
-    /// All bytes of the image.
+    /// Returns all bytes of the image.
     pub fn bytes(&self) -> &[u8]
         ensures image { result.now ≡ self.now }
     {
         &self.bytes
     }
 
-    /// Block n, 512 bytes; `None` past the image's end.
+    /// Returns the 512 bytes of block `n`, or `None` if the block is after the end of the image.
     pub fn block(&self, n: u16) -> Option<&[u8]>
         ensures bytes { option_map (λ bytes. bytes.now) result ≡ block_of self.now n }
         ensures size { IfSome result (λ bytes. length bytes.now ≡ BLOCK) }
@@ -53,8 +53,8 @@ impl Disk {
         block_in(&self.bytes, n)
     }
 
-    /// Overwrites the bytes from a place on; false, and nothing changed, if they pass the image's
-    /// end.
+    /// Overwrites the bytes from offset `place` on. Returns whether they are within the image; otherwise nothing
+    /// changes.
     pub fn write(&mut self, place: usize, bytes: &[u8]) -> bool
         ensures inside { IsTrue result ↔ IsInImage self.old place (length bytes.now) }
         ensures written { OnTrue result (self.new ≡ written self.old place bytes.now) }
@@ -67,7 +67,7 @@ impl Disk {
         true
     }
 
-    /// The image.
+    /// Returns the bytes of the image.
     pub fn into_bytes(self) -> Vec<u8>
         ensures image { result.items ≡ self }
     {
@@ -76,7 +76,7 @@ impl Disk {
     }
 }
 
-// Block n of an image.
+// Returns block `n` of an image.
 #[tactic(auto, unfolding(crate::specs::Disks::block_of))]
 pub(crate) fn block_in(image: &[u8], n: u16) -> Option<&[u8]>
     ensures bytes { option_map (λ bytes. bytes.now) result ≡ block_of image.now n }

@@ -12,27 +12,27 @@ use crate::fields::{
 };
 use pm_bytes::{BLOCK, set_bytes, set_word, word};
 
-/// A file's entry in the directory.
+/// The entry of a file in the directory.
 #[derive(Clone, Copy)]
 pub struct Entry {
-    /// The name as the directory has it: a length byte, then up to 15 characters.
+    /// The name as stored in the directory: a byte with its length, then up to 15 characters.
     pub name: [u8; 16],
-    /// One of `kinds`; 9 to 15 have no meaning.
+    /// The kind, one of the constants in `kinds`. 9 to 15 have no meaning.
     pub kind: u8,
-    /// The file's first block.
+    /// The first block of the file.
     pub first: u16,
-    /// The block past its last one; a file without blocks ends where it begins.
+    /// The block after the last block of the file. For a file without blocks it equals `first`.
     pub end: u16,
-    /// How many bytes the last block has: 1 to 512 where the file has blocks.
+    /// The number of bytes in the last block: 1 to 512 if the file has blocks.
     pub last_bytes: u16,
-    /// Its date; `Date::of` takes it apart.
+    /// The date as a word. `Date::of` returns its parts.
     pub date: u16,
 }
 
 impl Entry {
     ghost use Rattle.pm_volume.specs.Changes.{entry_slot};
 
-    // The entry that the 26 bytes of a directory's slot hold.
+    // Returns the entry that the 26 bytes of a directory slot contain.
     #[tactic(auto, unfolding(crate::specs::Entries::entry_of))]
     pub(crate) fn read(slot: &[u8]) -> Entry
         requires size { length slot.now ≡ SLOT }
@@ -50,7 +50,7 @@ impl Entry {
         }
     }
 
-    // The 26 bytes of the entry's slot.
+    // Returns the 26 bytes of the slot of the entry.
     #[tactic(auto, unfolding(crate::specs::Changes::entry_slot))]
     pub(crate) fn slot(&self) -> [u8; 26]
         ensures fields { result ≡ entry_slot self.now }
@@ -66,7 +66,7 @@ impl Entry {
         slot
     }
 
-    // Whether the entry may stand after files that end at a block.
+    // Whether the entry is valid after files that end before block `from`.
     #[tactic(auto, unfolding(crate::specs::Entries::is_sound_entry))]
     pub(crate) fn is_sound(&self, from: u16) -> bool
         ensures sound { result ≡ is_sound_entry from self.now }
@@ -77,7 +77,7 @@ impl Entry {
             && (self.first == self.end || matches!(self.last_bytes, 1..=512))
     }
 
-    /// The characters of the name: as many bytes as its length byte says.
+    /// Returns the characters of the name. Their number is that of the length byte, at most 15.
     #[tactic(auto, unfolding(crate::specs::Names::characters_of))]
     pub fn characters(&self) -> &[u8]
         ensures characters { result.now ≡ characters_of self.now.name }
@@ -86,7 +86,7 @@ impl Entry {
         &self.name[1..1 + length]
     }
 
-    // Whether the entry has this name, whatever the case.
+    // Whether the entry has this name. Case is ignored.
     pub(crate) fn is_named(&self, name: &str) -> bool
         ensures named { result ≡ is_same_name (characters_of self.now.name) name.now }
     {
@@ -94,7 +94,7 @@ impl Entry {
     }
 }
 
-/// Whether two names are one, whatever their case.
+/// Whether two names are equal. Case is ignored.
 #[tactic(auto, unfolding(crate::specs::Names::is_same_name))]
 pub fn is_same_name(left: &[u8], right: &[u8]) -> bool
     ensures same { result ≡ is_same_name left.now right.now }
@@ -106,7 +106,7 @@ pub fn is_same_name(left: &[u8], right: &[u8]) -> bool
             .all(|(a, b)| a.to_ascii_uppercase() == b.to_ascii_uppercase())
 }
 
-// Whether a text can be a new name of up to so many characters.
+// Whether a string can be a new name of up to `most` characters.
 #[tactic(auto, unfolding(crate::specs::Names::is_new_name))]
 pub(crate) fn is_new_name(most: usize, name: &[u8]) -> bool
     ensures accepted { result ≡ is_new_name most name.now }
@@ -116,7 +116,7 @@ pub(crate) fn is_new_name(most: usize, name: &[u8]) -> bool
         && name.iter().all(|c| 33 <= *c && *c <= 126 && *c != b':')
 }
 
-// A new name in its field, raised. That of a volume has the first eight bytes of it.
+// Returns a new name as it is stored, in upper case. A volume's name uses the first eight bytes.
 #[tactic(auto, unfolding(crate::specs::Names::name_field))]
 pub(crate) fn name_field(name: &[u8]) -> [u8; 16]
     requires short { length name.now ≤ LONGEST_NAME }
@@ -128,7 +128,7 @@ pub(crate) fn name_field(name: &[u8]) -> [u8; 16]
     field
 }
 
-// Writes the characters of a name, raised, at the front of a field.
+// Writes the characters of a name, in upper case, at the start of a field.
 fn raise_into(field: &mut [u8], name: &[u8])
     requires room { length name.now ≤ length field.old }
     ensures raised { field.new ≡ str_to_ascii_uppercase name.now ++ drop (length name.now) field.old }

@@ -1,31 +1,31 @@
-//! Where things stand in a volume: the directory and its second copy in the image, the header in slot 0 of the
-//! directory, and what the slot of a file holds. Places in the header and in a slot are counted from its first byte.
+//! The layout of a volume: the directory and its second copy in the image, the header in slot 0 of the directory, and
+//! the slot of a file. Offsets in the header and in a slot are in bytes, from its first byte.
 
-/// The first byte of the directory, blocks 2 to 5.
+/// The offset of the directory in the image. It is in blocks 2 to 5.
 pub const DIRECTORY: usize = 1024;
 
-/// How many bytes a directory has.
+/// The number of bytes of a directory.
 pub const DIRECTORY_SIZE: usize = 2048;
 
-/// The byte past the directory.
+/// The offset of the first byte after the directory.
 pub const DIRECTORY_END: usize = 3072;
 
-/// The first byte of the directory's second copy, blocks 6 to 9.
+/// The offset of the second copy of the directory. It is in blocks 6 to 9.
 pub const SECOND: usize = 3072;
 
-/// The byte past the second copy.
+/// The offset of the first byte after the second copy.
 pub const SECOND_END: usize = 5120;
 
-/// The block where files begin behind one copy of the directory.
+/// The block at which files begin if there is one copy of the directory.
 pub const PAST_DIRECTORY: u16 = 6;
 
-/// The block where files begin behind a second copy.
+/// The block at which files begin if there is a second copy.
 pub const PAST_SECOND: u16 = 10;
 
-/// Header: the word with the block where files begin.
+/// Header: the word with the block at which files begin.
 pub const HEADER_FILES_BEGIN: usize = 2;
 
-/// Header: the volume's name, a length byte and up to 7 characters.
+/// Header: the volume's name, a byte with its length and up to 7 characters.
 pub const HEADER_NAME: usize = 6;
 
 /// Header: the word with the volume's number of blocks.
@@ -34,35 +34,35 @@ pub const HEADER_BLOCKS: usize = 14;
 /// Header: the word with the number of files.
 pub const HEADER_FILES: usize = 16;
 
-/// Header: the word with the date that the volume was last set to.
+/// Header: the word with the last date that was set.
 pub const HEADER_DATE: usize = 20;
 
-/// The most characters of a volume's name.
+/// The maximum number of characters of a volume's name.
 pub const LONGEST_VOLUME_NAME: usize = 7;
 
-/// How many bytes a slot has.
+/// The number of bytes of a slot.
 pub const SLOT: usize = 26;
 
-/// How many files a directory has room for, in slots 1 to 77.
+/// The maximum number of files of a directory. They are in slots 1 to 77.
 pub const MOST_FILES: u16 = 77;
 
-/// Slot: the word with the file's first block.
+/// Slot: the word with the first block of the file.
 pub const ENTRY_FIRST: usize = 0;
 
-/// Slot: the word with the block past the file's last one.
+/// Slot: the word with the block after the last block of the file.
 pub const ENTRY_END: usize = 2;
 
-/// Slot: the word with the file's kind in its low four bits.
+/// Slot: the word with the kind of the file in its low four bits.
 pub const ENTRY_KIND: usize = 4;
 
-/// Slot: the file's name, a length byte and up to 15 characters.
+/// Slot: the name of the file, a byte with its length and up to 15 characters.
 pub const ENTRY_NAME: usize = 6;
 
-/// Slot: the word with how many bytes the file's last block has.
+/// Slot: the word with the number of bytes in the last block of the file.
 pub const ENTRY_LAST_BYTES: usize = 22;
 
-/// Slot: the word with the file's date.
+/// Slot: the word with the date of the file.
 pub const ENTRY_DATE: usize = 24;
 
-/// The most characters of a file's name.
+/// The maximum number of characters of a file's name.
 pub const LONGEST_NAME: usize = 15;

@@ -8,7 +8,7 @@ use crate::directory::entry_at;
 use crate::fields::{HEADER_BLOCKS, HEADER_FILES, HEADER_FILES_BEGIN};
 use pm_bytes::word;
 
-/// Free blocks, and the slot that a file in them gets.
+/// A gap of free blocks, from `begin` up to, but not including, `end`. A file in it gets slot `place`.
 #[derive(Clone, Copy)]
 pub(crate) struct Gap {
     pub(crate) place: u16,
@@ -19,7 +19,7 @@ pub(crate) struct Gap {
 impl Gap {
     ghost use Rattle.pm_volume.specs.Changes.{gap_for, serves};
 
-    // Whether a file of so many blocks goes here, beside so many files.
+    // Whether a new file of `need` blocks is put into this gap, in a directory with `count` files.
     fn serves(&self, need: usize, count: u16) -> bool
         ensures enough { result ≡ serves need count self.now }
     {
@@ -29,7 +29,7 @@ impl Gap {
         need <= usize::from(self.end.saturating_sub(self.begin))
     }
 
-    // The lowest gap for a file of so many blocks.
+    // Returns the lowest gap for a file of `need` blocks.
     #[tactic(auto, using(crate::proofs::GapLaws::gap_steps))]
     pub(crate) fn lowest(directory: &[u8], need: usize) -> Option<Gap>
         requires whole { length directory.now ≡ DIRECTORY_SIZE }

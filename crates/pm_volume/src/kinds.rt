@@ -1,9 +1,9 @@
-//! The kinds of files, the low four bits of a word of a file's slot. Kinds 9 to 15 have no meaning.
+//! The kinds of files: the low four bits of a word in a file's slot. Kinds 9 to 15 have no meaning.
 
-/// No kind was given.
+/// A file without a kind.
 pub const UNTYPED: u8 = 0;
 
-/// Blocks of the disk that cannot be read; they stay where they are.
+/// Blocks of the disk that cannot be read. They are never moved.
 pub const BAD_BLOCKS: u8 = 1;
 
 /// A code file.
@@ -12,7 +12,7 @@ pub const CODE: u8 = 2;
 /// A text file.
 pub const TEXT: u8 = 3;
 
-/// What a debugger is told of a code file.
+/// Information about a code file, for a debugger.
 pub const INFO: u8 = 4;
 
 /// Data of a program.

@@ -1,4 +1,4 @@
-//! Files moved together.
+//! Moving files together.
 
 ghost use Rattle.std.specs.Prelude.{◌≡◌, ◌+◌, ◌-◌, ◌<◌, ◌≤◌, ◌*◌, length, slice_range};
 ghost use Rattle.pm_volume.specs.Changes.{with_directory};
@@ -16,7 +16,7 @@ use crate::fields::{
 use crate::kinds::BAD_BLOCKS;
 use pm_bytes::{BLOCK, set_word, word};
 
-// Moves each file to the end of the one before.
+// Moves each file to the end of the one before it.
 pub(crate) fn pack_files(image: &mut Vec<u8>)
     requires volume { IsVolume image.old.items }
     ensures packed { image.new.items ≡ packed_image image.old.items 1
@@ -32,8 +32,8 @@ pub(crate) fn pack_files(image: &mut Vec<u8>)
     }
 }
 
-// Moves the file in a slot to a block, where the one before it ends; bad blocks stay. Returns where
-// the file ends now.
+// Moves the file in slot `n` to block `from`, where the one before it ends. Bad blocks are not moved. Returns the block
+// after the file.
 fn pack_file(image: &mut Vec<u8>, n: u16, from: u16) -> u16
     requires whole { DIRECTORY_END ≤ length image.old.items }
     requires slot { n ≤ MOST_FILES }
@@ -60,7 +60,7 @@ fn pack_file(image: &mut Vec<u8>, n: u16, from: u16) -> u16
     end
 }
 
-// Where a file goes, the one before it ending at a block.
+// Returns the new first block of a file, if the one before it ends before block `from`.
 fn new_place(entry: &Entry, from: u16) -> u16
     ensures place { result ≡ new_place from entry.now }
 {
@@ -71,7 +71,7 @@ fn new_place(entry: &Entry, from: u16) -> u16
     }
 }
 
-// Moves bytes, all read before the first is written.
+// Moves the bytes from `begin` up to `end` to offset `to`. All are read before the first is written.
 fn move_part(bytes: &mut Vec<u8>, begin: usize, end: usize, to: usize)
     requires order { begin ≤ end }
     requires source { end ≤ length bytes.old.items }
@@ -81,7 +81,7 @@ fn move_part(bytes: &mut Vec<u8>, begin: usize, end: usize, to: usize)
     bytes.copy_within(begin..end, to);
 }
 
-// Writes the block numbers of the file in a slot.
+// Writes the block numbers of the file in slot `n`.
 fn place_file(image: &mut [u8], n: u16, first: u16, end: u16)
     requires whole { DIRECTORY_END ≤ length image.old }
     requires slot { n ≤ MOST_FILES }

@@ -1,4 +1,4 @@
-//! Slots put into a directory and taken out.
+//! Inserting and removing slots of a directory.
 
 ghost use Rattle.std.specs.Prelude.{◌≡◌, ◌+◌, ◌-◌, ◌++◌, ◌<◌, ◌≤◌, drop, length, replicate, take};
 ghost use Rattle.pm_volume.specs.Changes.{with_slot, without_slot};
@@ -8,7 +8,7 @@ ghost use Rattle.pm_volume.specs.declared.fields.TheConstants.{DIRECTORY_SIZE, M
 use crate::fields::{HEADER_FILES, SLOT};
 use pm_bytes::{set_word, word};
 
-// Puts a slot in at n, and moves those behind it up.
+// Inserts a slot at `n`. The slots from `n` on move up by one.
 pub(crate) fn insert_slot(directory: &mut [u8], n: u16, slot: &[u8])
     requires whole { length directory.old ≡ DIRECTORY_SIZE }
     requires size { length slot.now ≡ SLOT }
@@ -24,7 +24,7 @@ pub(crate) fn insert_slot(directory: &mut [u8], n: u16, slot: &[u8])
     set_word(directory, HEADER_FILES, count + 1);
 }
 
-// Takes slot n out, and moves those behind it down.
+// Removes slot `n`. The slots after it move down by one.
 pub(crate) fn remove_slot(directory: &mut [u8], n: u16)
     requires whole { length directory.old ≡ DIRECTORY_SIZE }
     requires few { file_count directory.old ≤ MOST_FILES }
@@ -39,7 +39,7 @@ pub(crate) fn remove_slot(directory: &mut [u8], n: u16)
     set_word(directory, HEADER_FILES, count - 1);
 }
 
-// Moves all up by the bytes of a slot and puts it in front; the last ones fall off.
+// Moves all bytes up by the length of a slot and writes the slot before them. The last bytes are lost.
 fn push_front(area: &mut [u8], slot: &[u8])
     requires room { length slot.now ≤ length area.old }
     ensures moved { area.new ≡ slot.now ++ take (length area.old - length slot.now) area.old }
@@ -48,7 +48,7 @@ fn push_front(area: &mut [u8], slot: &[u8])
     area[..slot.len()].copy_from_slice(slot);
 }
 
-// Moves all down by so many bytes, over the first; the last ones become zero.
+// Moves all bytes down by `size`, over the first ones. The last ones become zero.
 fn pop_front(area: &mut [u8], size: usize)
     requires room { size ≤ length area.old }
     ensures moved { area.new ≡ drop size area.old ++ replicate size 0 }

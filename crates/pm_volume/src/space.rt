@@ -11,14 +11,14 @@ use pm_bytes::word;
 /// The free space of a volume.
 #[derive(Clone, Copy)]
 pub struct Space {
-    /// The blocks of all gaps.
+    /// The number of blocks of all gaps.
     pub free: u32,
-    /// The blocks of the largest gap, 0 where no block is free.
+    /// The number of blocks of the largest gap, 0 if no block is free.
     pub largest: u16,
 }
 
 impl Space {
-    // The space with a further gap of so many blocks.
+    // Returns the space with one more gap of `size` blocks.
     fn with(self, size: u16) -> Space
         requires room { self.free ≤ 4294901760 }
         ensures free { result.free ≡ self.free + size }
@@ -31,7 +31,7 @@ impl Space {
     }
 }
 
-// The gaps of a directory, in blocks.
+// Returns the free space of a directory.
 #[tactic(auto, using(crate::proofs::SpaceLaws::space_steps))]
 pub(crate) fn space_of(directory: &[u8]) -> Space
     requires whole { length directory.now ≡ DIRECTORY_SIZE }

@@ -1,4 +1,4 @@
-//! Volumes: images whose directory is sound.
+//! Volumes: images whose directory is valid.
 
 ghost use Rattle.std.specs.Prelude.{◌≡◌, ◌≢◌, ◌↔◌, ◌+◌, ◌≤◌, [], ◌∷◌, length, slice_index, slice_range, unwrap_or};
 ghost use Rattle.std.specs.Prelude.{Err, None, Ok, Some, IfErr, IfOk, IfSome, IsOk, IsTrue, OnOk, OnErr, true, false};
@@ -30,7 +30,7 @@ use pm_bytes::{BLOCK, blocks_for, word};
 use std::alloc::Global;
 use std::marker::Model;
 
-/// A volume: an image whose directory is sound, seen as the image's bytes.
+/// A volume: an image whose directory is valid. Contracts see it as the bytes of the image.
 #[derive(Drop)]
 pub struct Volume {
     bytes: Vec<u8>,
@@ -66,11 +66,20 @@ impl Volume {
     ghost use Rattle.pm_volume.specs.Words.{word_in};
     ghost use Rattle.pm_volume.specs.Space.{free_blocks, largest_gap};
 
-    /// The volume that an image is. The refusals in order: `NotBlocks`, `TooShort`, `BadHeader`,
-    /// `PastEnd` of the volume, `TooManyFiles`, then entry by entry `BadEntry` and `PastEnd`; from
-    /// `BadHeader` on `FirstCopyBad` in their place where blocks 6 to 9 are a good second copy of
-    /// the directory. A first copy without a fault counts, whatever the second one holds. A refused
-    /// image comes back unchanged.
+    /// Opens an image as a volume.
+    ///
+    /// If blocks 6 to 9 are a second copy of the directory, the first copy counts as long as it has no fault, even if
+    /// the second differs.
+    ///
+    /// # Errors
+    ///
+    /// The image is returned unchanged, with its first fault. Checked in this order:
+    /// - `NotBlocks`, `TooShort`, `BadHeader`;
+    /// - `PastEnd` of the volume;
+    /// - `TooManyFiles`;
+    /// - for each entry: `BadEntry`, then `PastEnd` of the file.
+    ///
+    /// From `BadHeader` on, the fault is `FirstCopyBad` instead if blocks 6 to 9 are a valid second copy.
     pub fn open(bytes: Vec<u8>) -> Result<Volume, (VolumeFault, Vec<u8>)>
         ensures accepted { IsOk result ↔ IsVolume bytes.items }
         ensures opened { IfOk result (λ v. v ≡ bytes.items) }
@@ -84,10 +93,14 @@ impl Volume {
         }
     }
 
-    /// The volume that an image is, as `open` gives it; but where the answer is `FirstCopyBad`, the
-    /// second copy of the directory takes the place of the first, and the volume is that of the
-    /// second copy. The other refusals are those of `open`, and a refused image comes back
-    /// unchanged.
+    /// Opens an image as a volume, and repairs the first copy of its directory.
+    ///
+    /// If `open` returns `FirstCopyBad`, the first copy is overwritten with the second one. Otherwise the result is
+    /// that of `open`.
+    ///
+    /// # Errors
+    ///
+    /// The image is returned unchanged, with the fault of `open`. It is never `FirstCopyBad`.
     #[tactic(auto, unfolding(crate::specs::Copies::repaired))]
     pub fn repair(bytes: Vec<u8>) -> Result<Volume, (VolumeFault, Vec<u8>)>
         ensures repaired { IfOk result (λ v. repaired bytes.items ≡ Ok v) }
@@ -106,9 +119,15 @@ impl Volume {
         }
     }
 
-    /// A new volume of so many blocks without files, with last date 0: all bytes are zero but those
-    /// of the header. The refusals in order: `BadName` for a text that is no name of 1 to 7
-    /// characters, `BadHeader` for fewer than 6 blocks, `NoMemory`.
+    /// Creates a volume of `blocks` blocks without files, whose last date is 0. Except for the header, all bytes are
+    /// zero.
+    ///
+    /// # Errors
+    ///
+    /// Checked in this order:
+    /// - `BadName`: `name` is not a name of 1 to 7 characters.
+    /// - `BadHeader`: there are fewer than 6 blocks.
+    /// - `NoMemory`: memory was refused.
     #[tactic(auto, unfolding(crate::specs::Headers::blank_fault))]
     pub fn blank(alloc: Global, name: &str, blocks: u16) -> Result<Volume, VolumeFault>
         ensures made { IfOk result (λ v. v ≡ blank_image name.now blocks) }
@@ -131,7 +150,7 @@ impl Volume {
         Ok(Volume { bytes })
     }
 
-    /// The image.
+    /// Returns the bytes of the image.
     pub fn into_bytes(self) -> Vec<u8>
         ensures image { result.items ≡ self }
         ensures volume { IsVolume result.items }
@@ -140,7 +159,7 @@ impl Volume {
         bytes
     }
 
-    /// The volume's name.
+    /// Returns the volume's name.
     pub fn name(&self) -> &[u8]
         ensures characters { result.now
             ≡ slice_range (directory_of self.now) (HEADER_NAME + 1)
@@ -151,14 +170,14 @@ impl Volume {
         &directory[begin..begin + usize::from(directory[HEADER_NAME])]
     }
 
-    /// The number of blocks.
+    /// Returns the number of blocks of the volume.
     pub fn blocks(&self) -> u16
         ensures count { result ≡ block_count (directory_of self.now) }
     {
         word(self.directory(), HEADER_BLOCKS)
     }
 
-    /// The date that the volume was last set to.
+    /// Returns the last date that was set, as a word.
     pub fn last_date(&self) -> u16
         ensures date { result ≡ word_in (directory_of self.now) HEADER_DATE }
     {
@@ -180,7 +199,7 @@ impl Volume {
         }
     }
 
-    /// The free space: the blocks of all gaps, and of the largest one.
+    /// Returns the number of free blocks, and that of the largest gap.
     #[tactic(auto, unfolding(crate::specs::Space::free_blocks, crate::specs::Space::largest_gap))]
     pub fn space(&self) -> Space
         ensures free { result.free ≡ free_blocks self.now }
@@ -189,7 +208,7 @@ impl Volume {
         space_of(self.directory())
     }
 
-    /// The files in block order.
+    /// Returns the entries of the files, in block order.
     pub fn entries(&self) -> Entries<'_>
         ensures files { result ≡ files_of self.now }
         ensures few { length result ≤ MOST_FILES }
@@ -197,15 +216,17 @@ impl Volume {
         Entries::new(self.directory())
     }
 
-    /// The first file of a name, whatever its case.
+    /// Returns the entry of the first file with this name. Case is ignored.
     pub fn find(&self, name: &str) -> Option<Entry>
         ensures first { result ≡ file_named self.now name.now }
     {
         self.entries().find(|entry| entry.is_named(name))
     }
 
-    /// The bytes of a file: its blocks with the last one cut, empty if it has none. `None` if they
-    /// leave the image, as those of a foreign entry may.
+    /// Returns the bytes of a file: its blocks, of which the last is cut to its number of bytes. They are empty if the
+    /// file has no blocks.
+    ///
+    /// Returns `None` if these bytes are not all in the image, which is possible for an entry of another volume.
     #[tactic(auto, unfolding(crate::specs::Files::file_bytes))]
     pub fn file(&self, entry: &Entry) -> Option<&[u8]>
         ensures bytes { option_map (λ bytes. bytes.now) result ≡ file_bytes self.now entry.now }
@@ -218,7 +239,7 @@ impl Volume {
         self.bytes.get(begin..end)
     }
 
-    /// Block n of the image, 512 bytes; `None` past the image's end.
+    /// Returns the 512 bytes of block `n` of the image, or `None` if the block is after the end of the image.
     pub fn block(&self, n: u16) -> Option<&[u8]>
         ensures bytes { option_map (λ bytes. bytes.now) result ≡ block_of self.now n }
         ensures size { IfSome result (λ bytes. length bytes.now ≡ BLOCK) }
@@ -226,11 +247,18 @@ impl Volume {
         block_in(&self.bytes, n)
     }
 
-    /// Adds a file in the lowest gap that is large enough; the rest of its last block becomes zero.
-    /// A file without bytes takes no block and stands after all others. Of the kind the low four
-    /// bits are stored, of the name the characters raised. The refusals in order: `BadName` for a
-    /// text that is no name of 1 to 15 characters 33 to 126 without `:`, `Duplicate`,
-    /// `DirectoryFull` with 77 files, `NoRoom`. A refusal changes nothing.
+    /// Adds a file in the lowest gap that is large enough. The rest of its last block is set to zero. A file without
+    /// bytes uses no block and is put after all others.
+    ///
+    /// The name is stored in upper case, and of `kind` only the low four bits.
+    ///
+    /// # Errors
+    ///
+    /// Nothing changes. Checked in this order:
+    /// - `BadName`: `name` does not have 1 to 15 characters from 33 to 126, or contains `:`.
+    /// - `Duplicate`: a file has this name. Case is ignored.
+    /// - `DirectoryFull`: there are 77 files.
+    /// - `NoRoom`: no gap is large enough.
     pub fn add(
         &mut self,
         name: &str,
@@ -257,9 +285,12 @@ impl Volume {
         Ok(entry)
     }
 
-    /// Removes the first file of a name, whatever its case. Its blocks keep their bytes, and the
-    /// slot that falls free in the directory becomes zero. `NoFile`, and nothing changed, where
-    /// there is none.
+    /// Removes the first file with this name. Case is ignored. Its blocks keep their bytes. The directory slot that
+    /// becomes free is set to zero.
+    ///
+    /// # Errors
+    ///
+    /// `NoFile`: no file has this name. Nothing changes.
     pub fn remove(&mut self, name: &str) -> Result<(), VolumeFault>
         ensures removed { OnOk result
             (RemovesFile self.old self.new (slot_named (directory_of self.old) name.now)) }
@@ -276,9 +307,12 @@ impl Volume {
         self.remove_at(first)
     }
 
-    /// Removes the file in a slot of the directory, as `remove` does; a file of the same name in
-    /// another slot stays. Slots count from 1, in the order of `entries`. `NoFile`, and nothing
-    /// changed, where no file stands in it.
+    /// Removes the file in a slot of the directory, as `remove` does. Slots are numbered from 1, in the order of
+    /// `entries`. Files of the same name in other slots are unchanged.
+    ///
+    /// # Errors
+    ///
+    /// `NoFile`: the slot has no file. Nothing changes.
     pub fn remove_slot(&mut self, slot: u16) -> Result<(), VolumeFault>
         ensures removed { OnOk result
             (RemovesFile self.old self.new (slot_numbered (directory_of self.old) slot)) }
@@ -295,9 +329,14 @@ impl Volume {
         self.remove_at(there)
     }
 
-    /// Gives the first file of a name another one; the 16 bytes of the name are all that changes.
-    /// The refusals in order: `NoFile`, `BadName` for a new name that is none, `Duplicate` for
-    /// another file of the new name (the file's own name is allowed). A refusal changes nothing.
+    /// Renames the first file with the name `old`. Only the 16 bytes of its name change.
+    ///
+    /// # Errors
+    ///
+    /// Nothing changes. Checked in this order:
+    /// - `NoFile`: no file has the name `old`.
+    /// - `BadName`: `new` is not a valid name.
+    /// - `Duplicate`: another file has the name `new`. The file's own name is allowed.
     pub fn rename(&mut self, old: &str, new: &str) -> Result<(), VolumeFault>
         ensures renamed { OnOk result
             (RenamesFile self.old self.new (slot_named (directory_of self.old) old.now) new.now) }
@@ -315,9 +354,12 @@ impl Volume {
         self.rename_at(first, new)
     }
 
-    /// Gives the file in a slot of the directory another name, as `rename` does; a file of the same
-    /// name in another slot keeps it. Slots count from 1, in the order of `entries`. The refusals
-    /// are those of `rename`, `NoFile` where no file stands in the slot.
+    /// Renames the file in a slot of the directory, as `rename` does. Slots are numbered from 1, in the order of
+    /// `entries`. Files of the same name in other slots are unchanged.
+    ///
+    /// # Errors
+    ///
+    /// Those of `rename`, where `NoFile` means that the slot has no file. Nothing changes.
     pub fn rename_slot(&mut self, slot: u16, new: &str) -> Result<(), VolumeFault>
         ensures renamed { OnOk result
             (RenamesFile self.old self.new (slot_numbered (directory_of self.old) slot) new.now) }
@@ -335,9 +377,12 @@ impl Volume {
         self.rename_at(there, new)
     }
 
-    /// Gives the first file of a name, whatever its case, another kind: its low four bits take the
-    /// place of those of the kind word, and nothing else changes. `NoFile`, and nothing changed,
-    /// where no file has the name.
+    /// Sets the kind of the first file with this name to the low four bits of `kind`. Case is ignored. Nothing else
+    /// changes.
+    ///
+    /// # Errors
+    ///
+    /// `NoFile`: no file has this name. Nothing changes.
     pub fn set_kind(&mut self, name: &str, kind: u8) -> Result<(), VolumeFault>
         ensures set { OnOk result (SetsKind self.old self.new (slot_named (directory_of self.old) name.now) kind) }
         ensures volume { IsVolume self.new }
@@ -353,9 +398,12 @@ impl Volume {
         self.set_kind_at(first, kind)
     }
 
-    /// Gives the file in a slot of the directory another kind, as `set_kind` does; a file of the
-    /// same name in another slot keeps its own. Slots count from 1, in the order of `entries`.
-    /// `NoFile`, and nothing changed, where no file stands in it.
+    /// Sets the kind of the file in a slot of the directory, as `set_kind` does. Slots are numbered from 1, in the
+    /// order of `entries`. Files of the same name in other slots are unchanged.
+    ///
+    /// # Errors
+    ///
+    /// `NoFile`: the slot has no file. Nothing changes.
     pub fn set_slot_kind(&mut self, slot: u16, kind: u8) -> Result<(), VolumeFault>
         ensures set { OnOk result
             (SetsKind self.old self.new (slot_numbered (directory_of self.old) slot) kind) }
@@ -372,9 +420,11 @@ impl Volume {
         self.set_kind_at(there, kind)
     }
 
-    /// Moves the files together: each, in the order of the directory, down to the end of the one
-    /// before, the first to where files begin. Bad blocks (kind 1) stay. An entry gets new block
-    /// numbers and nothing else; blocks that fall free keep their bytes.
+    /// Moves the files together: in the order of the directory, each is moved down to the end of the one before it, and
+    /// the first to the block at which files begin.
+    ///
+    /// Bad blocks (kind 1) are not moved. In an entry only the block numbers change. Blocks that become free keep their
+    /// bytes.
     pub fn krunch(&mut self)
         ensures krunched { Krunches self.old self.new }
         ensures exact { self.new ≡ krunched_image self.old }
@@ -385,7 +435,7 @@ impl Volume {
         mirror(&mut self.bytes);
     }
 
-    /// Sets the volume's last date; nothing else changes.
+    /// Sets the last date of the volume, as a word. Nothing else changes.
     pub fn set_date(&mut self, date: u16)
         ensures dated { self.new ≡ dated_image self.old date }
         ensures volume { IsVolume self.new }
@@ -396,9 +446,12 @@ impl Volume {
         date_volume(&mut self.bytes, date);
     }
 
-    /// Forgets all files: a new directory of this name, with the number of blocks and the last date
-    /// that the volume had. All blocks past the directory keep their bytes. `BadName` for a text
-    /// that is no name of 1 to 7 characters.
+    /// Removes all files: writes a new directory with this name, and the old number of blocks and last date. All blocks
+    /// after the directory keep their bytes.
+    ///
+    /// # Errors
+    ///
+    /// `BadName`: `name` is not a name of 1 to 7 characters. Nothing changes.
     pub fn zero(&mut self, name: &str) -> Result<(), VolumeFault>
         ensures accepted { IsOk result ↔ IsTrue (is_new_name LONGEST_VOLUME_NAME name.now) }
         ensures good { OnOk result (is_new_name LONGEST_VOLUME_NAME name.now ≡ true) }
@@ -424,10 +477,14 @@ impl Volume {
         Ok(())
     }
 
-    /// Makes a second copy of the directory in blocks 6 to 9, so that files begin at block 10; a
-    /// copy that is there becomes the same as the first. The refusals in order: `BadHeader` for a
-    /// volume of fewer than 10 blocks, `Occupied` where a file, also an empty one, begins below
-    /// block 10. A refusal changes nothing.
+    /// Writes a second copy of the directory to blocks 6 to 9, so that files begin at block 10. If there is a second
+    /// copy, it is overwritten with the first.
+    ///
+    /// # Errors
+    ///
+    /// Nothing changes. Checked in this order:
+    /// - `BadHeader`: the volume has fewer than 10 blocks.
+    /// - `Occupied`: a file, even an empty one, begins before block 10.
     #[tactic(auto, unfolding(crate::specs::Made::doubled))]
     pub fn add_duplicate(&mut self) -> Result<(), VolumeFault>
         ensures doubled { OnOk result (doubled self.old ≡ Ok self.new) }
@@ -449,8 +506,8 @@ impl Volume {
         Ok(())
     }
 
-    /// Drops the second copy of the directory: files begin at block 6, and the blocks of the copy
-    /// become zero. A volume without one stays as it is.
+    /// Removes the second copy of the directory: files begin at block 6, and the blocks of the copy are set to zero. A
+    /// volume without a second copy is unchanged.
     pub fn drop_duplicate(&mut self)
         ensures singled { self.new ≡ singled self.old }
         ensures volume { IsVolume self.new }
@@ -462,14 +519,14 @@ impl Volume {
         drop_second(&mut self.bytes);
     }
 
-    // Whether a file begins below block 10.
+    // Whether a file begins before block 10.
     fn is_occupied(&self) -> bool
         ensures occupied { result ≡ is_occupied self.now }
     {
         self.entries().any(|entry| entry.first < PAST_SECOND)
     }
 
-    /// The image alone, as a disk: what is written to it may be anything, also in the directory.
+    /// Converts the volume to a disk. Anything can be written to a disk, also to its directory.
     pub fn into_disk(self) -> Disk
         ensures image { result ≡ self }
         ensures volume { IsVolume result }
@@ -478,7 +535,7 @@ impl Volume {
         Disk { bytes }
     }
 
-    // Where a new file of so many blocks goes, or why there is no place.
+    // Returns the gap for a new file of `need` blocks, or the fault if there is none.
     #[tactic(auto, unfolding(crate::specs::Changes::place_for))]
     fn place(&self, name: &str, need: usize) -> Result<Gap, VolumeFault>
         ensures volume { IsVolume self.now }
@@ -498,7 +555,7 @@ impl Volume {
         Gap::lowest(directory, need).ok_or(VolumeFault::NoRoom)
     }
 
-    // Removes the file in a slot, where one was found.
+    // Removes the file in `slot`. `None` is the fault `NoFile`.
     fn remove_at(&mut self, slot: Option<u16>) -> Result<(), VolumeFault>
         requires within { IfSome slot (λ slot. (1 ≤ slot) × (slot ≤ file_count (directory_of self.old))) }
         ensures removed { OnOk result (RemovesFile self.old self.new slot) }
@@ -518,7 +575,7 @@ impl Volume {
         Ok(())
     }
 
-    // Gives the file in a slot another name, where one was found.
+    // Renames the file in `slot`. `None` is the fault `NoFile`.
     fn rename_at(&mut self, slot: Option<u16>, new: &str) -> Result<(), VolumeFault>
         requires within { IfSome slot (λ slot. (1 ≤ slot) × (slot ≤ file_count (directory_of self.old))) }
         ensures renamed { OnOk result (RenamesFile self.old self.new slot new.now) }
@@ -535,7 +592,7 @@ impl Volume {
         Ok(())
     }
 
-    // The slot of the file that gets another name, where one was found, or why there is none.
+    // Returns the slot of the file to be renamed, or the fault.
     #[tactic(auto, unfolding(crate::specs::Changes::slot_to_rename))]
     fn slot_to_rename(&self, slot: Option<u16>, new: &str) -> Result<u16, VolumeFault>
         requires within { IfSome slot (λ slot. (1 ≤ slot) × (slot ≤ file_count (directory_of self.now))) }
@@ -557,7 +614,7 @@ impl Volume {
         Ok(slot)
     }
 
-    // Gives the file in a slot another kind, where one was found.
+    // Sets the kind of the file in `slot`. `None` is the fault `NoFile`.
     fn set_kind_at(&mut self, slot: Option<u16>, kind: u8) -> Result<(), VolumeFault>
         requires within { IfSome slot (λ slot. (1 ≤ slot) × (slot ≤ file_count (directory_of self.old))) }
         ensures set { OnOk result (SetsKind self.old self.new slot kind) }
@@ -577,7 +634,7 @@ impl Volume {
         Ok(())
     }
 
-    // The directory's 2,048 bytes.
+    // Returns the 2,048 bytes of the directory.
     fn directory(&self) -> &[u8]
         ensures volume { IsVolume self.now }
         ensures bytes { result.now ≡ directory_of self.now }
@@ -587,7 +644,7 @@ impl Volume {
     }
 }
 
-// The first fault of an image.
+// Returns the first fault of an image.
 #[tactic(auto, unfolding(crate::specs::Directory::image_fault))]
 fn fault_of_image(image: &[u8]) -> Option<VolumeFault>
     ensures first { result ≡ image_fault image.now }

@@ -56,7 +56,7 @@ fn stops(equal: bool, byte: u8, at: u8) -> bool
     (at == byte) == equal
 }
 
-// Returns the number of bytes before the first one that stops a scan.
+// Returns the number of bytes before the first one that stops a scan, or of all bytes if none does.
 pub fn passed(bytes: &[u8], byte: u8, equal: bool) -> usize
     ensures count { result ≡ passed bytes.now byte equal }
     ensures within { result ≤ length bytes.now }
@@ -64,7 +64,7 @@ pub fn passed(bytes: &[u8], byte: u8, equal: bool) -> usize
     first_stop(bytes, byte, equal).unwrap_or(bytes.len())
 }
 
-// Returns the number of bytes after the last one that stops a scan.
+// Returns the number of bytes after the last one that stops a scan, or of all bytes if none does.
 pub fn passed_back(bytes: &[u8], byte: u8, equal: bool) -> usize
     ensures count { result ≡ passed (reverse bytes.now) byte equal }
     ensures within { result ≤ length bytes.now }

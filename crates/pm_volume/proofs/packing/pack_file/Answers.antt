@@ -9,7 +9,7 @@ use Rattle.pm_volume.proofs.SlotLaws.{written_back}
 use Rattle.pm_volume.proofs.packing.pack_file.Goals as goal
 use Rattle.pm_volume.proofs.packing.pack_file.Goals.{After-move_part}
 
--- the image with the file's blocks moved
+-- The image with the blocks of the file moved.
 copied : (c : After-move_part) → c.move_part.new.bytes.items
     ≡ written c.args.image.now.items (512 * new_place c.args.from (entry_in (directory_of c.args.image.now.items) c.args.n))
     (blocks_of c.args.image.now.items (entry_in (directory_of c.args.image.now.items) c.args.n))

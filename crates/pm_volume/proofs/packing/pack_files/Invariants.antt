@@ -4,7 +4,8 @@ use Rattle.pm_volume.specs.Entries.{AreInOrder}
 use Rattle.pm_volume.specs.Packing.{packed_image}
 use Rattle.pm_volume.proofs.packing.pack_files.Given as goal
 
--- moving the files from here on gives the same as moving all; those from here on are in order behind the ones that were moved
+-- Moving the files from here on gives the same image as moving all. The files from here on are in order after those
+-- that were moved.
 abbrev pub invariant-loop-n : goal.invariant-loop-n
 invariant-loop-n l =
     let old = l.fn.image.items in

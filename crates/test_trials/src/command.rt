@@ -1,9 +1,10 @@
 //! One command line over a disk in memory.
+use crate::disk::{Disk, Inode, Name};
+use crate::runtime::FakeRuntime;
 use pm_program::program;
 use std::alloc::Global;
 use std::cell::RefCell;
 use std::io;
-use test_fake::{Disk, FakeRuntime, Inode, Name};
 
 /// A command line, standard input, and whether the standard streams are a terminal.
 #[derive(Clone, Copy)]

@@ -1,8 +1,8 @@
 //! Another program acts before each call of a command line in turn.
 use crate::command::{Came, CommandLine, come, copy};
+use crate::disk::{Act, Disk, Meanwhile};
 use std::alloc::Global;
 use std::io;
-use test_fake::{Act, Disk, Meanwhile};
 
 /// What another program does with a file.
 #[derive(Drop)]

@@ -1,5 +1,5 @@
 //! A machine under test: each call asserts what it comes to, so that a test is a list of calls.
-use crate::volumes::boots;
+use crate::booted::boots;
 use pm_machine::{BootFault, Machine, Stop};
 use pm_volume::Volume;
 use std::alloc::Global;

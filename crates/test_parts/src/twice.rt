@@ -4,8 +4,9 @@
 ghost use Rattle.std.specs.Prelude.{◌≡◌, length, sum};
 
 use crate::any_bytes::generated;
+use crate::booted::{boots, volume};
 use crate::codes::{CALLS, KEEPS, STORED_LINK, TOP};
-use crate::volumes::{boots, volume};
+use crate::programs::{EXITS, SEGMENTS};
 use pm_calls::Registers;
 use pm_debug::{DebugRefusal, Debugger};
 use pm_machine::{Machine, Stop};
@@ -13,7 +14,6 @@ use pm_words::ExecError;
 use std::alloc::Global;
 use std::process::Abort;
 use std::test::Fail;
-use test_parts::programs::{EXITS, SEGMENTS};
 
 /// A program in two machines.
 #[derive(Drop)]

@@ -2,14 +2,14 @@
 //! and calls no stream any more.
 ghost use Rattle.std.specs.Prelude.{◌≡◌, length, sum};
 
+use crate::job_tests::streams::raw;
+use crate::programs::{ADDITION, ADDITION_TRACE, ECHO, EXITS, LETTERS};
 use crate::recorder::{Call, Kind, Manner, Recorded, recorded_run};
-use crate::tests::streams::raw;
 use pm_tool::{Job, Saving, Selection};
 use pm_volume::Volume;
 use std::alloc::{AllocError, Global};
 use std::process::Abort;
 use std::test::Fail;
-use test_parts::programs::{ADDITION, ADDITION_TRACE, ECHO, EXITS, LETTERS};
 
 /// The program that leaves a segment by EXIT from another one.
 const EXITS_TRACE: &str = "\

@@ -1,8 +1,8 @@
 //! Steps that go the quick way: each opcode that has one goes it, and so does a whole program. No contract says so,
 //! since a machine that makes none of its steps so makes the same steps.
+use crate::booted::volume;
 use crate::codes::{CALLS, KEEPS, TOP};
 use crate::tested::Tested;
-use crate::volumes::volume;
 use pm_machine::{BootFault, Machine, RunEnd, Stop, StopTest};
 use std::alloc::Global;
 use std::process::Abort;

@@ -1,7 +1,7 @@
 //! What is written when. No clause can say it, since a sink knows no steps.
+use crate::job_tests::broken::{COMMANDS, Tried, image};
+use crate::job_tests::streams::raw;
 use crate::recorder::{Call, Kind, Manner, Recorded, recorded_run};
-use crate::tests::broken::{COMMANDS, Tried, image};
-use crate::tests::streams::raw;
 use pm_tool::{Job, Saving};
 use std::alloc::Global;
 use std::process::Abort;

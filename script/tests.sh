@@ -22,7 +22,7 @@ trap 'exit 143' HUP TERM
 
 # The names of all tests, those that take longest first.
 names() {
-    { printf '%s\n' test_trials test_cases && "$program" --list | sed -n 's|: test$||p'; } | awk '!seen[$0]++'
+    { printf '%s\n' test_cases test_trials && "$program" --list | sed -n 's|: test$||p'; } | awk '!seen[$0]++'
 }
 
 # Whether a name contains one of the words; without words, true.
@@ -37,11 +37,12 @@ is_wanted() {
 }
 
 # Splits the scripts of test_trials, which take longest, into parts of $scratch/trials that can run at the same time. A part
-# begins at a line `disk`, which removes all files. It repeats the setting `terminal`, which is not a file.
+# begins at a line `disk`, which removes all files: in large.trial, where a few lines take up to 17 s, at each of them. It
+# repeats the setting `terminal`, which is not a file.
 split_trials() {
     mkdir "$scratch/trials" && (cd "$here/crates/test_trials" && awk -v folder="$scratch/trials" '
         BEGIN { terminal = "terminal off" }
-        FNR == 1 || $0 == "disk" && size > 40000 {
+        FNR == 1 || $0 == "disk" && size > (FILENAME ~ /large/ ? 0 : 40000) {
             if (file) close(file)
             file = sprintf("%s/%02d", folder, ++count)
             size = 0
@@ -75,7 +76,8 @@ mkdir "$scratch/bin" "$scratch/rooms" && cp "$program" "$scratch/bin/tests" && s
 while IFS= read -r name; do
     is_wanted "$name" "$@" || continue
     if [ "$name" = test_trials ]; then
-        for part in "$scratch/trials"/*; do echo "test_trials ${part##*/}"; done
+        # (the last parts, of data/, take longest)
+        for part in "$scratch/trials"/*; do echo "test_trials ${part##*/}"; done | sort -r
     else
         echo "$name"
     fi

@@ -7,7 +7,7 @@ mod volumes;
 
 use crate::lines::Place;
 use crate::shows::Shown;
-use std::alloc::{AllocError, Global};
+use std::alloc::Global;
 use std::process::Abort;
 
 /// How many bytes there is room for in a buffer that calls fill: more than each answer here has.
@@ -20,10 +20,11 @@ struct Answer {
     bytes: Vec<u8>,
 }
 
-/// Makes a call that gives bytes to a buffer, its last two parameters.
+/// Makes a call that gives bytes to a buffer, its last two parameters. What takes memory ends the test where there is
+/// none, so that no body has a way out at each call.
 macro_rules! answer {
-    ($alloc:expr, $call:ident $(, $given:expr)*) => {{
-        let mut bytes = crate::calls::room($alloc)?;
+    ($rt:expr, $alloc:expr, $call:ident $(, $given:expr)*) => {{
+        let mut bytes = crate::calls::room($rt, $alloc);
         let mut needed = 0;
         let status = $call($alloc $(, $given)*, &mut bytes, &mut needed);
         bytes.truncate(needed);
@@ -34,10 +35,10 @@ macro_rules! answer {
 use answer;
 
 /// A buffer.
-fn room(alloc: Global) -> Result<Vec<u8>, AllocError> {
+fn room(rt: &impl Abort, alloc: Global) -> Vec<u8> {
     let mut bytes = Vec::new(alloc);
-    bytes.resize(ROOM, 0xA5)?;
-    Ok(bytes)
+    bytes.resize(ROOM, 0xA5).expect(rt, "memory");
+    bytes
 }
 
 /// No place in the code yet.

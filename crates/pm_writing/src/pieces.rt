@@ -13,12 +13,7 @@ use pm_notes::with_names;
 use std::alloc::{AllocError, Global};
 
 /// The bytes of a piece, with notes if they are to be written.
-fn told(
-    alloc: Global,
-    form: Form,
-    file: &CodeFile<'_>,
-    text: String,
-) -> Result<Vec<u8>, AllocError>
+fn told(alloc: Global, form: Form, file: &CodeFile<'_>, text: String) -> Result<Vec<u8>, AllocError>
     ensures piece { IfOk result (λ piece. piece.items ≡ told form file.now (string_bytes text)) }
 {
     match form {

@@ -38,12 +38,17 @@ pub fn add_trace(alloc: Global, code: &[u8], limit: u32, came: &mut Came) -> io:
     Ok(())
 }
 
-/// Runs the machine itself, and answers the registers and the words from SP upward that it is left with.
+/// Runs the machine itself, and answers what it is left with.
 fn add_end(alloc: Global, code: &[u8], limit: u32, came: &mut Came) -> io::Result<()> {
     let Ok(mut machine) = Machine::raw(alloc, code) else {
         return Ok(());
     };
     machine.run(u64::from(limit))?;
+    add_state(alloc, &machine, came)
+}
+
+/// Answers the registers and the words from SP upward.
+fn add_state(alloc: Global, machine: &Machine, came: &mut Came) -> io::Result<()> {
     let r = machine.registers();
     let (ipc, sp, mp, base, np, ioresult) = (r.ipc, r.sp, r.mp, r.base, r.np, r.ioresult);
     let registers = format!(in alloc; "{ipc} {sp} {mp} {base} {np} {ioresult}")?;

@@ -77,46 +77,70 @@ fn kinded(alloc: Global, rest: &str) -> io::Result<FileCommand> {
     Ok(FileCommand::Kind(name(alloc, file)?, kind(spelled)?))
 }
 
+/// The command of a word on the file of this name, or `zero`.
+fn named(word: &str, name: String) -> io::Result<FileCommand> {
+    match word {
+        "get" => Ok(FileCommand::Get(name)),
+        "gettext" => Ok(FileCommand::GetText(name)),
+        "remove" => Ok(FileCommand::Remove(name)),
+        "zero" => Ok(FileCommand::Zero(name)),
+        _ => Err(unreadable()),
+    }
+}
+
+/// The command of another name: `OLD NEW`.
+fn change(alloc: Global, rest: &str) -> io::Result<FileCommand> {
+    let (old, new) = two(rest)?;
+    let old = name(alloc, old)?;
+    let new = name(alloc, new)?;
+    Ok(FileCommand::Change(old, new))
+}
+
+/// The command of a line that has no content.
+fn plain(alloc: Global, line: Line<'_>) -> io::Result<FileCommand> {
+    match line.word {
+        "list" => Ok(FileCommand::List),
+        "krunch" => Ok(FileCommand::Krunch),
+        "duplicate" => Ok(FileCommand::Duplicate),
+        "single" => Ok(FileCommand::Single),
+        "change" => change(alloc, line.rest),
+        "kind" => kinded(alloc, line.rest),
+        "date" => date(line.rest),
+        word => named(word, name(alloc, line.rest)?),
+    }
+}
+
+/// The command of bytes that are put, `NAME KIND CONTENT`, and these bytes.
+fn put(alloc: Global, rest: &str, program: &[u8]) -> io::Result<(FileCommand, Vec<u8>)> {
+    let (file, rest) = two(rest)?;
+    let (spelled, rest) = two(rest)?;
+    let kind = kind(spelled)?;
+    let name = name(alloc, file)?;
+    let bytes = content(alloc, rest, program)?;
+    Ok((FileCommand::Put(name, kind, Vec::new(alloc)), bytes))
+}
+
+/// The command of a text that is put, `NAME CONTENT`, and its bytes.
+fn put_text(alloc: Global, rest: &str, program: &[u8]) -> io::Result<(FileCommand, Vec<u8>)> {
+    let (file, rest) = two(rest)?;
+    let name = name(alloc, file)?;
+    let bytes = content(alloc, rest, program)?;
+    Ok((FileCommand::PutText(name, Vec::new(alloc)), bytes))
+}
+
 /// The command of a line, and the input that stands for its file. `program` is what the content of that name is.
 pub fn command(
     alloc: Global,
     line: Line<'_>,
     program: &[u8],
 ) -> io::Result<(FileCommand, Vec<u8>)> {
-    let rest = line.rest;
-    let none = Vec::new(alloc);
-    if let Some(rest) = rest.strip_prefix("--slot ") {
-        return Ok((on_slot(alloc, line.word, rest)?, none));
-    }
-    match line.word {
-        "put" => {
-            let (file, rest) = two(rest)?;
-            let (spelled, rest) = two(rest)?;
-            let command = FileCommand::Put(name(alloc, file)?, kind(spelled)?, none);
-            Ok((command, content(alloc, rest, program)?))
-        }
-        "puttext" => {
-            let (file, rest) = two(rest)?;
-            let command = FileCommand::PutText(name(alloc, file)?, none);
-            Ok((command, content(alloc, rest, program)?))
-        }
-        "change" => {
-            let (old, new) = two(rest)?;
-            let command = FileCommand::Change(name(alloc, old)?, name(alloc, new)?);
-            Ok((command, none))
-        }
-        "kind" => Ok((kinded(alloc, rest)?, none)),
-        "list" => Ok((FileCommand::List, none)),
-        "get" => Ok((FileCommand::Get(name(alloc, rest)?), none)),
-        "gettext" => Ok((FileCommand::GetText(name(alloc, rest)?), none)),
-        "remove" => Ok((FileCommand::Remove(name(alloc, rest)?), none)),
-        "krunch" => Ok((FileCommand::Krunch, none)),
-        "date" => Ok((date(rest)?, none)),
-        "zero" => Ok((FileCommand::Zero(name(alloc, rest)?), none)),
-        "duplicate" => Ok((FileCommand::Duplicate, none)),
-        "single" => Ok((FileCommand::Single, none)),
-        _ => Err(unreadable()),
-    }
+    let command = match (line.rest.strip_prefix("--slot "), line.word) {
+        (Some(rest), word) => on_slot(alloc, word, rest)?,
+        (None, "put") => return put(alloc, line.rest, program),
+        (None, "puttext") => return put_text(alloc, line.rest, program),
+        _ => plain(alloc, line)?,
+    };
+    Ok((command, Vec::new(alloc)))
 }
 
 /// The command of this word on the file of a slot, `N` or `N NEW`.

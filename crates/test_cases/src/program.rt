@@ -51,9 +51,10 @@ pub fn work(alloc: Global, case: &Case<'_>, named: bool) -> io::Result<Vec<u8>> 
         Some(kind) => byte(kind)?,
         None => CODE,
     };
-    let image = volume(alloc, "WORK", blocks)?;
-    let command = FileCommand::Put(String::from_str(alloc, "P")?, kind, Vec::new(alloc));
     let file = code_file(alloc, case, named)?;
+    let image = volume(alloc, "WORK", blocks)?;
+    let name = String::from_str(alloc, "P")?;
+    let command = FileCommand::Put(name, kind, Vec::new(alloc));
     do_job(alloc, Job::Files { image, command }, &file).into_image()
 }
 
@@ -65,19 +66,49 @@ pub fn limit(case: &Case<'_>) -> io::Result<u64> {
     }
 }
 
+/// The place of a blank disk in that order, and its image: `UNIT BLOCKS`.
+fn blank_disk(alloc: Global, rest: &str) -> io::Result<(usize, Vec<u8>)> {
+    let (unit, blocks) = rest.split_once(' ').ok_or_else(unreadable)?;
+    let place = UNITS.iter().position(|known| *known == unit);
+    let place = place.ok_or_else(unreadable)?;
+    Ok((place, volume(alloc, "V", word(blocks)?)?))
+}
+
 /// The disks of a case: a copy of the volume with the program on unit 4, and blank ones.
 pub fn disks(alloc: Global, case: &Case<'_>, work: &[u8]) -> io::Result<Images> {
     let mut disks = [Some(work.to_vec(alloc)?), None, None, None, None, None];
     for line in case.lines.iter() {
         if line.word == "disk" {
-            let (unit, blocks) = line.rest.split_once(' ').ok_or_else(unreadable)?;
-            let place = UNITS.iter().position(|known| *known == unit);
-            let place = place.ok_or_else(unreadable)?;
-            let image = volume(alloc, "V", word(blocks)?)?;
+            let (place, image) = blank_disk(alloc, line.rest)?;
             *disks.get_mut(place).ok_or_else(unreadable)? = Some(image);
         }
     }
     Ok(disks)
+}
+
+/// What a job takes to start a program.
+#[derive(Drop)]
+struct Start {
+    disks: Images,
+    name: String,
+    system: Option<Vec<u8>>,
+}
+
+/// The keys of a case.
+fn keys(alloc: Global, case: &Case<'_>) -> io::Result<Vec<u8>> {
+    hex_bytes(alloc, case.value("keys").unwrap_or(""))
+}
+
+/// The lines that the debugger gets.
+fn typed(alloc: Global, case: &Case<'_>) -> io::Result<Vec<u8>> {
+    let mut typed = Vec::new(alloc);
+    for line in case.lines.iter() {
+        if line.word == ">" {
+            add_escaped(&mut typed, line.rest)?;
+            typed.push(b'\n')?;
+        }
+    }
+    Ok(typed)
 }
 
 impl Program {
@@ -89,48 +120,69 @@ impl Program {
         }
     }
 
+    /// How it is started.
+    fn start(&self, alloc: Global, case: &Case<'_>) -> io::Result<Start> {
+        let name = name(alloc, case.value("name").unwrap_or("P"))?;
+        let system = self.system(alloc)?;
+        let disks = disks(alloc, case, &self.work)?;
+        Ok(Start {
+            disks,
+            name,
+            system,
+        })
+    }
+
     /// What a run of it comes to.
     pub fn run(&self, alloc: Global, case: &Case<'_>, saving: Saving) -> io::Result<Ran> {
+        let keys = keys(alloc, case)?;
+        let Start {
+            disks,
+            name,
+            system,
+        } = self.start(alloc, case)?;
         let job = Job::Run {
-            disks: disks(alloc, case, &self.work)?,
-            name: name(alloc, case.value("name").unwrap_or("P"))?,
+            disks,
+            name,
             limit: self.limit,
             saving,
-            system: self.system(alloc)?,
+            system,
         };
-        let keys = hex_bytes(alloc, case.value("keys").unwrap_or(""))?;
         Ok(do_job(alloc, job, &keys))
     }
 
     /// Its trace.
     pub fn trace(&self, alloc: Global, case: &Case<'_>, selection: Selection) -> io::Result<Ran> {
+        let keys = keys(alloc, case)?;
+        let Start {
+            disks,
+            name,
+            system,
+        } = self.start(alloc, case)?;
         let job = Job::Trace {
-            disks: disks(alloc, case, &self.work)?,
-            name: name(alloc, case.value("name").unwrap_or("P"))?,
+            disks,
+            name,
             limit: self.limit,
-            system: self.system(alloc)?,
+            system,
             selection,
         };
-        let keys = hex_bytes(alloc, case.value("keys").unwrap_or(""))?;
         Ok(do_job(alloc, job, &keys))
     }
 
     /// What the debugger answers to the lines of the case.
     pub fn debug(&self, alloc: Global, case: &Case<'_>) -> io::Result<Ran> {
+        let lines = typed(alloc, case)?;
+        let Start {
+            disks,
+            name,
+            system,
+        } = self.start(alloc, case)?;
         let job = Job::Debug {
-            disks: disks(alloc, case, &self.work)?,
-            name: name(alloc, case.value("name").unwrap_or("P"))?,
-            system: self.system(alloc)?,
+            disks,
+            name,
+            system,
             typed: Vec::new(alloc),
         };
-        let mut typed = Vec::new(alloc);
-        for line in case.lines.iter() {
-            if line.word == ">" {
-                add_escaped(&mut typed, line.rest)?;
-                typed.push(b'\n')?;
-            }
-        }
-        Ok(do_job(alloc, job, &typed))
+        Ok(do_job(alloc, job, &lines))
     }
 
     /// Answers the digest of its trace and what the debugger answers, each where the case asks for it.

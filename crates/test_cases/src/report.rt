@@ -150,15 +150,14 @@ fn told(
     let equal = alike(wanted, came.answers.as_str());
     let given = given_before(kind, case, equal);
     let mut text = format!(in alloc; "  line {number}, {name}\n  behind {given}\n")?;
-    add_lines(&mut text, "  expected: ", wanted, equal, LINES)?;
-    add_lines(
-        &mut text,
-        "  came:     ",
-        came.answers.as_str(),
-        equal,
-        LINES,
-    )?;
-    add_lines(&mut text, "  shown:    ", came.shown.as_str(), 0, TRACE)?;
+    let rows = [
+        ("  expected: ", wanted, equal, LINES),
+        ("  came:     ", came.answers.as_str(), equal, LINES),
+        ("  shown:    ", came.shown.as_str(), 0, TRACE),
+    ];
+    for (what, lines, from, most) in rows {
+        add_lines(&mut text, what, lines, from, most)?;
+    }
     Ok(text)
 }
 

@@ -160,39 +160,55 @@ impl Session {
         self.write(number(to)?, &part)
     }
 
-    /// Changes the image as a line without an answer says; false where the line is none of these.
-    fn prepare(&mut self, line: Line<'_>) -> io::Result<bool> {
-        match line.word {
-            "<" => (),
-            "byte" => damage(&mut self.image, line.rest)?,
-            "bytes" => {
-                let (place, spelled) = two(line.rest)?;
-                let bytes = hex_bytes(self.alloc, spelled)?;
-                self.write(number(place)?, &bytes)?;
-            }
-            "copy" => self.copy(line.rest)?,
-            "blank" => {
-                self.image.clear();
-                self.image.resize(number(line.rest)?, 0)?;
-            }
-            "size" => self.image.resize(number(line.rest)?, 0)?,
-            "keep" => self.kept = self.image.to_vec(self.alloc)?,
-            "back" => self.image = self.kept.to_vec(self.alloc)?,
-            "take" => self.image = self.saved.to_vec(self.alloc)?,
-            _ => return Ok(false),
-        }
-        Ok(true)
+    /// Writes bytes: `PLACE BYTES`.
+    fn put(&mut self, rest: &str) -> io::Result<()> {
+        let (place, spelled) = two(rest)?;
+        let place = number(place)?;
+        let bytes = hex_bytes(self.alloc, spelled)?;
+        self.write(place, &bytes)
     }
 
-    /// Does one line.
+    /// Makes the image as long as a word says, with zeros at its end.
+    fn resize(&mut self, rest: &str) -> io::Result<()> {
+        self.image.resize(number(rest)?, 0)?;
+        Ok(())
+    }
+
+    /// Does one line: those that change the image without an answer first.
     pub fn line(&mut self, line: Line<'_>) -> io::Result<()> {
-        if self.prepare(line)? {
-            return Ok(());
+        let rest = line.rest;
+        match line.word {
+            "<" => Ok(()),
+            "byte" => damage(&mut self.image, rest),
+            "bytes" => self.put(rest),
+            "copy" => self.copy(rest),
+            "blank" => {
+                self.image.clear();
+                self.resize(rest)
+            }
+            "size" => self.resize(rest),
+            "keep" => {
+                self.kept = self.image.to_vec(self.alloc)?;
+                Ok(())
+            }
+            "back" => {
+                self.image = self.kept.to_vec(self.alloc)?;
+                Ok(())
+            }
+            "take" => {
+                self.image = self.saved.to_vec(self.alloc)?;
+                Ok(())
+            }
+            "@" => self.add_place(rest),
+            "new" => self.make(rest),
+            _ => self.job(line),
         }
+    }
+
+    /// Does the job of a line on the image.
+    fn job(&mut self, line: Line<'_>) -> io::Result<()> {
         let image = self.image.to_vec(self.alloc)?;
         match (line.word, line.rest) {
-            ("@", rest) => self.add_place(rest),
-            ("new", rest) => self.make(rest),
             ("repair", "") => self.add(do_job(self.alloc, Job::Repair { image }, b"")),
             ("check", "") => self.add_told(&do_job(self.alloc, Job::Check { image }, b"")),
             ("salvage", "") => self.salvage(image, false),

@@ -129,19 +129,21 @@ fn plain_job(words: &str) -> io::Result<Job> {
     }
 }
 
-/// What the job of a line comes to, if the line is a job.
-fn ran_of(alloc: Global, case: &Case<'_>, line: Line<'_>) -> io::Result<Option<Ran>> {
-    let ran = match line.word {
-        "raw" => raw(alloc, case, line.rest)?,
-        "trace" => {
-            let words = Words::of(line.rest)?;
-            program(alloc, case, words.limit)?.trace(alloc, case, words.selection)?
-        }
-        "asm" => do_job(alloc, plain_job(line.text)?, &text(alloc, case)?),
-        "dis" => do_job(alloc, plain_job(line.text)?, &code_file(alloc, case, true)?),
-        _ => return Ok(None),
+/// The trace of a program.
+fn trace(alloc: Global, case: &Case<'_>, rest: &str) -> io::Result<Ran> {
+    let words = Words::of(rest)?;
+    program(alloc, case, words.limit)?.trace(alloc, case, words.selection)
+}
+
+/// What the job of a line comes to.
+fn ran_of(alloc: Global, case: &Case<'_>, line: Line<'_>) -> io::Result<Ran> {
+    let input = match line.word {
+        "raw" => return raw(alloc, case, line.rest),
+        "trace" => return trace(alloc, case, line.rest),
+        "asm" => text(alloc, case)?,
+        _ => code_file(alloc, case, true)?,
     };
-    Ok(Some(ran))
+    Ok(do_job(alloc, plain_job(line.text)?, &input))
 }
 
 /// Answers what a job wrote, and its message if there is one.
@@ -188,8 +190,8 @@ fn add_session(alloc: Global, case: &Case<'_>, came: &mut Came) -> io::Result<()
 pub fn answers(alloc: Global, case: &Case<'_>) -> io::Result<Came> {
     let mut came = Came::new(alloc);
     for line in case.lines.iter() {
-        if let Some(ran) = ran_of(alloc, case, *line)? {
-            add_ran(alloc, &ran, &mut came)?;
+        if matches!(line.word, "raw" | "trace" | "asm" | "dis") {
+            add_ran(alloc, &ran_of(alloc, case, *line)?, &mut came)?;
         }
     }
     if case.has(">") {

@@ -30,12 +30,18 @@ fn add_images(
 ) -> io::Result<()> {
     let before = disks(alloc, case, work)?;
     let (first, others) = (&ran.outcome.image, &ran.outcome.others);
-    add_image(alloc, "image 4", &before[0], first, came)?;
-    add_image(alloc, "image 5", &before[1], &others[0], came)?;
-    add_image(alloc, "image 9", &before[2], &others[1], came)?;
-    add_image(alloc, "image 10", &before[3], &others[2], came)?;
-    add_image(alloc, "image 11", &before[4], &others[3], came)?;
-    add_image(alloc, "image 12", &before[5], &others[4], came)
+    let rows = [
+        ("image 4", &before[0], first),
+        ("image 5", &before[1], &others[0]),
+        ("image 9", &before[2], &others[1]),
+        ("image 10", &before[3], &others[2]),
+        ("image 11", &before[4], &others[3]),
+        ("image 12", &before[5], &others[4]),
+    ];
+    for (word, before, behind) in rows {
+        add_image(alloc, word, before, behind, came)?;
+    }
+    Ok(())
 }
 
 /// What comes of a case.

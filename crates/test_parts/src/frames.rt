@@ -2,9 +2,8 @@
 use pm_calls::{Frames, Registers, ValidRegisters};
 use pm_families::Call;
 use pm_words::{ExecError, Memory};
-use std::alloc::{AllocError, Global};
+use std::alloc::Global;
 use std::process::Abort;
-use std::test::Fail;
 
 // A segment at 2000 with one procedure, whose table stands at 1900.
 fn put_segment(memory: &mut Memory) {
@@ -42,52 +41,58 @@ struct Parts {
 }
 
 impl Parts {
-    fn new(alloc: Global) -> Result<Parts, AllocError> {
-        let mut memory = Memory::new(alloc)?;
+    fn new(rt: &impl Abort, alloc: Global) -> Parts {
+        let mut memory = Memory::new(alloc).expect(rt, "memory");
         put_segment(&mut memory);
-        Ok(Parts {
+        Parts {
             memory,
-            scratch: Memory::new(alloc)?,
+            scratch: Memory::new(alloc).expect(rt, "memory"),
             frames: Frames::new(),
             registers: registers(),
-        })
+        }
     }
 
-    fn call(&mut self) -> Result<(), ExecError> {
-        self.frames.call(
-            &mut self.memory,
-            &mut self.registers,
-            Call::Clp(1),
-            None,
-            &mut self.scratch,
-        )
+    fn call(&mut self, rt: &impl Abort) {
+        self.frames
+            .call(
+                &mut self.memory,
+                &mut self.registers,
+                Call::Clp(1),
+                None,
+                &mut self.scratch,
+            )
+            .expect(rt, "a call");
     }
 
     // A call of procedure 1 of a slot, whose code is lent.
-    fn call_slot(&mut self, slot: u8) -> Result<(), ExecError> {
-        self.frames.call(
-            &mut self.memory,
-            &mut self.registers,
-            Call::Cxp(slot, 1),
-            Some(&CODE),
-            &mut self.scratch,
-        )
+    fn call_slot(&mut self, rt: &impl Abort, slot: u8) {
+        self.frames
+            .call(
+                &mut self.memory,
+                &mut self.registers,
+                Call::Cxp(slot, 1),
+                Some(&CODE),
+                &mut self.scratch,
+            )
+            .expect(rt, "a call");
     }
 
-    fn call_segment(&mut self) -> Result<(), ExecError> {
-        self.call_slot(3)
+    fn call_segment(&mut self, rt: &impl Abort) {
+        self.call_slot(rt, 3);
     }
 
     // Keeps slot 3, whose code is lent.
-    fn keep_segment(&mut self) -> Result<(), ExecError> {
+    fn keep_segment(&mut self, rt: &impl Abort) {
         self.frames
             .keep(&mut self.memory, &mut self.registers, 3, Some(&CODE))
+            .expect(rt, "a segment");
     }
 
     // A return by RBP or by RNP.
-    fn ret(&mut self, base: bool) -> Result<(), ExecError> {
+    fn ret(&mut self, rt: &impl Abort, base: bool) {
         self.frames
             .ret(&mut self.memory, &mut self.registers, 0, base)
+            .expect(rt, "a return");
     }
 
     fn link(&mut self, n: u16) -> Result<u16, ExecError> {
@@ -110,200 +115,193 @@ impl Parts {
 }
 
 #[test]
-fn few_words_are_watched(rt: HostRuntime) -> Result<(), Fail> {
-    let mut parts = Parts::new(rt.alloc())?;
-    parts.call()?;
-    parts.call()?;
-    parts.call()?;
+fn few_words_are_watched(rt: HostRuntime) {
+    let mut parts = Parts::new(&rt, rt.alloc());
+    parts.call(&rt);
+    parts.call(&rt);
+    parts.call(&rt);
     assert!(rt; parts.link(3) == Ok(65492));
-    parts.call()?;
+    parts.call(&rt);
     parts.has_bases(&rt, 5);
     parts.keeps_tables(&rt, 1);
     parts.is_untouched(&rt);
-    Ok(())
 }
 
 #[test]
-fn kept_links_need_no_memory(rt: HostRuntime) -> Result<(), Fail> {
-    let mut parts = Parts::new(rt.alloc())?;
-    let mut other = Memory::new(rt.alloc())?;
-    parts.call()?;
-    parts.call()?;
-    parts.call()?;
+fn kept_links_need_no_memory(rt: HostRuntime) {
+    let mut parts = Parts::new(&rt, rt.alloc());
+    let mut other = Memory::new(rt.alloc()).expect(&rt, "memory");
+    parts.call(&rt);
+    parts.call(&rt);
+    parts.call(&rt);
     let mp = parts.registers.registers().mp;
     let link = parts.link(2);
     assert!(rt; link == Ok(59988));
     assert!(rt; parts.frames.link(&mut other, mp, 2) == link);
     parts.memory.set_word(mp, 65492);
     assert!(rt; parts.link(1) == Ok(65492));
-    Ok(())
 }
 
 #[test]
-fn calls_and_returns_keep_what_is_kept(rt: HostRuntime) -> Result<(), Fail> {
-    let mut parts = Parts::new(rt.alloc())?;
-    parts.call()?;
-    parts.call()?;
+fn calls_and_returns_keep_what_is_kept(rt: HostRuntime) {
+    let mut parts = Parts::new(&rt, rt.alloc());
+    parts.call(&rt);
+    parts.call(&rt);
     assert!(rt; parts.link(2) == Ok(65492));
     for _i in 0..1000 {
-        parts.call()?;
-        parts.ret(false)?;
+        parts.call(&rt);
+        parts.ret(&rt, false);
         parts.is_untouched(&rt);
         parts.has_bases(&rt, 3);
         parts.keeps_tables(&rt, 1);
     }
-    Ok(())
 }
 
 // 50 calls, and the returns from them.
-fn descends(rt: &impl Abort, parts: &mut Parts) -> Result<(), ExecError> {
+fn descends(rt: &impl Abort, parts: &mut Parts) {
     for depth in 0..50 {
-        parts.call()?;
+        parts.call(rt);
         let bases = parts.frames.bases().len();
         assert!(rt; bases == depth + 1 || bases == depth + 2);
     }
     assert!(rt; parts.link(50) == Ok(65492));
     parts.has_bases(rt, 51);
     for _depth in 0..50 {
-        parts.ret(false)?;
+        parts.ret(rt, false);
         parts.is_untouched(rt);
     }
     assert!(rt; parts.registers.registers().mp == 65492);
     parts.has_bases(rt, 1);
     parts.keeps_tables(rt, 1);
-    Ok(())
 }
 
 #[test]
-fn a_deep_descent_keeps_all_bases(rt: HostRuntime) -> Result<(), Fail> {
-    let mut parts = Parts::new(rt.alloc())?;
+fn a_deep_descent_keeps_all_bases(rt: HostRuntime) {
+    let mut parts = Parts::new(&rt, rt.alloc());
     for _round in 0..20 {
-        descends(&rt, &mut parts)?;
+        descends(&rt, &mut parts);
     }
-    Ok(())
 }
 
 // Of 130 calls the last 128 frames are kept; the words of the others are given back, so that the same calls again
 // write no watched word.
 #[test]
-fn the_129th_base_gives_its_word_back(rt: HostRuntime) -> Result<(), Fail> {
-    let mut parts = Parts::new(rt.alloc())?;
+fn the_129th_base_gives_its_word_back(rt: HostRuntime) {
+    let mut parts = Parts::new(&rt, rt.alloc());
     for _round in 0..2 {
         for _depth in 0..130 {
-            parts.call()?;
+            parts.call(&rt);
             parts.is_untouched(&rt);
         }
         parts.has_bases(&rt, 128);
         for _depth in 0..130 {
-            parts.ret(false)?;
+            parts.ret(&rt, false);
             parts.is_untouched(&rt);
         }
         assert!(rt; parts.registers.registers().mp == 65492);
     }
-    Ok(())
 }
 
 // Segment 3 calls segment 4, which calls segment 3: its tables stay over the return from the inner call, since the
 // outer one still runs, and go with that.
 #[test]
-fn tables_of_a_called_segment_stay_over_an_inner_return(rt: HostRuntime) -> Result<(), Fail> {
-    let mut parts = Parts::new(rt.alloc())?;
+fn tables_of_a_called_segment_stay_over_an_inner_return(rt: HostRuntime) {
+    let mut parts = Parts::new(&rt, rt.alloc());
     for _i in 0..20 {
-        parts.call_slot(3)?;
-        parts.call_slot(4)?;
-        parts.call_slot(3)?;
+        parts.call_slot(&rt, 3);
+        parts.call_slot(&rt, 4);
+        parts.call_slot(&rt, 3);
         assert!(rt; parts.frames.place(3) == Some((59998, 2)));
         parts.keeps_tables(&rt, 2);
-        parts.ret(true)?;
+        parts.ret(&rt, true);
         assert!(rt; parts.frames.place(3) == Some((59998, 1)));
         parts.keeps_tables(&rt, 2);
-        parts.ret(true)?;
+        parts.ret(&rt, true);
         parts.keeps_tables(&rt, 1);
-        parts.ret(true)?;
+        parts.ret(&rt, true);
         parts.keeps_tables(&rt, 0);
         parts.is_untouched(&rt);
     }
-    Ok(())
 }
 
 #[test]
-fn a_forgotten_segment_leaves_no_word_watched(rt: HostRuntime) -> Result<(), Fail> {
-    let mut parts = Parts::new(rt.alloc())?;
-    parts.call()?;
+fn a_forgotten_segment_leaves_no_word_watched(rt: HostRuntime) {
+    let mut parts = Parts::new(&rt, rt.alloc());
+    parts.call(&rt);
     for _i in 0..20 {
-        parts.call_segment()?;
+        parts.call_segment(&rt);
         assert!(rt; parts.frames.place(3) == Some((59986, 1)));
         parts.keeps_tables(&rt, 2);
-        parts.ret(true)?;
+        parts.ret(&rt, true);
         assert!(rt; parts.frames.place(3).is_none());
         parts.keeps_tables(&rt, 1);
         parts.memory.set_word(59986, 7);
         parts.is_untouched(&rt);
     }
-    Ok(())
 }
 
 #[test]
-fn calls_of_a_segment_that_stays_touch_nothing(rt: HostRuntime) -> Result<(), Fail> {
-    let mut parts = Parts::new(rt.alloc())?;
-    parts.call_segment()?;
-    parts.call()?;
+fn calls_of_a_segment_that_stays_touch_nothing(rt: HostRuntime) {
+    let mut parts = Parts::new(&rt, rt.alloc());
+    parts.call_segment(&rt);
+    parts.call(&rt);
     for _i in 0..100 {
-        parts.call_segment()?;
+        parts.call_segment(&rt);
         assert!(rt; parts.frames.place(3) == Some((59998, 1)));
-        parts.ret(true)?;
+        parts.ret(&rt, true);
         parts.is_untouched(&rt);
         parts.keeps_tables(&rt, 1);
     }
-    Ok(())
 }
 
 // A kept segment keeps its table too, and given up it leaves no word watched.
 #[test]
-fn calls_of_a_kept_segment_keep_its_table(rt: HostRuntime) -> Result<(), Fail> {
-    let mut parts = Parts::new(rt.alloc())?;
-    parts.call()?;
+fn calls_of_a_kept_segment_keep_its_table(rt: HostRuntime) {
+    let mut parts = Parts::new(&rt, rt.alloc());
+    parts.call(&rt);
     let sp = parts.registers.registers().sp;
-    parts.keep_segment()?;
+    parts.keep_segment(&rt);
     for _i in 0..100 {
-        parts.call_segment()?;
-        parts.ret(true)?;
+        parts.call_segment(&rt);
+        parts.ret(&rt, true);
         parts.keeps_tables(&rt, 2);
         parts.is_untouched(&rt);
     }
     assert!(rt; parts.registers.registers().sp == sp.wrapping_sub(16));
     parts
         .frames
-        .unkeep(&mut parts.memory, &mut parts.registers, 3, 16)?;
+        .unkeep(&mut parts.memory, &mut parts.registers, 3, 16)
+        .expect(&rt, "a kept segment");
     assert!(rt; parts.registers.registers().sp == sp);
     parts.keeps_tables(&rt, 1);
     parts.memory.set_word(sp.wrapping_sub(2), 7);
     parts.is_untouched(&rt);
-    Ok(())
 }
 
 #[test]
-fn exit_touches_nothing(rt: HostRuntime) -> Result<(), Fail> {
-    let mut parts = Parts::new(rt.alloc())?;
-    parts.call()?;
-    parts.call()?;
+fn exit_touches_nothing(rt: HostRuntime) {
+    let mut parts = Parts::new(&rt, rt.alloc());
+    parts.call(&rt);
+    parts.call(&rt);
     assert!(rt; parts.link(2) == Ok(65492));
-    parts.frames.exit(
-        &mut parts.memory,
-        &mut parts.registers,
-        1,
-        1,
-        &mut parts.scratch,
-    )?;
+    parts
+        .frames
+        .exit(
+            &mut parts.memory,
+            &mut parts.registers,
+            1,
+            1,
+            &mut parts.scratch,
+        )
+        .expect(&rt, "an exit");
     parts.is_untouched(&rt);
     parts.has_bases(&rt, 3);
     parts.keeps_tables(&rt, 1);
-    Ok(())
 }
 
 #[test]
-fn sixteen_tables_are_kept(rt: HostRuntime) -> Result<(), Fail> {
-    let mut memory = Memory::new(rt.alloc())?;
+fn sixteen_tables_are_kept(rt: HostRuntime) {
+    let mut memory = Memory::new(rt.alloc()).expect(&rt, "memory");
     // seventeen procedures, whose tables stand at 1900, 1888, ..
     memory.set_word(2000, 17 * 256 + 1);
     for p in 1..18_u16 {
@@ -323,5 +321,4 @@ fn sixteen_tables_are_kept(rt: HostRuntime) -> Result<(), Fail> {
     assert!(rt; !memory.touched());
     memory.set_word(1888, 5);
     assert!(rt; memory.touched());
-    Ok(())
 }

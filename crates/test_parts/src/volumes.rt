@@ -3,7 +3,6 @@
 use pm_volume::{Copies, Volume, VolumeFault};
 use std::alloc::{AllocError, Global};
 use std::process::Abort;
-use std::test::Fail;
 
 // The image of a new volume of 20 blocks.
 fn work(alloc: Global) -> Result<Vec<u8>, VolumeFault> {
@@ -30,13 +29,13 @@ fn fault_after(alloc: Global, at: usize, bytes: &[u8]) -> Option<VolumeFault> {
 }
 
 // The fault of an image of so many zeros.
-fn fault_of_zeros(alloc: Global, count: usize) -> Result<Option<VolumeFault>, AllocError> {
-    let image = vec![in alloc; 0; count]?;
-    Ok(Volume::open(image).err().map(|e| e.0))
+fn fault_of_zeros(rt: &impl Abort, alloc: Global, count: usize) -> Option<VolumeFault> {
+    let image = vec![in alloc; 0; count].expect(rt, "memory");
+    Volume::open(image).err().map(|e| e.0)
 }
 
 #[test]
-fn refused_images(rt: HostRuntime) -> Result<(), Fail> {
+fn refused_images(rt: HostRuntime) {
     let header = Some(VolumeFault::BadHeader);
     assert_eq!(rt; fault_after(rt.alloc(), 0, b"\x00"), None);
     assert_eq!(rt; fault_after(rt.alloc(), 1030, b"\x00"), header);
@@ -60,13 +59,12 @@ fn refused_images(rt: HostRuntime) -> Result<(), Fail> {
     write(&mut file, 10, b"\x06\x00\x14\x00");
     assert_eq!(rt; fault_after(rt.alloc(), 1040, &file), None);
     let blocks = Some(VolumeFault::NotBlocks);
-    assert_eq!(rt; fault_of_zeros(rt.alloc(), 513)?, blocks);
+    assert_eq!(rt; fault_of_zeros(&rt, rt.alloc(), 513), blocks);
     let short = Some(VolumeFault::TooShort);
-    assert_eq!(rt; fault_of_zeros(rt.alloc(), 2560)?, short);
-    assert_eq!(rt; fault_of_zeros(rt.alloc(), 0)?, short);
+    assert_eq!(rt; fault_of_zeros(&rt, rt.alloc(), 2560), short);
+    assert_eq!(rt; fault_of_zeros(&rt, rt.alloc(), 0), short);
     assert_eq!(rt; VolumeFault::BadEntry(7).detail(), Some(7));
     assert_eq!(rt; VolumeFault::NoMemory.number(), 12);
-    Ok(())
 }
 
 // A file is one block with this byte in each place.
@@ -79,26 +77,28 @@ fn has_block(rt: &impl Abort, volume: &Volume, name: &str, first: u16, byte: u8)
 }
 
 #[test]
-fn full_volume(rt: HostRuntime) -> Result<(), Fail> {
-    let mut volume = Volume::blank(rt.alloc(), "WORK", 83)?;
+fn full_volume(rt: HostRuntime) {
+    let mut volume = Volume::blank(rt.alloc(), "WORK", 83).expect(&rt, "a volume");
     for n in 1..78u32 {
-        let name = format!(in rt.alloc(); "F{}{}", n / 10, n % 10)?;
-        let e = volume.add(&name, 5, &[n as u8; 512], 0)?;
+        let name = format!(in rt.alloc(); "F{}{}", n / 10, n % 10).expect(&rt, "memory");
+        let e = volume
+            .add(&name, 5, &[n as u8; 512], 0)
+            .expect(&rt, "no refusal");
         assert_eq!(rt; u32::from(e.first), n + 5);
     }
     assert_eq!(rt;
         volume.add("F78", 5, b"", 0).err(),
         Some(VolumeFault::DirectoryFull)
     );
-    volume.remove("f10")?;
-    volume.remove("F20")?;
+    volume.remove("f10").expect(&rt, "no refusal");
+    volume.remove("F20").expect(&rt, "no refusal");
     let two = [8; 1024];
     assert_eq!(rt;
         volume.add("TWO", 5, &two, 0).err(),
         Some(VolumeFault::NoRoom)
     );
     volume.krunch();
-    let e = volume.add("TWO", 5, &two, 0)?;
+    let e = volume.add("TWO", 5, &two, 0).expect(&rt, "no refusal");
     assert_eq!(rt; (e.first, e.end), (81, 83));
     assert_eq!(rt; volume.entries().count(), 76);
     // those behind a file that went have moved by a block or by two, with their bytes
@@ -110,14 +110,13 @@ fn full_volume(rt: HostRuntime) -> Result<(), Fail> {
     ] {
         has_block(&rt, &volume, name, first, byte);
     }
-    Ok(())
 }
 
 #[test]
-fn files_come_and_go(rt: HostRuntime) -> Result<(), Fail> {
-    let mut volume = Volume::blank(rt.alloc(), "work", 20)?;
+fn files_come_and_go(rt: HostRuntime) {
+    let mut volume = Volume::blank(rt.alloc(), "work", 20).expect(&rt, "a volume");
     assert_eq!(rt; volume.name(), b"WORK".as_slice());
-    let a = volume.add("a", 21, b"xyz", 9)?;
+    let a = volume.add("a", 21, b"xyz", 9).expect(&rt, "no refusal");
     assert_eq!(rt; (a.first, a.end, a.last_bytes, a.kind), (6, 7, 3, 5));
     assert_eq!(rt;
         volume.add("A", 5, b"xyz", 0).err(),
@@ -127,15 +126,15 @@ fn files_come_and_go(rt: HostRuntime) -> Result<(), Fail> {
         volume.add("a:b", 5, b"", 0).err(),
         Some(VolumeFault::BadName)
     );
-    let c = volume.add("C", 3, b"", 0)?;
+    let c = volume.add("C", 3, b"", 0).expect(&rt, "no refusal");
     assert_eq!(rt; (c.first, c.end, c.last_bytes), (7, 7, 512));
     assert_eq!(rt; volume.rename("A", "c").err(), Some(VolumeFault::Duplicate));
     assert_eq!(rt; volume.rename("b", "").err(), Some(VolumeFault::NoFile));
     assert_eq!(rt; volume.rename("a", "").err(), Some(VolumeFault::BadName));
-    volume.rename("a", "A")?;
-    volume.rename("a", "bad")?;
-    volume.add("D", 1, b"stays", 0)?;
-    volume.remove("bad")?;
+    volume.rename("a", "A").expect(&rt, "no refusal");
+    volume.rename("a", "bad").expect(&rt, "no refusal");
+    volume.add("D", 1, b"stays", 0).expect(&rt, "no refusal");
+    volume.remove("bad").expect(&rt, "no refusal");
     assert_eq!(rt; volume.remove("bad").err(), Some(VolumeFault::NoFile));
     volume.krunch();
     let places = (
@@ -147,20 +146,20 @@ fn files_come_and_go(rt: HostRuntime) -> Result<(), Fail> {
         assert_eq!(rt; volume.file(&d), Some(b"stays".as_slice()));
     }
     assert_eq!(rt; volume.zero("TOO:BAD").err(), Some(VolumeFault::BadName));
-    volume.zero("new")?;
+    volume.zero("new").expect(&rt, "no refusal");
     assert_eq!(rt; (volume.entries().count(), volume.blocks()), (0, 20));
-    Ok(())
 }
 
 #[test]
-fn disks(rt: HostRuntime) -> Result<(), Fail> {
-    let mut disk = Volume::blank(rt.alloc(), "work", 20)?.into_disk();
+fn disks(rt: HostRuntime) {
+    let mut disk = Volume::blank(rt.alloc(), "work", 20)
+        .expect(&rt, "a volume")
+        .into_disk();
     assert_eq!(rt; disk.blocks(), 20);
     assert_eq!(rt; disk.write(10239, b"ab"), false);
     assert_eq!(rt; disk.write(10238, b"ab"), true);
     assert_eq!(rt; disk.block(19).and_then(|b| b.last().copied()), Some(b'b'));
     assert_eq!(rt; disk.block(20).is_some(), false);
-    Ok(())
 }
 
 // The bytes from one place on, up to another.
@@ -178,7 +177,7 @@ fn are_all(image: &[u8], begin: usize, end: usize, byte: u8) -> bool {
 }
 
 // An image of bytes 165, but for what is read of the volume W of 20 blocks with the file A at block 8.
-fn marked(alloc: Global) -> Result<Vec<u8>, Fail> {
+fn marked(alloc: Global) -> Result<Vec<u8>, AllocError> {
     let mut image = vec![in alloc; 165; 10240]?;
     write(&mut image, 1026, b"\x06\x00");
     write(&mut image, 1030, b"\x01W");
@@ -189,12 +188,14 @@ fn marked(alloc: Global) -> Result<Vec<u8>, Fail> {
 }
 
 #[test]
-fn unread_bytes_stay(rt: HostRuntime) -> Result<(), Fail> {
-    let mut volume = Volume::open(marked(rt.alloc())?).map_err(|e| e.0)?;
+fn unread_bytes_stay(rt: HostRuntime) {
+    let mut volume = Volume::open(marked(rt.alloc()).expect(&rt, "memory"))
+        .map_err(|e| e.0)
+        .expect(&rt, "a volume");
     volume.set_date(513);
-    volume.add("B", 5, b"b", 2)?;
-    volume.rename("a", "longer")?;
-    volume.remove("B")?;
+    volume.add("B", 5, b"b", 2).expect(&rt, "no refusal");
+    volume.rename("a", "longer").expect(&rt, "no refusal");
+    volume.remove("B").expect(&rt, "no refusal");
     assert_eq!(rt; volume.last_date(), 513);
     let image = volume.into_bytes();
     assert!(rt; are_all(&image, 0, 1026, 165));
@@ -222,7 +223,6 @@ fn unread_bytes_stay(rt: HostRuntime) -> Result<(), Fail> {
     assert_eq!(rt; image.get(3072).copied(), Some(b'b'));
     assert!(rt; are_all(&image, 3073, 3584, 0));
     assert!(rt; are_all(&image, 3584, 10240, 165));
-    Ok(())
 }
 
 // The image of a volume of 20 blocks with a second copy of its directory and a file A of 3 bytes.
@@ -251,33 +251,32 @@ fn fault_of_doubled(
 }
 
 #[test]
-fn copies_are_kept_the_same(rt: HostRuntime) -> Result<(), Fail> {
-    let mut image = work(rt.alloc())?;
+fn copies_are_kept_the_same(rt: HostRuntime) {
+    let mut image = work(rt.alloc()).expect(&rt, "no refusal");
     write(&mut image, 1026, b"\x0a");
-    let mut volume = Volume::open(image).map_err(|e| e.0)?;
+    let mut volume = Volume::open(image).map_err(|e| e.0).expect(&rt, "a volume");
     assert_eq!(rt; volume.duplicate(), Copies::Differs);
-    let a = volume.add("A", 5, b"abc", 0)?;
+    let a = volume.add("A", 5, b"abc", 0).expect(&rt, "no refusal");
     assert_eq!(rt; (a.first, volume.duplicate()), (10, Copies::Same));
     let space = volume.space();
     assert_eq!(rt; (space.free, space.largest), (9, 9));
-    volume.remove("A")?;
-    let b = volume.add("B", 5, b"b", 0)?;
+    volume.remove("A").expect(&rt, "no refusal");
+    let b = volume.add("B", 5, b"b", 0).expect(&rt, "no refusal");
     assert_eq!(rt; b.first, 10);
-    volume.rename("b", "C")?;
+    volume.rename("b", "C").expect(&rt, "no refusal");
     volume.krunch();
     volume.set_date(9);
     assert_eq!(rt; volume.duplicate(), Copies::Same);
-    volume.zero("NEW")?;
+    volume.zero("NEW").expect(&rt, "no refusal");
     assert_eq!(rt; volume.duplicate(), Copies::Same);
     volume.drop_duplicate();
     assert_eq!(rt; volume.duplicate(), Copies::Single);
     let image = volume.into_bytes();
     assert!(rt; are_all(&image, 3072, 5120, 0));
-    Ok(())
 }
 
 #[test]
-fn second_copy_repairs(rt: HostRuntime) -> Result<(), Fail> {
+fn second_copy_repairs(rt: HostRuntime) {
     let bad = Some(VolumeFault::FirstCopyBad(3));
     let header = Some(VolumeFault::BadHeader);
     assert_eq!(rt; fault_of_doubled(rt.alloc(), 10240, 4, 0, b""), None);
@@ -294,9 +293,11 @@ fn second_copy_repairs(rt: HostRuntime) -> Result<(), Fail> {
     assert_eq!(rt; fault_of_doubled(rt.alloc(), 4608, 0, 0, b""), header);
     let past = Some(VolumeFault::PastEnd);
     assert_eq!(rt; fault_of_doubled(rt.alloc(), 4608, 4, 0, b""), past);
-    let mut image = doubled(rt.alloc())?;
+    let mut image = doubled(rt.alloc()).expect(&rt, "no refusal");
     write(&mut image, 1024, &[255; 2048]);
-    let volume = Volume::repair(image).map_err(|e| e.0)?;
+    let volume = Volume::repair(image)
+        .map_err(|e| e.0)
+        .expect(&rt, "a volume");
     assert_eq!(rt; volume.duplicate(), Copies::Same);
     assert_eq!(rt;
         (volume.entries().count(), volume.name()),
@@ -305,20 +306,18 @@ fn second_copy_repairs(rt: HostRuntime) -> Result<(), Fail> {
     if let Some(a) = volume.find("a") {
         assert_eq!(rt; volume.file(&a), Some(b"abc".as_slice()));
     }
-    Ok(())
 }
 
 #[test]
-fn room_for_a_second_copy(rt: HostRuntime) -> Result<(), Fail> {
-    let mut small = Volume::blank(rt.alloc(), "WORK", 8)?;
+fn room_for_a_second_copy(rt: HostRuntime) {
+    let mut small = Volume::blank(rt.alloc(), "WORK", 8).expect(&rt, "a volume");
     assert_eq!(rt; small.add_duplicate().err(), Some(VolumeFault::BadHeader));
-    let mut volume = Volume::blank(rt.alloc(), "WORK", 20)?;
-    volume.add("A", 5, b"", 0)?;
+    let mut volume = Volume::blank(rt.alloc(), "WORK", 20).expect(&rt, "a volume");
+    volume.add("A", 5, b"", 0).expect(&rt, "no refusal");
     assert_eq!(rt; volume.add_duplicate().err(), Some(VolumeFault::Occupied));
     volume.drop_duplicate();
     assert_eq!(rt;
         (volume.duplicate(), volume.entries().count()),
         (Copies::Single, 1)
     );
-    Ok(())
 }

@@ -1,9 +1,10 @@
 //! One command line over a disk in memory.
+use crate::disk::{Disk, Inode, Name};
+use crate::runtime::FakeRuntime;
 use pm_program::program;
 use std::alloc::Global;
 use std::cell::RefCell;
 use std::io;
-use test_fake::{Disk, FakeRuntime, Inode, Name};
 
 /// A command line, standard input, and whether the standard streams are a terminal.
 #[derive(Clone, Copy)]
@@ -74,9 +75,8 @@ fn copy_of(alloc: Global, inode: &Inode, is_named: bool) -> io::Result<Inode> {
     })
 }
 
-/// A disk with the same files as another, of which nothing has been asked.
-pub fn copy(alloc: Global, disk: &Disk) -> io::Result<Disk> {
-    let mut copy = Disk::new(alloc);
+/// Adds the files of a disk, and their names, to one that has none.
+fn add_files(alloc: Global, copy: &mut Disk, disk: &Disk) -> io::Result<()> {
     for (number, inode) in disk.inodes.iter().enumerate() {
         let is_named = disk.names.iter().any(|name| name.inode == number);
         copy.inodes.push(copy_of(alloc, inode, is_named)?)?;
@@ -88,6 +88,13 @@ pub fn copy(alloc: Global, disk: &Disk) -> io::Result<Disk> {
             inode: name.inode,
         })?;
     }
+    Ok(())
+}
+
+/// A disk with the same files as another, of which nothing has been asked.
+pub fn copy(alloc: Global, disk: &Disk) -> io::Result<Disk> {
+    let mut copy = Disk::new(alloc);
+    add_files(alloc, &mut copy, disk)?;
     copy.is_closed = disk.is_closed;
     copy.is_sticky = disk.is_sticky;
     copy.is_blind = disk.is_blind;

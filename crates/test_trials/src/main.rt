@@ -4,9 +4,12 @@
 #![tactic(auto)]
 
 mod command;
+mod disk;
 mod meanwhile;
 mod pieces;
+mod runtime;
 mod script;
+mod streams;
 mod sweep;
 
 use script::Trials;

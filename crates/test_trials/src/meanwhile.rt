@@ -1,8 +1,8 @@
 //! Another program acts before each call of a command line in turn.
 use crate::command::{Came, CommandLine, come, copy};
+use crate::disk::{Act, Disk, Meanwhile};
 use std::alloc::Global;
 use std::io;
-use test_fake::{Act, Disk, Meanwhile};
 
 /// What another program does with a file.
 #[derive(Drop)]
@@ -114,6 +114,17 @@ fn tell(alloc: Global, old: &Disk, came: &Came, paths: &str) -> io::Result<Strin
     Ok(text)
 }
 
+/// What another program does before the call of a number.
+fn act_before(alloc: Global, deed: &Deed, before: usize) -> io::Result<Meanwhile> {
+    Ok(Meanwhile {
+        before,
+        act: deed.act,
+        path: String::from_str(alloc, deed.path.as_str())?,
+        bytes: bytes_of(alloc, deed.bytes.as_slice())?,
+        link: String::from_str(alloc, deed.link.as_str())?,
+    })
+}
+
 /// Does a command line, while another program acts before the call of a number.
 fn come_beside(
     alloc: Global,
@@ -122,14 +133,9 @@ fn come_beside(
     deed: &Deed,
     before: usize,
 ) -> io::Result<Came> {
+    let meanwhile = act_before(alloc, deed, before)?;
     let mut disk = copy(alloc, old)?;
-    disk.meanwhile = Some(Meanwhile {
-        before,
-        act: deed.act,
-        path: String::from_str(alloc, deed.path.as_str())?,
-        bytes: bytes_of(alloc, deed.bytes.as_slice())?,
-        link: String::from_str(alloc, deed.link.as_str())?,
-    });
+    disk.meanwhile = Some(meanwhile);
     Ok(come(alloc, disk, command, None))
 }
 

@@ -1,12 +1,12 @@
 //! The lines of a script.
 use crate::command::{Came, CommandLine, come};
+use crate::disk::{Disk, Inode};
 use crate::meanwhile::{Deed, deed_of, meanwhile};
 use crate::pieces::add_pieces;
 use crate::sweep::sweep;
 use std::alloc::Global;
 use std::io::ErrorKind;
 use std::{fmt, io};
-use test_fake::{Disk, Inode};
 
 /// How far a script is: what stands on the disk, and what the last command line came to.
 #[derive(Drop)]

@@ -1,8 +1,8 @@
 //! Each call of a command line fails in turn.
 use crate::command::{Came, CommandLine, come, copy};
+use crate::disk::Disk;
 use std::alloc::Global;
 use std::io;
-use test_fake::Disk;
 
 /// The letters of the calls whose failure has to be told: to read, to write, to cut, to sync and to rename a file,
 /// and to read and to write a standard stream.

@@ -83,28 +83,38 @@ fn eject(alloc: Global, machine: &mut Machine, rest: &str) -> io::Result<String>
     }
 }
 
-/// Does what a line says, if it is no view: what it comes to.
-pub fn on_machine(alloc: Global, machine: &mut Machine, line: &str) -> io::Result<Option<String>> {
+/// Presses keys.
+fn keys(alloc: Global, machine: &mut Machine, line: &str, rest: &str) -> io::Result<String> {
+    for byte in hex_bytes(alloc, rest)?.iter() {
+        machine.key(*byte)?;
+    }
+    Ok(String::from_str(alloc, line)?)
+}
+
+/// Writes words, and says so.
+fn pokes(alloc: Global, machine: &mut Machine, line: &str, rest: &str) -> io::Result<String> {
+    let all = poke(alloc, machine, asked(rest))?;
+    let mut answer = String::from_str(alloc, asked(line))?;
+    if !all {
+        answer.push_str(" refused")?;
+    }
+    Ok(answer)
+}
+
+/// Whether a line with this word does something with a machine, and is no view.
+pub fn is_event(word: &str) -> bool {
+    matches!(word, "step" | "run" | "disk" | "eject" | "key" | "poke")
+}
+
+/// Does what a line says that is no view: what it comes to.
+pub fn on_machine(alloc: Global, machine: &mut Machine, line: &str) -> io::Result<String> {
     let (word, rest) = line.split_once(' ').unwrap_or((line, ""));
-    let answer = match word {
-        "step" => step(alloc, machine)?,
-        "run" => run(alloc, machine, rest)?,
-        "disk" => disk(alloc, machine, line, rest)?,
-        "eject" => eject(alloc, machine, rest)?,
-        "key" => {
-            for byte in hex_bytes(alloc, rest)?.iter() {
-                machine.key(*byte)?;
-            }
-            String::from_str(alloc, line)?
-        }
-        "poke" => {
-            let mut answer = String::from_str(alloc, asked(line))?;
-            if !poke(alloc, machine, asked(rest))? {
-                answer.push_str(" refused")?;
-            }
-            answer
-        }
-        _ => return Ok(None),
-    };
-    Ok(Some(answer))
+    match word {
+        "step" => step(alloc, machine),
+        "run" => run(alloc, machine, rest),
+        "disk" => disk(alloc, machine, line, rest),
+        "eject" => eject(alloc, machine, rest),
+        "key" => keys(alloc, machine, line, rest),
+        _ => pokes(alloc, machine, line, rest),
+    }
 }

@@ -1,7 +1,7 @@
 //! Scenes: a machine on bare code or on a volume, and lines that are done one after the other. Each line says itself
 //! again where it agrees.
 use crate::code_file::volume;
-use crate::events::on_machine;
+use crate::events::{is_event, on_machine};
 use crate::views::view;
 use pm_machine::{BootFault, Machine};
 use pm_volume::{Volume, kinds};
@@ -109,9 +109,10 @@ impl Scene {
     /// refused.
     fn boot(&mut self, alloc: Global, rest: &str) -> io::Result<Option<BootFault>> {
         let (unit, name) = asked(rest).split_once(' ').ok_or_else(unreadable)?;
+        let unit = byte(unit)?;
         let volume = volume(alloc, &self.segments, self.kind)?;
         let volumes = [Some(volume), None, None, None, None, None];
-        match Machine::boot(alloc, volumes, byte(unit)?, name, self.clock) {
+        match Machine::boot(alloc, volumes, unit, name, self.clock) {
             Ok(machine) => {
                 self.machine = Some(machine);
                 Ok(None)
@@ -120,37 +121,59 @@ impl Scene {
         }
     }
 
+    /// Mounts a volume with the segments: `UNIT`.
+    fn mount(&mut self, alloc: Global, rest: &str) -> io::Result<Option<u8>> {
+        let unit = byte(asked(rest))?;
+        let volume = volume(alloc, &self.segments, self.kind)?;
+        let machine = self.machine.as_mut().ok_or_else(unreadable)?;
+        Ok(mount(machine, unit, volume))
+    }
+
+    /// Does a line that says how the scene goes on, and is answered by itself.
+    fn prepare(&mut self, alloc: Global, word: &str, rest: &str) -> io::Result<()> {
+        match word {
+            "code" => {
+                self.code = hex_bytes(alloc, rest)?;
+                self.begin(alloc)
+            }
+            "again" => self.begin(alloc),
+            "segment" => self.add_segment(alloc, rest),
+            "kind" => {
+                self.kind = byte(rest)?;
+                Ok(())
+            }
+            _ => {
+                self.clock = rest.parse().map_err(|_| unreadable())?;
+                Ok(())
+            }
+        }
+    }
+
     /// Does a line, and says it as it comes out.
     fn answer(&mut self, alloc: Global, line: &str) -> io::Result<String> {
         let (word, rest) = line.split_once(' ').unwrap_or((line, ""));
         match word {
-            "code" => {
-                self.code = hex_bytes(alloc, rest)?;
-                self.begin(alloc)?;
+            "code" | "again" | "segment" | "kind" | "clock" => {
+                self.prepare(alloc, word, rest)?;
+                Ok(String::from_str(alloc, line)?)
             }
-            "again" => self.begin(alloc)?,
-            "segment" => self.add_segment(alloc, rest)?,
-            "kind" => self.kind = byte(rest)?,
-            "clock" => self.clock = rest.parse().map_err(|_| unreadable())?,
             "boot" => {
                 let refusal = self.boot(alloc, rest)?.map(|fault| fault.number());
-                return with_refusal(alloc, asked(line), refusal);
+                with_refusal(alloc, asked(line), refusal)
             }
             "mount" => {
-                let volume = volume(alloc, &self.segments, self.kind)?;
-                let machine = self.machine.as_mut().ok_or_else(unreadable)?;
-                let refusal = mount(machine, byte(asked(rest))?, volume);
-                return with_refusal(alloc, asked(line), refusal);
+                let refusal = self.mount(alloc, rest)?;
+                with_refusal(alloc, asked(line), refusal)
             }
             _ => {
                 let machine = self.machine.as_mut().ok_or_else(unreadable)?;
-                return match on_machine(alloc, machine, line)? {
-                    Some(answer) => Ok(answer),
-                    None => view(alloc, machine, word, rest),
-                };
+                if is_event(word) {
+                    on_machine(alloc, machine, line)
+                } else {
+                    view(alloc, machine, word, rest)
+                }
             }
         }
-        Ok(String::from_str(alloc, line)?)
     }
 
     /// What came where a line does not agree.

@@ -55,15 +55,20 @@ impl Side {
     /// The state before the instruction, which stands at IPC.
     pub fn given(alloc: Global, code: &[u8], text: &str) -> io::Result<Side> {
         let mut side = Side::new(alloc)?;
+        side.give(alloc, code, text)?;
+        Ok(side)
+    }
+
+    /// Puts what a row gives.
+    fn give(&mut self, alloc: Global, code: &[u8], text: &str) -> io::Result<()> {
         let mut pieces = text.split(';');
         let stack = words(alloc, pieces.next().unwrap_or("").trim())?;
         for piece in pieces {
-            side.put(alloc, piece.trim())?;
+            self.put(alloc, piece.trim())?;
         }
-        side.push_all(&stack)?;
-        let place = side.registers.ipc;
-        side.write(place, code)?;
-        Ok(side)
+        self.push_all(&stack)?;
+        let place = self.registers.ipc;
+        self.write(place, code)
     }
 
     /// The state behind an instruction of so many bytes, or the same one behind an error and where it waits.
@@ -71,18 +76,24 @@ impl Side {
         let mut side = Side::new(alloc)?;
         side.registers = before.registers;
         side.memory.copy_from(&before.memory);
+        side.want(alloc, length, text)?;
+        Ok(side)
+    }
+
+    /// Puts what a row expects of an instruction of this length.
+    fn want(&mut self, alloc: Global, length: u16, text: &str) -> io::Result<()> {
         let mut pieces = text.split(';');
         let first = pieces.next().unwrap_or("").trim();
         if first == "waiting" || first.starts_with("error ") {
-            side.outcome = String::from_str(alloc, first)?;
+            self.outcome = String::from_str(alloc, first)?;
         } else {
-            side.registers.ipc = before.registers.ipc.wrapping_add(length);
-            side.push_all(&words(alloc, first)?)?;
+            self.registers.ipc = self.registers.ipc.wrapping_add(length);
+            self.push_all(&words(alloc, first)?)?;
         }
         for piece in pieces {
-            side.put(alloc, piece.trim())?;
+            self.put(alloc, piece.trim())?;
         }
-        Ok(side)
+        Ok(())
     }
 
     /// Writes the words of the stack, the top first, which ends at 65,504.
@@ -122,22 +133,37 @@ impl Side {
         }
         let (name, rest) = piece.split_once(' ').ok_or_else(unreadable)?;
         match name {
-            "np" => self.registers.np = word(rest)?,
-            "ipc" => self.registers.ipc = word(rest)?,
-            "mp" => self.registers.mp = word(rest)?,
-            "base" => self.registers.base = word(rest)?,
-            "jtab" => self.registers.jtab = word(rest)?,
-            "seg" => self.registers.seg = word(rest)?,
-            "io" => self.registers.ioresult = word(rest)?,
-            "keys" => self.keys = hex_bytes(alloc, rest)?,
-            "console" => self.console = hex_bytes(alloc, rest)?,
-            "printer" => self.printer = hex_bytes(alloc, rest)?,
+            "keys" | "console" | "printer" => self.put_bytes(name, hex_bytes(alloc, rest)?),
             "disk" => {
                 let (unit, blocks) = rest.split_once(' ').ok_or_else(unreadable)?;
                 self.disks.push((byte(unit)?, word(blocks)?))?;
             }
+            _ => return self.put_register(name, word(rest)?),
+        }
+        Ok(())
+    }
+
+    /// Puts a register.
+    fn put_register(&mut self, name: &str, word: u16) -> io::Result<()> {
+        match name {
+            "np" => self.registers.np = word,
+            "ipc" => self.registers.ipc = word,
+            "mp" => self.registers.mp = word,
+            "base" => self.registers.base = word,
+            "jtab" => self.registers.jtab = word,
+            "seg" => self.registers.seg = word,
+            "io" => self.registers.ioresult = word,
             _ => return Err(unreadable()),
         }
         Ok(())
+    }
+
+    /// Puts the keys, or the bytes of a stream.
+    fn put_bytes(&mut self, name: &str, bytes: Vec<u8>) {
+        match name {
+            "keys" => self.keys = bytes,
+            "console" => self.console = bytes,
+            _ => self.printer = bytes,
+        }
     }
 }

@@ -73,19 +73,25 @@ fn put_memory(machine: &mut Machine, side: &Side) {
     }
 }
 
-/// The machine.
-pub fn machine(alloc: Global, side: &Side) -> io::Result<Machine> {
-    let mut machine = Machine::raw(alloc, RETURN).map_err(|_| unreadable())?;
-    put_code(&mut machine, side)?;
+/// Brings a machine that has begun into the state.
+fn put_state(alloc: Global, machine: &mut Machine, side: &Side) -> io::Result<()> {
+    put_code(machine, side)?;
     if machine.run(6)? != (6, Stop::Went) || machine.registers() != side.registers {
         return Err(unreadable());
     }
-    put_memory(&mut machine, side);
+    put_memory(machine, side);
     for byte in side.keys.iter() {
         machine.key(*byte)?;
     }
     for (unit, blocks) in side.disks.iter() {
-        mount_blank(alloc, &mut machine, *unit, *blocks)?;
+        mount_blank(alloc, machine, *unit, *blocks)?;
     }
+    Ok(())
+}
+
+/// The machine.
+pub fn machine(alloc: Global, side: &Side) -> io::Result<Machine> {
+    let mut machine = Machine::raw(alloc, RETURN).map_err(|_| unreadable())?;
+    put_state(alloc, &mut machine, side)?;
     Ok(machine)
 }

@@ -91,12 +91,21 @@ fn place(alloc: Global, machine: &Machine, rest: &str) -> io::Result<String> {
 /// What a view shows, behind its word.
 fn shown(alloc: Global, machine: &Machine, word: &str, rest: &str) -> io::Result<String> {
     let r = machine.registers();
+    let one = match word {
+        "sp" => r.sp,
+        "mp" => r.mp,
+        "np" => r.np,
+        "io" => r.ioresult,
+        _ => return many(alloc, machine, word, rest),
+    };
+    Ok(numbers(alloc, &[one])?)
+}
+
+/// What a view shows that is not of one register.
+fn many(alloc: Global, machine: &Machine, word: &str, rest: &str) -> io::Result<String> {
+    let r = machine.registers();
     match word {
         "regs" => registers(alloc, machine, rest),
-        "sp" => Ok(numbers(alloc, &[r.sp])?),
-        "mp" => Ok(numbers(alloc, &[r.mp])?),
-        "np" => Ok(numbers(alloc, &[r.np])?),
-        "io" => Ok(numbers(alloc, &[r.ioresult])?),
         "stack" => Ok(numbers(alloc, &words(alloc, machine, r.sp, count(rest))?)?),
         "word" => words_at(alloc, machine, rest),
         "bytes" => bytes_at(alloc, machine, rest),

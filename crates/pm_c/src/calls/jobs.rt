@@ -2,7 +2,7 @@
 use crate::calls::{Answer, answer};
 use crate::jobs::*;
 use std::alloc::Global;
-use std::test::Fail;
+use std::process::Abort;
 
 pub(super) const TEXT: &str =
     ".SEG 1 OK\n.PROC 1 0 0 0\nSLDO 1\nFJP L\nSLDC 5\nSRO 3\nL:\n.EXIT\nRBP 0\n.END\n";
@@ -63,44 +63,42 @@ const BLOCKS: [&str; 6] = [
 ];
 
 /// The code file of the text.
-pub(super) fn file(alloc: Global) -> Result<Answer, Fail> {
-    Ok(answer!(alloc, pmach_assemble, TEXT.as_bytes(), false))
+pub(super) fn file(rt: &impl Abort, alloc: Global) -> Answer {
+    answer!(rt, alloc, pmach_assemble, TEXT.as_bytes(), false)
 }
 
 #[test]
-fn a_text_is_assembled(rt: HostRuntime) -> Result<(), Fail> {
+fn a_text_is_assembled(rt: HostRuntime) {
     let alloc = rt.alloc();
-    let file = file(alloc)?;
+    let file = file(&rt, alloc);
     assert_eq!(rt; (file.status, file.bytes.len()), (0, 1024));
     assert_eq!(rt; file.bytes.get(512..534), Some(&SEGMENT[..]));
-    answer!(alloc, pmach_assemble, TEXT.as_bytes(), true).lists(&rt, &LISTING);
-    answer!(alloc, pmach_assemble, b".SEG 1 OK\nNOP\n", false).says(&rt, 2, "refused asm 1 2");
-    answer!(alloc, pmach_assemble_faults, TEXT.as_bytes()).says(&rt, 0, "");
-    answer!(alloc, pmach_assemble_faults, b"FOO\nNOP\n").says(
+    answer!(&rt, alloc, pmach_assemble, TEXT.as_bytes(), true).lists(&rt, &LISTING);
+    answer!(&rt, alloc, pmach_assemble, b".SEG 1 OK\nNOP\n", false).says(&rt, 2, "refused asm 1 2");
+    answer!(&rt, alloc, pmach_assemble_faults, TEXT.as_bytes()).says(&rt, 0, "");
+    answer!(&rt, alloc, pmach_assemble_faults, b"FOO\nNOP\n").says(
         &rt,
         2,
         "refused asm 2 1\nrefused asm 1 2\nrefused asm 2 1",
     );
-    answer!(alloc, pmach_assemble_symbols, TEXT.as_bytes()).says(
+    answer!(&rt, alloc, pmach_assemble_symbols, TEXT.as_bytes()).says(
         &rt,
         0,
         "001 001 00000 .PROC\n001 001 00006 L\n",
     );
-    Ok(())
 }
 
 #[test]
-fn a_code_file_is_shown(rt: HostRuntime) -> Result<(), Fail> {
+fn a_code_file_is_shown(rt: HostRuntime) {
     let alloc = rt.alloc();
-    let file = file(alloc)?.bytes;
-    answer!(alloc, pmach_disassemble, &file).lists(&rt, &SHOWN);
-    answer!(alloc, pmach_disassemble_names, &file).lists(&rt, &SHOWN);
-    answer!(alloc, pmach_disassemble_list, &file).lists(&rt, &LISTING);
-    answer!(alloc, pmach_disassemble_statements, &file).lists(&rt, &STATEMENTS);
-    answer!(alloc, pmach_disassemble_indented, &file).lists(&rt, &INDENTED);
-    answer!(alloc, pmach_disassemble_blocks, &file).lists(&rt, &BLOCKS);
-    answer!(alloc, pmach_disassemble, b"short").says(&rt, 2, "refused code 1");
-    Ok(())
+    let file = file(&rt, alloc).bytes;
+    answer!(&rt, alloc, pmach_disassemble, &file).lists(&rt, &SHOWN);
+    answer!(&rt, alloc, pmach_disassemble_names, &file).lists(&rt, &SHOWN);
+    answer!(&rt, alloc, pmach_disassemble_list, &file).lists(&rt, &LISTING);
+    answer!(&rt, alloc, pmach_disassemble_statements, &file).lists(&rt, &STATEMENTS);
+    answer!(&rt, alloc, pmach_disassemble_indented, &file).lists(&rt, &INDENTED);
+    answer!(&rt, alloc, pmach_disassemble_blocks, &file).lists(&rt, &BLOCKS);
+    answer!(&rt, alloc, pmach_disassemble, b"short").says(&rt, 2, "refused code 1");
 }
 
 // With the names of a standard procedure and of a procedure of the system.
@@ -116,12 +114,11 @@ const NAMED: [&str; 8] = [
 ];
 
 #[test]
-fn names_stand_behind_their_lines(rt: HostRuntime) -> Result<(), Fail> {
+fn names_stand_behind_their_lines(rt: HostRuntime) {
     let alloc = rt.alloc();
     let text = b".SEG 1 OK\n.PROC 1 0 0 0\nCSP 0\nCXP 0, 19\nNOP\n.EXIT\nRBP 0\n.END\n";
-    let file = answer!(alloc, pmach_assemble, text, false).bytes;
-    answer!(alloc, pmach_disassemble_names, &file).lists(&rt, &NAMED);
-    Ok(())
+    let file = answer!(&rt, alloc, pmach_assemble, text, false).bytes;
+    answer!(&rt, alloc, pmach_disassemble_names, &file).lists(&rt, &NAMED);
 }
 
 const TRACE: [&str; 5] = [
@@ -133,16 +130,15 @@ const TRACE: [&str; 5] = [
 ];
 
 #[test]
-fn bare_code_is_traced(rt: HostRuntime) -> Result<(), Fail> {
+fn bare_code_is_traced(rt: HostRuntime) {
     let alloc = rt.alloc();
-    answer!(alloc, pmach_raw, b"02 03 82 D6", 100).lists(&rt, &TRACE);
-    let limit = answer!(alloc, pmach_raw, b"02 03 82 D6", 1);
+    answer!(&rt, alloc, pmach_raw, b"02 03 82 D6", 100).lists(&rt, &TRACE);
+    let limit = answer!(&rt, alloc, pmach_raw, b"02 03 82 D6", 1);
     limit.says(
         &rt,
         6,
         "00000000 01024 65492 65492 65492 01028 65492 SLDC 2\nlimit 1\n",
     );
-    let halt = answer!(alloc, pmach_raw, b"9B", 9);
+    let halt = answer!(&rt, alloc, pmach_raw, b"9B", 9);
     assert_eq!(rt; halt.status, 3);
-    Ok(())
 }

@@ -10,7 +10,6 @@ use crate::shows::*;
 use crate::starts::*;
 use std::alloc::Global;
 use std::process::Abort;
-use std::test::Fail;
 
 /// SLDC 2, SLDC 3, ADI, XIT.
 pub(super) const SUM: [u8; 4] = [2, 3, 0x82, 0xD6];
@@ -28,25 +27,25 @@ pub(super) fn raw(rt: &impl Abort, alloc: Global, code: &[u8]) -> Handle {
 }
 
 /// The machine of the program.
-fn booted(rt: &impl Abort, alloc: Global) -> Result<Handle, Fail> {
+fn booted(rt: &impl Abort, alloc: Global) -> Handle {
     let mut handle = Handle::empty();
     assert_eq!(rt;
-        pmach_boot(alloc, &mut handle, &with_program(alloc)?, b"OK", 0),
+        pmach_boot(alloc, &mut handle, &with_program(rt, alloc), b"OK", 0),
         0
     );
-    Ok(handle)
+    handle
 }
 
 #[test]
-fn steps_are_made_and_shown(rt: HostRuntime) -> Result<(), Fail> {
+fn steps_are_made_and_shown(rt: HostRuntime) {
     let alloc = rt.alloc();
     let mut handle = raw(&rt, alloc, &SUM);
-    answer!(alloc, pmach_line, &mut handle).says(
+    answer!(&rt, alloc, pmach_line, &mut handle).says(
         &rt,
         0,
         "00000000 01024 65492 65492 65492 01028 65492 SLDC 2",
     );
-    answer!(alloc, pmach_instruction, &mut handle, 1026).says(&rt, 0, "ADI");
+    answer!(&rt, alloc, pmach_instruction, &mut handle, 1026).says(&rt, 0, "ADI");
     assert_eq!(rt; pmach_step(alloc, &mut handle), 0);
     let mut word = 0;
     assert_eq!(rt;
@@ -71,11 +70,10 @@ fn steps_are_made_and_shown(rt: HostRuntime) -> Result<(), Fail> {
     );
     pmach_free(alloc, &mut handle);
     assert_eq!(rt; pmach_step(alloc, &mut handle), 8);
-    Ok(())
 }
 
 #[test]
-fn outputs_are_shown(rt: HostRuntime) -> Result<(), Fail> {
+fn outputs_are_shown(rt: HostRuntime) {
     let alloc = rt.alloc();
     let mut steps = 0;
     for (unit, console, printer) in [(1, "OK", ""), (6, "", "OK")] {
@@ -84,18 +82,17 @@ fn outputs_are_shown(rt: HostRuntime) -> Result<(), Fail> {
             (pmach_run(alloc, &mut handle, 9, &mut steps), steps),
             (2, 8)
         );
-        answer!(alloc, pmach_console, &mut handle, 0).says(&rt, 0, console);
-        answer!(alloc, pmach_printer, &mut handle, 0).says(&rt, 0, printer);
+        answer!(&rt, alloc, pmach_console, &mut handle, 0).says(&rt, 0, console);
+        answer!(&rt, alloc, pmach_printer, &mut handle, 0).says(&rt, 0, printer);
         pmach_free(alloc, &mut handle);
     }
-    Ok(())
 }
 
 /// UNITREAD of one byte from the console to 2000.
 const READS: [u8; 12] = [1, 0xC7, 0xD0, 7, 0, 1, 0, 0, 0x9E, 5, 0xD6, 0];
 
 #[test]
-fn a_key_is_read(rt: HostRuntime) -> Result<(), Fail> {
+fn a_key_is_read(rt: HostRuntime) {
     let alloc = rt.alloc();
     let mut handle = raw(&rt, alloc, &READS);
     let (mut steps, mut word) = (0, 0);
@@ -113,32 +110,30 @@ fn a_key_is_read(rt: HostRuntime) -> Result<(), Fail> {
         (pmach_word(alloc, &mut handle, 2000, &mut word), word),
         (0, 0x4142)
     );
-    answer!(alloc, pmach_console, &mut handle, 0).says(&rt, 0, "B");
+    answer!(&rt, alloc, pmach_console, &mut handle, 0).says(&rt, 0, "B");
     pmach_free(alloc, &mut handle);
-    Ok(())
 }
 
 #[test]
-fn disks_come_and_go(rt: HostRuntime) -> Result<(), Fail> {
+fn disks_come_and_go(rt: HostRuntime) {
     let alloc = rt.alloc();
     let mut handle = raw(&rt, alloc, &SUM);
-    let image = blank(alloc)?;
+    let image = blank(&rt, alloc);
     assert_eq!(rt; pmach_mount(alloc, &mut handle, 5, &image), 0);
     assert_eq!(rt; pmach_mount(alloc, &mut handle, 5, &image), 302);
     assert_eq!(rt; pmach_mount(alloc, &mut handle, 6, &image), 301);
     assert_eq!(rt; pmach_mount(alloc, &mut handle, 4, b"short"), 401);
-    answer!(alloc, pmach_ejected, &mut handle).says(&rt, 11, "");
+    answer!(&rt, alloc, pmach_ejected, &mut handle).says(&rt, 11, "");
     assert_eq!(rt; pmach_eject(alloc, &mut handle, 5), 0);
     assert_eq!(rt; pmach_eject(alloc, &mut handle, 5), 11);
-    answer!(alloc, pmach_ejected, &mut handle).is(&rt, 0, &image);
+    answer!(&rt, alloc, pmach_ejected, &mut handle).is(&rt, 0, &image);
     pmach_free(alloc, &mut handle);
-    Ok(())
 }
 
 #[test]
-fn a_session_stops_at_its_places(rt: HostRuntime) -> Result<(), Fail> {
+fn a_session_stops_at_its_places(rt: HostRuntime) {
     let alloc = rt.alloc();
-    let mut handle = booted(&rt, alloc)?;
+    let mut handle = booted(&rt, alloc);
     let (mut steps, mut address) = (0, 7);
     let mut place = NOWHERE;
     assert_eq!(rt; pmach_place(alloc, &mut handle, &mut place), 0);
@@ -147,14 +142,13 @@ fn a_session_stops_at_its_places(rt: HostRuntime) -> Result<(), Fail> {
     let code = pmach_go(alloc, &mut handle, 99, &mut steps, &mut address);
     assert_eq!(rt; (code, steps, address), (15, 2, 7));
     assert_eq!(rt; pmach_command(alloc, &mut handle, b"where"), 0);
-    answer!(alloc, pmach_answer, &mut handle).says(&rt, 0, "1 1 6 RBP 0\n");
+    answer!(&rt, alloc, pmach_answer, &mut handle).says(&rt, 0, "1 1 6 RBP 0\n");
     assert_eq!(rt; pmach_break(alloc, &mut handle, 1, 1, 6, false), 0);
     pmach_free(alloc, &mut handle);
-    Ok(())
 }
 
 #[test]
-fn a_session_stops_at_a_change(rt: HostRuntime) -> Result<(), Fail> {
+fn a_session_stops_at_a_change(rt: HostRuntime) {
     let alloc = rt.alloc();
     let mut handle = raw(&rt, alloc, &SUM);
     let (mut steps, mut address) = (0, 0);
@@ -163,5 +157,4 @@ fn a_session_stops_at_a_change(rt: HostRuntime) -> Result<(), Fail> {
     assert_eq!(rt; (code, steps, address), (16, 1, 65_490));
     assert_eq!(rt; pmach_watch(alloc, &mut handle, 65_490, false), 0);
     pmach_free(alloc, &mut handle);
-    Ok(())
 }

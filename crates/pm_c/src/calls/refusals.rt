@@ -13,7 +13,6 @@ use crate::session::*;
 use crate::shows::*;
 use crate::starts::*;
 use crate::volumes::*;
-use std::test::Fail;
 
 #[test]
 fn events_of_an_empty_handle_answer_8(rt: HostRuntime) {
@@ -35,7 +34,7 @@ fn events_of_an_empty_handle_answer_8(rt: HostRuntime) {
 }
 
 #[test]
-fn an_empty_handle_shows_nothing(rt: HostRuntime) -> Result<(), Fail> {
+fn an_empty_handle_shows_nothing(rt: HostRuntime) {
     let alloc = rt.alloc();
     let mut h = Handle::empty();
     let (mut word, mut shown, mut place) = (7, NOTHING, NOWHERE);
@@ -48,13 +47,12 @@ fn an_empty_handle_shows_nothing(rt: HostRuntime) -> Result<(), Fail> {
         (pmach_place(alloc, &mut h, &mut place), place.segment),
         (8, 0)
     );
-    answer!(alloc, pmach_answer, &mut h).says(&rt, 8, "");
-    answer!(alloc, pmach_ejected, &mut h).says(&rt, 8, "");
-    answer!(alloc, pmach_line, &mut h).says(&rt, 8, "");
-    answer!(alloc, pmach_instruction, &mut h, 1024).says(&rt, 8, "");
-    answer!(alloc, pmach_console, &mut h, 0).says(&rt, 8, "");
-    answer!(alloc, pmach_printer, &mut h, 0).says(&rt, 8, "");
-    Ok(())
+    answer!(&rt, alloc, pmach_answer, &mut h).says(&rt, 8, "");
+    answer!(&rt, alloc, pmach_ejected, &mut h).says(&rt, 8, "");
+    answer!(&rt, alloc, pmach_line, &mut h).says(&rt, 8, "");
+    answer!(&rt, alloc, pmach_instruction, &mut h, 1024).says(&rt, 8, "");
+    answer!(&rt, alloc, pmach_console, &mut h, 0).says(&rt, 8, "");
+    answer!(&rt, alloc, pmach_printer, &mut h, 0).says(&rt, 8, "");
 }
 
 // SLDC 1, SLDC 0, DVI; and RNP 0.
@@ -85,11 +83,11 @@ fn errors_and_no_place_have_numbers(rt: HostRuntime) {
 }
 
 #[test]
-fn what_is_too_much_has_numbers(rt: HostRuntime) -> Result<(), Fail> {
+fn what_is_too_much_has_numbers(rt: HostRuntime) {
     let alloc = rt.alloc();
     let mut long = Vec::new(alloc);
-    long.resize(16_777_217, b' ')?;
-    answer!(alloc, pmach_assemble, &long, false).says(&rt, 4, "");
+    long.resize(16_777_217, b' ').expect(&rt, "memory");
+    answer!(&rt, alloc, pmach_assemble, &long, false).says(&rt, 4, "");
     let mut h = raw(&rt, alloc, &SUM);
     for offset in 0..64 {
         assert_eq!(rt; pmach_break(alloc, &mut h, 1, 1, offset, true), 0);
@@ -100,15 +98,14 @@ fn what_is_too_much_has_numbers(rt: HostRuntime) -> Result<(), Fail> {
     pmach_free(alloc, &mut h);
     let mut h = Handle::empty();
     let mut code = Vec::new(alloc);
-    code.resize(60_001, 0xD7)?;
+    code.resize(60_001, 0xD7).expect(&rt, "memory");
     assert_eq!(rt; pmach_new(alloc, &mut h, &code), 203);
-    Ok(())
 }
 
 #[test]
-fn refusals_have_their_numbers(rt: HostRuntime) -> Result<(), Fail> {
+fn refusals_have_their_numbers(rt: HostRuntime) {
     let alloc = rt.alloc();
-    let image = blank(alloc)?;
+    let image = blank(&rt, alloc);
     let mut word = 7;
     let mut h = raw(&rt, alloc, &SUM);
     assert_eq!(rt; pmach_new(alloc, &mut h, &SUM), 9);
@@ -121,32 +118,29 @@ fn refusals_have_their_numbers(rt: HostRuntime) -> Result<(), Fail> {
     assert_eq!(rt; pmach_boot(alloc, &mut h, &image, b"OK", 0), 201);
     assert_eq!(rt; pmach_boot(alloc, &mut h, b"short", b"OK", 0), 401);
     assert_eq!(rt; pmach_boot(alloc, &mut h, &image, b"\xFF", 0), 12);
-    answer!(alloc, pmach_get, &image, b"\xFF").says(&rt, 12, "");
-    answer!(alloc, pmach_put, &image, b"A", 16, b"").says(&rt, 14, "");
-    answer!(alloc, pmach_kind, &image, b"A", 16).says(&rt, 14, "");
-    answer!(alloc, pmach_kind_slot, &image, 1, 255).says(&rt, 14, "");
-    Ok(())
+    answer!(&rt, alloc, pmach_get, &image, b"\xFF").says(&rt, 12, "");
+    answer!(&rt, alloc, pmach_put, &image, b"A", 16, b"").says(&rt, 14, "");
+    answer!(&rt, alloc, pmach_kind, &image, b"A", 16).says(&rt, 14, "");
+    answer!(&rt, alloc, pmach_kind_slot, &image, 1, 255).says(&rt, 14, "");
 }
 
 #[test]
-fn a_short_buffer_stays(rt: HostRuntime) -> Result<(), Fail> {
+fn a_short_buffer_stays(rt: HostRuntime) {
     let alloc = rt.alloc();
     let (mut bytes, mut needed) = ([7; 3], 0);
-    let image = blank(alloc)?;
+    let image = blank(&rt, alloc);
     let code = pmach_list(alloc, &image, &mut bytes, &mut needed);
     assert_eq!(rt; (code, needed, bytes), (7, 32, [7; 3]));
-    Ok(())
 }
 
 #[test]
-fn numbers_have_sentences(rt: HostRuntime) -> Result<(), Fail> {
+fn numbers_have_sentences(rt: HostRuntime) {
     let alloc = rt.alloc();
     assert_eq!(rt; pmach_version(), 1);
     for status in 0..17 {
-        let mut bytes = crate::calls::room(alloc)?;
+        let mut bytes = crate::calls::room(&rt, alloc);
         let mut needed = 0;
         assert_eq!(rt; pmach_sentence(status, &mut bytes, &mut needed), 0);
         assert!(rt; needed > 0);
     }
-    Ok(())
 }

@@ -4,8 +4,9 @@
 ghost use Rattle.std.specs.Prelude.{◌≡◌, length, sum};
 
 use crate::any_bytes::generated;
+use crate::booted::{boots, volume};
 use crate::codes::{CALLS, KEEPS, STORED_LINK, TOP};
-use crate::volumes::{boots, volume};
+use crate::programs::{EXITS, SEGMENTS};
 use pm_calls::Registers;
 use pm_debug::{DebugRefusal, Debugger};
 use pm_machine::{Machine, Stop};
@@ -13,7 +14,6 @@ use pm_words::ExecError;
 use std::alloc::Global;
 use std::process::Abort;
 use std::test::Fail;
-use test_parts::programs::{EXITS, SEGMENTS};
 
 /// A program in two machines.
 #[derive(Drop)]
@@ -46,12 +46,12 @@ type Chains = (
     Result<Vec<u16>, DebugRefusal>,
 );
 
-fn chains(alloc: Global, debugger: &Debugger) -> Result<Chains, Fail> {
-    Ok((
-        debugger.stack(alloc, 20)?,
+fn chains(rt: &impl Abort, alloc: Global, debugger: &Debugger) -> Chains {
+    (
+        debugger.stack(alloc, 20).expect(rt, "memory"),
         debugger.static_chain(alloc, 20),
         debugger.dynamic_chain(alloc, 20),
-    ))
+    )
 }
 
 /// Variables of frames up the static links.
@@ -74,14 +74,14 @@ impl Twice {
     }
 
     /// Bare code, of which words are written over before the first step.
-    fn raw(alloc: Global, code: &[u8], pokes: &[(u16, u16)]) -> Result<Twice, Fail> {
-        let mut plain = Machine::raw(alloc, code)?;
-        let mut written = Machine::raw(alloc, code)?;
+    fn raw(rt: &impl Abort, alloc: Global, code: &[u8], pokes: &[(u16, u16)]) -> Twice {
+        let mut plain = Machine::raw(alloc, code).expect(rt, "a machine");
+        let mut written = Machine::raw(alloc, code).expect(rt, "a machine");
         for (address, word) in pokes {
             plain.poke(*address, *word);
             written.poke(*address, *word);
         }
-        Ok(Twice::new(plain, written))
+        Twice::new(plain, written)
     }
 
     /// The program of a code file, with these lengths of the slots 1, 2 and 3.
@@ -103,60 +103,58 @@ impl Twice {
         }
     }
 
-    fn is_same(&mut self, rt: &impl Abort, alloc: Global) -> Result<(), Fail> {
+    fn is_same(&mut self, rt: &impl Abort, alloc: Global) {
         are_same(rt, self.plain.machine(), self.written.machine());
-        assert!(rt; chains(alloc, &self.plain)? == chains(alloc, &self.written)?);
+        assert!(rt; chains(rt, alloc, &self.plain) == chains(rt, alloc, &self.written));
         assert_eq!(rt; locals(&mut self.plain), locals(&mut self.written));
-        Ok(())
     }
 
     /// One step of each, which come to the same.
-    fn step(&mut self, rt: &impl Abort, alloc: Global) -> Result<Stop, Fail> {
+    fn step(&mut self, rt: &impl Abort, alloc: Global) -> Stop {
         self.write(rt);
-        let stop = self.plain.machine().step()?;
-        assert_eq!(rt; self.written.machine().step()?, stop);
+        let stop = self.plain.machine().step().expect(rt, "memory");
+        let other = self.written.machine().step().expect(rt, "memory");
+        assert_eq!(rt; other, stop);
         self.made = self.made.wrapping_add(1);
-        self.is_same(rt, alloc)?;
-        Ok(stop)
+        self.is_same(rt, alloc);
+        stop
     }
 
     /// At most so many steps; how the last one ended.
-    fn run(&mut self, rt: &impl Abort, alloc: Global, limit: u16) -> Result<Stop, Fail> {
-        self.is_same(rt, alloc)?;
+    fn run(&mut self, rt: &impl Abort, alloc: Global, limit: u16) -> Stop {
+        self.is_same(rt, alloc);
         for _ in 0..limit {
-            let stop = self.step(rt, alloc)?;
+            let stop = self.step(rt, alloc);
             if stop != Stop::Went {
-                return Ok(stop);
+                return stop;
             }
         }
-        Ok(Stop::Went)
+        Stop::Went
     }
 
     /// The program ends with this step.
-    fn ends(&mut self, rt: &impl Abort, alloc: Global, steps: u16) -> Result<Registers, Fail> {
-        assert_eq!(rt; self.run(rt, alloc, 100)?, Stop::Ended);
+    fn ends(&mut self, rt: &impl Abort, alloc: Global, steps: u16) -> Registers {
+        assert_eq!(rt; self.run(rt, alloc, 100), Stop::Ended);
         assert_eq!(rt; self.made, steps);
-        Ok(self.plain.machine().registers())
+        self.plain.machine().registers()
     }
 }
 
 #[test]
-fn stored_link(rt: HostRuntime) -> Result<(), Fail> {
+fn stored_link(rt: HostRuntime) {
     let alloc = rt.alloc();
-    let mut twice = Twice::raw(alloc, &STORED_LINK, &[(3012, 77)])?;
-    let registers = twice.ends(&rt, alloc, 6)?;
+    let mut twice = Twice::raw(&rt, alloc, &STORED_LINK, &[(3012, 77)]);
+    let registers = twice.ends(&rt, alloc, 6);
     assert_eq!(rt; registers.sp, 65488);
-    Ok(())
 }
 
 /// Two nested procedures, of which the outer one calls the inner one twice.
 #[test]
-fn nested_calls(rt: HostRuntime) -> Result<(), Fail> {
+fn nested_calls(rt: HostRuntime) {
     let alloc = rt.alloc();
-    let mut twice = Twice::raw(alloc, &CALLS, &[TOP])?;
-    let registers = twice.ends(&rt, alloc, 6)?;
+    let mut twice = Twice::raw(&rt, alloc, &CALLS, &[TOP]);
+    let registers = twice.ends(&rt, alloc, 6);
     assert_eq!(rt; registers.sp, 65492);
-    Ok(())
 }
 
 /// EXIT through two segments.
@@ -164,7 +162,7 @@ fn nested_calls(rt: HostRuntime) -> Result<(), Fail> {
 fn exits(rt: HostRuntime) -> Result<(), Fail> {
     let alloc = rt.alloc();
     let mut twice = Twice::booted(alloc, [36, 38, 0], &EXITS)?;
-    twice.ends(&rt, alloc, 10)?;
+    twice.ends(&rt, alloc, 10);
     Ok(())
 }
 
@@ -173,7 +171,7 @@ fn exits(rt: HostRuntime) -> Result<(), Fail> {
 fn segments(rt: HostRuntime) -> Result<(), Fail> {
     let alloc = rt.alloc();
     let mut twice = Twice::booted(alloc, [22, 16, 16], &SEGMENTS)?;
-    twice.ends(&rt, alloc, 5)?;
+    twice.ends(&rt, alloc, 5);
     Ok(())
 }
 
@@ -182,7 +180,7 @@ fn segments(rt: HostRuntime) -> Result<(), Fail> {
 fn kept_segment(rt: HostRuntime) -> Result<(), Fail> {
     let alloc = rt.alloc();
     let mut twice = Twice::booted(alloc, [28, 16, 0], &KEEPS)?;
-    twice.ends(&rt, alloc, 9)?;
+    twice.ends(&rt, alloc, 9);
     Ok(())
 }
 
@@ -192,24 +190,22 @@ const OWN_CODE: [u8; 12] = [
 ];
 
 #[test]
-fn own_code(rt: HostRuntime) -> Result<(), Fail> {
+fn own_code(rt: HostRuntime) {
     let alloc = rt.alloc();
-    let mut twice = Twice::raw(alloc, &OWN_CODE, &[])?;
-    let registers = twice.ends(&rt, alloc, 8)?;
+    let mut twice = Twice::raw(&rt, alloc, &OWN_CODE, &[]);
+    let registers = twice.ends(&rt, alloc, 8);
     let machine = twice.plain.machine();
     assert_eq!(rt; machine.memory().word(registers.sp), Some(5));
-    Ok(())
 }
 
 /// A hundred codes of any bytes, each of at most twenty steps.
 #[test]
-fn any_bytes(rt: HostRuntime) -> Result<(), Fail> {
+fn any_bytes(rt: HostRuntime) {
     let alloc = rt.alloc();
     assert_eq!(rt; generated(1).get(..3), Some([152, 238, 78].as_slice()));
     for seed in 1..=100 {
         let code = generated(seed);
-        let mut twice = Twice::raw(alloc, &code, &[])?;
-        twice.run(&rt, alloc, 20)?;
+        let mut twice = Twice::raw(&rt, alloc, &code, &[]);
+        twice.run(&rt, alloc, 20);
     }
-    Ok(())
 }

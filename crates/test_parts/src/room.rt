@@ -3,7 +3,7 @@
 ghost use Rattle.std.specs.Prelude.{◌<◌};
 
 use crate::tested::Tested;
-use pm_machine::{BootFault, Machine, Stop};
+use pm_machine::{Machine, Stop};
 use pm_volume::Volume;
 use std::alloc::Global;
 use std::process::Abort;
@@ -11,12 +11,11 @@ use std::test::Fail;
 
 /// 70,000 keys wait, more than the memory has bytes.
 #[test]
-fn keys_wait(rt: HostRuntime) -> Result<(), BootFault> {
-    let mut machine = Tested::raw(rt.alloc(), &[0xD6])?;
+fn keys_wait(rt: HostRuntime) {
+    let mut machine = Tested::raw(&rt, rt.alloc(), &[0xD6]);
     for _ in 0..70_000 {
         machine.keys(&rt, 65);
     }
-    Ok(())
 }
 
 /// Writes the bytes 0 to 32,767 of the memory to a unit, again and again: eight steps each time.
@@ -25,21 +24,20 @@ const WRITING: [u8; 16] = [
 ];
 
 /// 1 MiB of output to this unit.
-fn writes_much(rt: &impl Abort, alloc: Global, unit: u8) -> Result<Tested, BootFault> {
+fn writes_much(rt: &impl Abort, alloc: Global, unit: u8) -> Tested {
     let mut code = WRITING;
     code[0] = unit;
-    let mut machine = Tested::raw(alloc, &code)?;
+    let mut machine = Tested::raw(rt, alloc, &code);
     machine.runs_to(rt, 256, 256, Stop::Went);
-    Ok(machine)
+    machine
 }
 
 #[test]
-fn output_has_memory(rt: HostRuntime) -> Result<(), BootFault> {
-    let machine = writes_much(&rt, rt.alloc(), 1)?;
+fn output_has_memory(rt: HostRuntime) {
+    let machine = writes_much(&rt, rt.alloc(), 1);
     machine.has_written(&rt, 1_048_576, 0);
-    let machine = writes_much(&rt, rt.alloc(), 6)?;
+    let machine = writes_much(&rt, rt.alloc(), 6);
     machine.has_written(&rt, 0, 1_048_576);
-    Ok(())
 }
 
 /// 59,999 NOPs and an XIT: 60,000 bytes, the most that there may be.
@@ -47,7 +45,7 @@ fn output_has_memory(rt: HostRuntime) -> Result<(), BootFault> {
 fn bare_code_of_the_greatest_length(rt: HostRuntime) -> Result<(), Fail> {
     let mut code = vec![in rt.alloc(); 0xD7; 60_000]?;
     code[59_999] = 0xD6;
-    let mut machine = Tested::raw(rt.alloc(), &code)?;
+    let mut machine = Tested::raw(&rt, rt.alloc(), &code);
     machine.runs_to(&rt, 100_000, 60_000, Stop::Ended);
     Ok(())
 }

@@ -1,9 +1,9 @@
 //! Steps that go the quick way: each opcode that has one goes it, and so does a whole program. No contract says so,
 //! since a machine that makes none of its steps so makes the same steps.
+use crate::booted::volume;
 use crate::codes::{CALLS, KEEPS, TOP};
 use crate::tested::Tested;
-use crate::volumes::volume;
-use pm_machine::{BootFault, Machine, RunEnd, Stop, StopTest};
+use pm_machine::{Machine, RunEnd, Stop, StopTest};
 use std::alloc::Global;
 use std::process::Abort;
 use std::test::Fail;
@@ -221,21 +221,19 @@ const PROGRAMS: [(&[u8], u64); 26] = [
 ];
 
 /// All steps of the program but its last one are quick, and so many.
-fn goes_quickly(rt: &impl Abort, alloc: Global, code: &[u8], count: u64) -> Result<(), BootFault> {
-    let mut machine = Tested::raw(alloc, code)?;
+fn goes_quickly(rt: &impl Abort, alloc: Global, code: &[u8], count: u64) {
+    let mut machine = Tested::raw(rt, alloc, code);
     machine.makes_quick(rt, 1000, count);
     machine.has_made(rt, count);
     machine.steps_to(rt, Stop::Ended);
     machine.makes_quick(rt, 1000, 0);
-    Ok(())
 }
 
 #[test]
-fn opcodes_go_quickly(rt: HostRuntime) -> Result<(), BootFault> {
+fn opcodes_go_quickly(rt: HostRuntime) {
     for (code, count) in &PROGRAMS {
-        goes_quickly(&rt, rt.alloc(), code, *count)?;
+        goes_quickly(&rt, rt.alloc(), code, *count);
     }
-    Ok(())
 }
 
 /// What stands behind the code of a segment of 64 bytes with one procedure, without parameters and variables, that is
@@ -257,7 +255,7 @@ fn segment_of(code: &[u8]) -> [u8; 64] {
 fn booted_opcodes_go_quickly(rt: HostRuntime) -> Result<(), Fail> {
     for (code, count) in &PROGRAMS {
         let volume = volume(rt.alloc(), 2, [64, 0, 0], &segment_of(code))?;
-        let mut machine = Tested::booted(rt.alloc(), volume)?;
+        let mut machine = Tested::booted(&rt, rt.alloc(), volume);
         machine.makes_quick(&rt, 1000, *count);
         machine.steps_to(&rt, Stop::Ended);
     }
@@ -266,69 +264,67 @@ fn booted_opcodes_go_quickly(rt: HostRuntime) -> Result<(), Fail> {
 
 /// SLDC 0 to 127.
 #[test]
-fn constants_go_quickly(rt: HostRuntime) -> Result<(), BootFault> {
+fn constants_go_quickly(rt: HostRuntime) {
     let mut code = [0xD6; 129];
     for n in 0..128 {
         code[n] = n as u8;
     }
-    goes_quickly(&rt, rt.alloc(), &code, 128)
+    goes_quickly(&rt, rt.alloc(), &code, 128);
 }
 
 /// A jump forward by 127, to the same jump by the jump table, from the place 128 bytes below its end.
-fn jumps_far(rt: &impl Abort, alloc: Global, opcode: u8, word: u8) -> Result<(), BootFault> {
+fn jumps_far(rt: &impl Abort, alloc: Global, opcode: u8, word: u8) {
     let mut code = [0xD6; 300];
     code[..4].copy_from_slice(&[0x00, word, opcode, 0x7F]);
     code[131..135].copy_from_slice(&[0x00, word, opcode, 0x80]);
     code[172..174].copy_from_slice(&[0x16, 0x00]);
-    goes_quickly(rt, alloc, &code, 6)
+    goes_quickly(rt, alloc, &code, 6);
 }
 
 /// FJP, UJP, EFJ and NFJ, which are taken.
 #[test]
-fn far_jumps_go_quickly(rt: HostRuntime) -> Result<(), BootFault> {
+fn far_jumps_go_quickly(rt: HostRuntime) {
     for (opcode, word) in [(0xA1, 0), (0xB9, 0), (0xD3, 1), (0xD4, 0)] {
-        jumps_far(&rt, rt.alloc(), opcode, word)?;
+        jumps_far(&rt, rt.alloc(), opcode, word);
     }
-    Ok(())
 }
 
 /// LSA and LPA of 255 characters, LDC of 255 words, and XJP of 250 cases, of which the second is taken.
 #[test]
-fn long_literals_go_quickly(rt: HostRuntime) -> Result<(), BootFault> {
+fn long_literals_go_quickly(rt: HostRuntime) {
     for opcode in [0xA6, 0xD0] {
         let mut code = [0x41; 258];
         code[..2].copy_from_slice(&[opcode, 0xFF]);
         code[257] = 0xD6;
-        goes_quickly(&rt, rt.alloc(), &code, 1)?;
+        goes_quickly(&rt, rt.alloc(), &code, 1);
     }
     let mut code = [0; 513];
     code[..2].copy_from_slice(&[0xB3, 0xFF]);
     code[512] = 0xD6;
-    goes_quickly(&rt, rt.alloc(), &code, 1)?;
+    goes_quickly(&rt, rt.alloc(), &code, 1);
     code[..12].copy_from_slice(&[0x01, 0xAC, 0, 0, 0xF9, 0, 0xD6, 0, 0, 0, 0x0A, 0xFE]);
-    goes_quickly(&rt, rt.alloc(), &code, 2)
+    goes_quickly(&rt, rt.alloc(), &code, 2);
 }
 
 /// CLP, then a call of procedure 2 by each kind of call within a segment, and RNP; the return to the system is not
 /// quick.
 #[test]
-fn calls_go_quickly(rt: HostRuntime) -> Result<(), BootFault> {
+fn calls_go_quickly(rt: HostRuntime) {
     for opcode in [0xCE, 0xCF, 0xAE] {
         let mut code = CALLS;
         code[2] = opcode;
         code[4] = opcode;
-        let mut machine = Tested::raw(rt.alloc(), &code)?;
+        let mut machine = Tested::raw(&rt, rt.alloc(), &code);
         machine.pokes(&rt, TOP.0, TOP.1);
         machine.makes_quick(&rt, 1000, 5);
         machine.has_sp(&rt, 65480);
         machine.steps_to(&rt, Stop::Ended);
     }
-    Ok(())
 }
 
 /// CBP of procedures of level 0, and RBP.
 #[test]
-fn base_calls_go_quickly(rt: HostRuntime) -> Result<(), BootFault> {
+fn base_calls_go_quickly(rt: HostRuntime) {
     let mut code = CALLS;
     code[0] = 0xC2;
     code[2] = 0xC2;
@@ -337,16 +333,15 @@ fn base_calls_go_quickly(rt: HostRuntime) -> Result<(), BootFault> {
     code[17] = 0;
     code[18] = 0xC1;
     code[29] = 0;
-    let mut machine = Tested::raw(rt.alloc(), &code)?;
+    let mut machine = Tested::raw(&rt, rt.alloc(), &code);
     machine.pokes(&rt, TOP.0, TOP.1);
     machine.makes_quick(&rt, 1000, 5);
     machine.steps_to(&rt, Stop::Ended);
-    Ok(())
 }
 
 /// RNP and RBP of several words, out of a procedure 2 with 600 bytes of variables.
 #[test]
-fn returns_of_words_go_quickly(rt: HostRuntime) -> Result<(), BootFault> {
+fn returns_of_words_go_quickly(rt: HostRuntime) {
     for (call, back, level, sp) in [(0xCE, 0xAD, 2, 65480), (0xC2, 0xC1, 0, 65478)] {
         for words in [2, 8, 9, 255] {
             let mut code = CALLS;
@@ -357,29 +352,27 @@ fn returns_of_words_go_quickly(rt: HostRuntime) -> Result<(), BootFault> {
             code[17] = level / 2;
             code[18..22].copy_from_slice(&[back, words, 0x58, 0x02]);
             code[29] = level;
-            let mut machine = Tested::raw(rt.alloc(), &code)?;
+            let mut machine = Tested::raw(&rt, rt.alloc(), &code);
             machine.pokes(&rt, TOP.0, TOP.1);
             machine.makes_quick(&rt, 1000, 5);
             machine.has_sp(&rt, sp - 4 * u16::from(words));
             machine.steps_to(&rt, Stop::Ended);
         }
     }
-    Ok(())
 }
 
 /// Calls of procedure 255, whose word of the dictionary stands at 548, by each kind of call within a segment.
 #[test]
-fn calls_of_procedure_255_go_quickly(rt: HostRuntime) -> Result<(), BootFault> {
+fn calls_of_procedure_255_go_quickly(rt: HostRuntime) {
     for opcode in [0xCE, 0xCF, 0xAE] {
         let mut code = CALLS;
         code[2..6].copy_from_slice(&[opcode, 0xFF, opcode, 0xFF]);
-        let mut machine = Tested::raw(rt.alloc(), &code)?;
+        let mut machine = Tested::raw(&rt, rt.alloc(), &code);
         machine.pokes(&rt, TOP.0, 0xFF01);
         machine.pokes(&rt, 548, 65032);
         machine.makes_quick(&rt, 1000, 5);
         machine.steps_to(&rt, Stop::Ended);
     }
-    Ok(())
 }
 
 /// Segment 1 calls its own procedure 2 and segment 2, which calls procedure 2 of segment 1.
@@ -395,7 +388,7 @@ const CROSSING: [u8; 56] = [
 #[test]
 fn calls_of_called_segments_go_quickly(rt: HostRuntime) -> Result<(), Fail> {
     let volume = volume(rt.alloc(), 2, [36, 20, 0], &CROSSING)?;
-    let mut machine = Tested::booted(rt.alloc(), volume)?;
+    let mut machine = Tested::booted(&rt, rt.alloc(), volume);
     machine.makes_quick(&rt, 1000, 2);
     machine.steps_to(&rt, Stop::Went);
     machine.makes_quick(&rt, 1000, 3);
@@ -408,7 +401,7 @@ fn calls_of_called_segments_go_quickly(rt: HostRuntime) -> Result<(), Fail> {
 #[test]
 fn calls_of_segments_go_quickly(rt: HostRuntime) -> Result<(), Fail> {
     let volume = volume(rt.alloc(), 2, [28, 16, 0], &KEEPS)?;
-    let mut machine = Tested::booted(rt.alloc(), volume)?;
+    let mut machine = Tested::booted(&rt, rt.alloc(), volume);
     machine.makes_quick(&rt, 1000, 1);
     machine.steps_to(&rt, Stop::Went);
     machine.makes_quick(&rt, 1000, 5);
@@ -423,8 +416,8 @@ const LOOP: [u8; 10] = [0x01, 0x02, 0x82, 0xAB, 0x01, 0xB9, 0xFE, 0xD7, 0x08, 0x
 
 /// Every step of a loop is quick, up to the limit.
 #[test]
-fn loops_go_quickly(rt: HostRuntime) -> Result<(), BootFault> {
-    let mut machine = Tested::raw(rt.alloc(), &LOOP)?;
+fn loops_go_quickly(rt: HostRuntime) {
+    let mut machine = Tested::raw(&rt, rt.alloc(), &LOOP);
     machine.makes_quick(&rt, 0, 0);
     machine.makes_quick(&rt, 1, 1);
     machine.makes_quick(&rt, 999, 999);
@@ -432,7 +425,6 @@ fn loops_go_quickly(rt: HostRuntime) -> Result<(), BootFault> {
     machine.runs_to(&rt, 4002, 4002, Stop::Went);
     machine.has_made(&rt, 5002);
     machine.holds(&rt, 65504, 3);
-    Ok(())
 }
 
 /// The same, but FJP jumps back.

@@ -2,13 +2,13 @@
 //! no body has a way out at each call: a `?` behind which images are let go is what a proof of a test costs most for.
 ghost use Rattle.std.specs.Prelude.{◌≡◌, length, sum};
 
-use crate::tests::jobs::{Told, job_run, tells};
-use crate::tests::streams::raw;
+use crate::job_tests::jobs::{Told, job_run, tells};
+use crate::job_tests::streams::raw;
+use crate::programs::{ADDITION, ADDITION_TRACE, ECHO, LETTERS};
 use pm_filer::FileCommand;
 use pm_tool::{AsmOutput, DisOutput, Job, Saving};
 use std::alloc::Global;
 use std::process::Abort;
-use test_parts::programs::{ADDITION, ADDITION_TRACE, ECHO, LETTERS};
 
 fn text(rt: &impl Abort, alloc: Global, text: &str) -> String {
     String::from_str(alloc, text).expect(rt, "memory")

@@ -1,4 +1,4 @@
-//! The tests.
+//! Jobs: streams of which a call fails, what is written when, and how much of its input a job takes.
 
 mod bounds;
 mod broken;

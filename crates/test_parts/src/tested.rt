@@ -1,6 +1,6 @@
 //! A machine under test: each call asserts what it comes to, so that a test is a list of calls.
-use crate::volumes::boots;
-use pm_machine::{BootFault, Machine, Stop};
+use crate::booted::boots;
+use pm_machine::{Machine, Stop};
 use pm_volume::Volume;
 use std::alloc::Global;
 use std::process::Abort;
@@ -13,15 +13,15 @@ pub(crate) struct Tested {
 
 impl Tested {
     /// A machine with bare code.
-    pub(crate) fn raw(alloc: Global, code: &[u8]) -> Result<Tested, BootFault> {
-        let machine = Machine::raw(alloc, code)?;
-        Ok(Tested { machine })
+    pub(crate) fn raw(rt: &impl Abort, alloc: Global, code: &[u8]) -> Tested {
+        let machine = Machine::raw(alloc, code).expect(rt, "a machine");
+        Tested { machine }
     }
 
     /// The machine that a volume on unit 4 boots with its file `P`.
-    pub(crate) fn booted(alloc: Global, volume: Volume) -> Result<Tested, BootFault> {
-        let machine = boots(alloc, volume)?;
-        Ok(Tested { machine })
+    pub(crate) fn booted(rt: &impl Abort, alloc: Global, volume: Volume) -> Tested {
+        let machine = boots(alloc, volume).expect(rt, "a machine");
+        Tested { machine }
     }
 
     pub(crate) fn pokes(&mut self, rt: &impl Abort, address: u16, word: u16) {

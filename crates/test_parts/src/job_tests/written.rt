@@ -1,11 +1,10 @@
 //! What is written when. No clause can say it, since a sink knows no steps.
+use crate::job_tests::broken::{COMMANDS, Tried, image};
+use crate::job_tests::streams::raw;
 use crate::recorder::{Call, Kind, Manner, Recorded, recorded_run};
-use crate::tests::broken::{COMMANDS, Tried, image};
-use crate::tests::streams::raw;
 use pm_tool::{Job, Saving};
 use std::alloc::Global;
 use std::process::Abort;
-use std::test::Fail;
 
 /// Each call moves all bytes that it can, and none fails.
 const WELL: Manner = Manner {
@@ -29,24 +28,25 @@ const LAST: [u8; 36] = [
 ];
 
 /// A program that writes A, B and, 500 steps later, C; and then reads a byte.
-fn three_letters(alloc: Global) -> Result<Job, Fail> {
+fn three_letters(rt: &impl Abort, alloc: Global) -> Job {
     let mut segment = [0xD7; 556];
     segment[..20].copy_from_slice(&FIRST);
     segment[520..].copy_from_slice(&LAST);
-    let image = image(alloc, [556, 0], &segment)?;
-    Ok(Job::Run {
+    let image = image(rt, alloc, [556, 0], &segment);
+    let name = String::from_str(alloc, "P").expect(rt, "memory");
+    Job::Run {
         disks: [Some(image), None, None, None, None, None],
-        name: String::from_str(alloc, "P")?,
+        name,
         limit: 1000,
         saving: Saving::Nothing,
         system: None,
-    })
+    }
 }
 
 /// A letter is written by the step that shows it, and so before what is shown next, however soon, and before a read.
 #[test]
-fn letters_are_written_at_once(rt: HostRuntime) -> Result<(), Fail> {
-    let ran = recorded_run(rt.alloc(), three_letters(rt.alloc())?, b"x", WELL);
+fn letters_are_written_at_once(rt: HostRuntime) {
+    let ran = recorded_run(rt.alloc(), three_letters(&rt, rt.alloc()), b"x", WELL);
     ran.is(&rt, 0, "ended 529", (false, false));
     ran.has_written(&rt, Some(b"ABC"));
     let kind = Kind::Write(1);
@@ -60,7 +60,6 @@ fn letters_are_written_at_once(rt: HostRuntime) -> Result<(), Fail> {
         },
     ];
     assert_eq!(rt; ran.calls.as_slice(), calls.as_slice());
-    Ok(())
 }
 
 /// The bytes of a line of the trace of a jump to itself.
@@ -118,13 +117,12 @@ fn answers_before_it_reads(rt: &impl Abort, ran: &Recorded) {
 }
 
 #[test]
-fn sessions_answer_before_they_read(rt: HostRuntime) -> Result<(), Fail> {
+fn sessions_answer_before_they_read(rt: HostRuntime) {
     let alloc = rt.alloc();
-    let image = Tried::Session.image(alloc)?;
-    let ran = Tried::Session.ran(alloc, &image, WELL)?;
+    let image = Tried::Session.image(&rt, alloc);
+    let ran = Tried::Session.ran(&rt, alloc, &image, WELL);
     answers_before_it_reads(&rt, &ran);
     let slow = Manner { most: 1, ..WELL };
-    let ran = Tried::Session.ran(alloc, &image, slow)?;
+    let ran = Tried::Session.ran(&rt, alloc, &image, slow);
     answers_before_it_reads(&rt, &ran);
-    Ok(())
 }

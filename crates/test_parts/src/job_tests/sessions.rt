@@ -1,14 +1,13 @@
 //! Sessions of the debugger over streams that fail at each of their calls in turn.
-use crate::tests::broken::{ANSWERS, COMMANDS, Tried};
-use crate::tests::streams::{Full, ShortReader, ShortWriter};
+use crate::job_tests::broken::{ANSWERS, COMMANDS, Tried};
+use crate::job_tests::streams::{Full, ShortReader, ShortWriter};
 use pm_tool::{Reader, Writer, run};
 use std::alloc::Global;
 use std::process::Abort;
-use std::test::Fail;
 
 /// After so many reads a read fails.
-fn read_fails(rt: &impl Abort, alloc: Global, good: usize) -> Result<(), Fail> {
-    let job = Tried::Session.job(alloc, &Tried::Session.image(alloc)?)?;
+fn read_fails(rt: &impl Abort, alloc: Global, good: usize) {
+    let job = Tried::Session.job(rt, alloc, &Tried::Session.image(rt, alloc));
     let mut written = Vec::new(alloc);
     let mut source = Reader::new(ShortReader {
         bytes: COMMANDS.as_bytes(),
@@ -19,21 +18,19 @@ fn read_fails(rt: &impl Abort, alloc: Global, good: usize) -> Result<(), Fail> {
     assert_eq!(rt; outcome.exit.number(), 4, "after {good} reads");
     assert_eq!(rt; outcome.text(), "read fault");
     assert!(rt; ANSWERS.as_bytes().starts_with(&written));
-    Ok(())
 }
 
 /// There is a read for each byte up to the line feed of `quit`, and no other.
 #[test]
-fn each_read_fails(rt: HostRuntime) -> Result<(), Fail> {
+fn each_read_fails(rt: HostRuntime) {
     for good in 0..COMMANDS.len() {
-        read_fails(&rt, rt.alloc(), good)?;
+        read_fails(&rt, rt.alloc(), good);
     }
-    Ok(())
 }
 
 /// After so many bytes a write fails.
-fn write_fails(rt: &impl Abort, alloc: Global, good: usize, full: Full) -> Result<(), Fail> {
-    let job = Tried::Session.job(alloc, &Tried::Session.image(alloc)?)?;
+fn write_fails(rt: &impl Abort, alloc: Global, good: usize, full: Full) {
+    let job = Tried::Session.job(rt, alloc, &Tried::Session.image(rt, alloc));
     let mut written = ShortWriter {
         bytes: Vec::new(alloc),
         good,
@@ -46,14 +43,12 @@ fn write_fails(rt: &impl Abort, alloc: Global, good: usize, full: Full) -> Resul
     assert_eq!(rt; outcome.text(), "write fault");
     assert_eq!(rt; written.bytes.len(), good);
     assert!(rt; ANSWERS.as_bytes().starts_with(&written.bytes));
-    Ok(())
 }
 
 #[test]
-fn each_write_fails(rt: HostRuntime) -> Result<(), Fail> {
+fn each_write_fails(rt: HostRuntime) {
     for good in 0..ANSWERS.len() {
-        write_fails(&rt, rt.alloc(), good, Full::Errs)?;
-        write_fails(&rt, rt.alloc(), good, Full::TakesNothing)?;
+        write_fails(&rt, rt.alloc(), good, Full::Errs);
+        write_fails(&rt, rt.alloc(), good, Full::TakesNothing);
     }
-    Ok(())
 }

@@ -1,9 +1,9 @@
 //! Streams that fail at each of their calls in turn.
-use crate::tests::streams::{Full, ShortReader, ShortWriter, raw};
+use crate::job_tests::streams::{Full, ShortReader, ShortWriter, raw};
+use crate::programs::{ADDITION, ADDITION_TRACE};
 use pm_tool::{Outcome, Reader, Sink, Source, Writer, run};
 use std::alloc::Global;
 use std::process::Abort;
-use test_parts::programs::{ADDITION, ADDITION_TRACE};
 
 /// What a run of the addition came to, whether its input failed and whether its output did, and what it wrote.
 #[derive(Drop)]

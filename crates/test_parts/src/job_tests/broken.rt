@@ -1,15 +1,14 @@
 //! Each call of a stream fails in turn, once: the job is broken off there, with what it had written before that call,
-//! and calls no stream any more.
+//! and calls no stream any more. What takes memory ends the test where there is none, as in `left`.
 ghost use Rattle.std.specs.Prelude.{◌≡◌, length, sum};
 
+use crate::job_tests::streams::raw;
+use crate::programs::{ADDITION, ADDITION_TRACE, ECHO, EXITS, LETTERS};
 use crate::recorder::{Call, Kind, Manner, Recorded, recorded_run};
-use crate::tests::streams::raw;
 use pm_tool::{Job, Saving, Selection};
 use pm_volume::Volume;
-use std::alloc::{AllocError, Global};
+use std::alloc::Global;
 use std::process::Abort;
-use std::test::Fail;
-use test_parts::programs::{ADDITION, ADDITION_TRACE, ECHO, EXITS, LETTERS};
 
 /// The program that leaves a segment by EXIT from another one.
 const EXITS_TRACE: &str = "\
@@ -64,34 +63,37 @@ pub(crate) enum Tried {
 }
 
 /// A volume with the program `P` of the segments 1 and 2, as disk of unit 4.
-pub(crate) fn image(alloc: Global, lengths: [u16; 2], segments: &[u8]) -> Result<Vec<u8>, Fail>
+pub(crate) fn image(rt: &impl Abort, alloc: Global, lengths: [u16; 2], segments: &[u8]) -> Vec<u8>
     requires joined { sum lengths ≡ length segments.now }
 {
     let [first, second] = lengths;
     let slots = [0, first, second, 0, 0, 0, 0, 0, 0, 0, 0, 0, 0, 0, 0, 0];
-    let program = pm_codefile::write(alloc, &[[32; 8]; 16], &slots, segments)?;
-    let mut disk = Volume::blank(alloc, "WORK", 83)?;
-    disk.add("P", 2, &program, 0)?;
-    Ok(disk.into_bytes())
+    let program = pm_codefile::write(alloc, &[[32; 8]; 16], &slots, segments).expect(rt, "memory");
+    let mut disk = Volume::blank(alloc, "WORK", 83).expect(rt, "a volume");
+    disk.add("P", 2, &program, 0).expect(rt, "a file");
+    disk.into_bytes()
 }
 
 impl Tried {
     /// The image that its job has on unit 4. Bare code has none.
-    pub(crate) fn image(self, alloc: Global) -> Result<Vec<u8>, Fail> {
+    pub(crate) fn image(self, rt: &impl Abort, alloc: Global) -> Vec<u8> {
         match self {
-            Tried::Addition => Ok(Vec::new(alloc)),
-            Tried::Letters => image(alloc, [28, 0], &LETTERS),
-            Tried::Echo => image(alloc, [38, 0], &ECHO),
-            Tried::Exits | Tried::ExitsTraced | Tried::Session => { image(alloc, [36, 38], &EXITS) }
+            Tried::Addition => Vec::new(alloc),
+            Tried::Letters => image(rt, alloc, [28, 0], &LETTERS),
+            Tried::Echo => image(rt, alloc, [38, 0], &ECHO),
+            Tried::Exits | Tried::ExitsTraced | Tried::Session => {
+                image(rt, alloc, [36, 38], &EXITS)
+            }
         }
     }
 
     /// Its job, with this image on unit 4.
-    pub(crate) fn job(self, alloc: Global, image: &[u8]) -> Result<Job, AllocError> {
+    pub(crate) fn job(self, rt: &impl Abort, alloc: Global, image: &[u8]) -> Job {
         let limit = 100;
-        let name = String::from_str(alloc, "P")?;
-        let disks = [Some(image.to_vec(alloc)?), None, None, None, None, None];
-        Ok(match self {
+        let name = String::from_str(alloc, "P").expect(rt, "memory");
+        let image = image.to_vec(alloc).expect(rt, "memory");
+        let disks = [Some(image), None, None, None, None, None];
+        match self {
             Tried::Addition => raw(100),
             Tried::Letters | Tried::Echo | Tried::Exits => Job::Run {
                 disks,
@@ -113,7 +115,7 @@ impl Tried {
                 system: None,
                 typed: Vec::new(alloc),
             },
-        })
+        }
     }
 
     fn input(self) -> &'static str {
@@ -139,12 +141,13 @@ impl Tried {
 
     pub(crate) fn ran(
         self,
+        rt: &impl Abort,
         alloc: Global,
         image: &[u8],
         manner: Manner,
-    ) -> Result<Recorded, AllocError> {
-        let job = self.job(alloc, image)?;
-        Ok(recorded_run(alloc, job, self.input().as_bytes(), manner))
+    ) -> Recorded {
+        let job = self.job(rt, alloc, image);
+        recorded_run(alloc, job, self.input().as_bytes(), manner)
     }
 }
 
@@ -186,58 +189,57 @@ fn each_fails(
     tried: Tried,
     (most, takes_nothing): (usize, bool),
     calls: usize,
-) -> Result<(), Fail> {
+) {
     let manner = Manner {
         most,
         fails_at: None,
         takes_nothing,
     };
     let (message, output) = tried.told();
-    let image = tried.image(alloc)?;
-    let good = tried.ran(alloc, &image, manner)?;
+    let image = tried.image(rt, alloc);
+    let good = tried.ran(rt, alloc, &image, manner);
     good.is(rt, 0, message, (false, false));
     good.has_written(rt, Some(output.as_bytes()));
     assert_eq!(rt; good.calls.len(), calls);
     for (number, call) in good.calls.iter().enumerate() {
         let fails_at = Some(number);
-        let ran = tried.ran(alloc, &image, Manner { fails_at, ..manner })?;
+        let ran = tried.ran(rt, alloc, &image, Manner { fails_at, ..manner });
         ran.is_broken_off(rt, &good, number, *call);
     }
-    Ok(())
 }
 
 /// The input is read to its end, and then the trace is written.
 #[test]
-fn addition(rt: HostRuntime) -> Result<(), Fail> {
-    each_fails(&rt, rt.alloc(), Tried::Addition, (1, true), 13 + 210)?;
-    each_fails(&rt, rt.alloc(), Tried::Addition, (usize::MAX, false), 2 + 1)
+fn addition(rt: HostRuntime) {
+    each_fails(&rt, rt.alloc(), Tried::Addition, (1, true), 13 + 210);
+    each_fails(&rt, rt.alloc(), Tried::Addition, (usize::MAX, false), 2 + 1);
 }
 
 /// No input is read.
 #[test]
-fn letters(rt: HostRuntime) -> Result<(), Fail> {
-    each_fails(&rt, rt.alloc(), Tried::Letters, (1, false), 2)?;
-    each_fails(&rt, rt.alloc(), Tried::Letters, (usize::MAX, true), 1)
+fn letters(rt: HostRuntime) {
+    each_fails(&rt, rt.alloc(), Tried::Letters, (1, false), 2);
+    each_fails(&rt, rt.alloc(), Tried::Letters, (usize::MAX, true), 1);
 }
 
 /// Three bytes are read, and each is shown.
 #[test]
-fn echo(rt: HostRuntime) -> Result<(), Fail> {
-    each_fails(&rt, rt.alloc(), Tried::Echo, (1, false), 3 + 3)?;
-    each_fails(&rt, rt.alloc(), Tried::Echo, (usize::MAX, true), 3 + 3)
+fn echo(rt: HostRuntime) {
+    each_fails(&rt, rt.alloc(), Tried::Echo, (1, false), 3 + 3);
+    each_fails(&rt, rt.alloc(), Tried::Echo, (usize::MAX, true), 3 + 3);
 }
 
 /// A run without output calls no stream. Its trace is one page, of which a write takes 16 bytes at most, or all.
 #[test]
-fn exits(rt: HostRuntime) -> Result<(), Fail> {
-    each_fails(&rt, rt.alloc(), Tried::Exits, (usize::MAX, false), 0)?;
-    each_fails(&rt, rt.alloc(), Tried::ExitsTraced, (16, true), 33)?;
-    each_fails(&rt, rt.alloc(), Tried::ExitsTraced, (usize::MAX, false), 1)
+fn exits(rt: HostRuntime) {
+    each_fails(&rt, rt.alloc(), Tried::Exits, (usize::MAX, false), 0);
+    each_fails(&rt, rt.alloc(), Tried::ExitsTraced, (16, true), 33);
+    each_fails(&rt, rt.alloc(), Tried::ExitsTraced, (usize::MAX, false), 1);
 }
 
 /// Each byte of the commands is read by a call of its own, and each answer is written by one, or 16 bytes at a time.
 #[test]
-fn session(rt: HostRuntime) -> Result<(), Fail> {
-    each_fails(&rt, rt.alloc(), Tried::Session, (16, true), 98 + 11)?;
-    each_fails(&rt, rt.alloc(), Tried::Session, (usize::MAX, false), 98 + 9)
+fn session(rt: HostRuntime) {
+    each_fails(&rt, rt.alloc(), Tried::Session, (16, true), 98 + 11);
+    each_fails(&rt, rt.alloc(), Tried::Session, (usize::MAX, false), 98 + 9);
 }

@@ -197,6 +197,18 @@ impl<'a> Trial<'a> {
         done
     }
 
+    /// Makes a new store, exchanges the two, or stores what a path names or its open file for later lines.
+    fn keep(&mut self, word: &str, path: &str) -> io::Result<()> {
+        let rt = self.rt;
+        match word {
+            "new" => self.store = HostStore::new(rt),
+            "swap" => mem::swap(&mut self.store, &mut self.second),
+            "node" => self.old = node_of(rt, path),
+            _ => self.theirs = Some(File::open(rt, path)?),
+        }
+        Ok(())
+    }
+
     /// Makes a call and returns its answer, "" if it has none.
     fn answer(
         &mut self,
@@ -220,20 +232,8 @@ impl<'a> Trial<'a> {
             "same" => Ok(truth(rt.is_same(path, second))),
             "none" => Ok(truth(node_of(rt, path).is_none())),
             "theirs" => Ok(truth(self.is_theirs(path))),
-            "new" => {
-                self.store = HostStore::new(rt);
-                Ok("")
-            }
-            "swap" => {
-                mem::swap(&mut self.store, &mut self.second);
-                Ok("")
-            }
-            "node" => {
-                self.old = node_of(rt, path);
-                Ok("")
-            }
-            "open" => {
-                self.theirs = Some(File::open(rt, path)?);
+            "new" | "swap" | "node" | "open" => {
+                self.keep(word, path)?;
                 Ok("")
             }
             _ => {

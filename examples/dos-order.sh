@@ -11,6 +11,9 @@
 set -e
 scratch=$(mktemp)
 trap 'rm -f "$scratch"' EXIT
+trap 'exit 129' HUP
+trap 'exit 130' INT
+trap 'exit 143' TERM
 cat >"$scratch"
 [ "$(wc -c <"$scratch")" -eq 143360 ] || {
     echo "dos-order.sh: the image has $(wc -c <"$scratch") bytes, not the 143360 bytes of a 140 KB disk" >&2

@@ -3,7 +3,8 @@
 #
 # With --form the image is first converted to blocks by form.sh; FORM is dos, swapped, 2mg-blocks or another of its formats.
 # The header is not used, and each entry is judged by itself. A file is copied if its name has 1 to 15 characters, its
-# blocks are after block 5 and within the image, and its last block has 1 to 512 bytes. With --second the copy of the
+# blocks are after block 5 and within the image, and its last block has 1 to 512 bytes. Files that share blocks are copied
+# until the copies have twice the blocks of the image. With --second the copy of the
 # directory in blocks 6 to 9 is used. The image is not changed. FOLDER has the form that export.sh makes and import.sh
 # reads. For a doubtful file LIST has a seventh field: ?N if the file shares blocks with an earlier slot N, or ?count if
 # the header counts fewer files.
@@ -44,6 +45,7 @@ enter "$folder" || exit 1
 blocks=$(($(stat -c %s -- "$image") / 512))
 status=0
 taken=0
+copied=0
 read_directory "$image" $start
 
 # tell TEXT..: prints a message about the slot that was read
@@ -62,6 +64,11 @@ for ((slot = 1; slot <= 77 && 26 * slot + 26 <= ${#directory[@]}; slot++)); do
         tell "left out: its name has $length characters, its last block $last bytes"
         continue
     fi
+    if ((copied + end - first > 2 * blocks)); then
+        tell "left out: with it the copied files would have more than twice the blocks of the image"
+        continue
+    fi
+    copied=$((copied + end - first))
     doubt=
     ((slot <= $(word 16))) || doubt=count
     for ((block = first; block < end; block++)); do

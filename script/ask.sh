@@ -5,7 +5,8 @@ case $verb in
     new | zero) [ -s "$path" ] || exit 0 ;;
     *) exit 0 ;;
 esac
-printf 'pmach: %s exists, and %s deletes what it contains. Continue? [y/N] ' "$(printf %s "$path" | tr '\000-\037\177' '?')" "$verb" >&2
+shown=$(printf %s "$path" | tr '\000-\037\177' '?' | LC_ALL=C sed 's/\xc2[\x80-\x9f]/?/g')
+printf 'pmach: %s exists, and %s deletes what it contains. Continue? [y/N] ' "$shown" "$verb" >&2
 read -r answer || answer=''
 case $answer in
     [yY]*) exit 0 ;;

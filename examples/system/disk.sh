@@ -20,6 +20,9 @@ export PMACH="$pmach"
 image=$1
 scratch=$(mktemp -d)
 trap 'rm -rf "$scratch"' EXIT
+trap 'exit 129' HUP
+trap 'exit 130' INT
+trap 'exit 143' TERM
 files() {
     "$pmach" files --image "$image" "$@"
 }

@@ -2,18 +2,27 @@
 use crate::fault::DiskFault;
 use std::alloc::Global;
 use std::fs::File;
-use std::io::Read;
+use std::io;
+use std::io::{ErrorKind, Read};
 use std::rt::Files;
 
 /// The most bytes of an image.
 pub const IMAGE_LIMIT: usize = 33_554_432;
+
+/// Returns the fault of a call on an open file. The file exists, even if the system says that it does not.
+pub(crate) fn fault_of_open(error: io::Error) -> DiskFault {
+    match DiskFault::of_read(error) {
+        DiskFault::Read(ErrorKind::NotFound) => DiskFault::Read(ErrorKind::Other),
+        fault => fault,
+    }
+}
 
 /// Reads a whole file.
 pub(crate) fn read_file<F: Read>(alloc: Global, file: &mut F) -> Result<Vec<u8>, DiskFault> {
     let mut image = Vec::new(alloc);
     let mut buffer = [0; 4096];
     for _ in 0..=IMAGE_LIMIT {
-        let count = file.read(&mut buffer).map_err(DiskFault::of_read)?;
+        let count = file.read(&mut buffer).map_err(fault_of_open)?;
         if count == 0 {
             return Ok(image);
         }

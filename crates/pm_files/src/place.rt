@@ -1,7 +1,7 @@
 //! A file that is going to be written: its paths, and its lock.
 use crate::fault::DiskFault;
 use crate::host::{Host, Kind, Node};
-use crate::image::read_file;
+use crate::image::{fault_of_open, read_file};
 use std::alloc::Global;
 use std::fs::{File, OpenOptions};
 use std::io::{ErrorKind, Seek, SeekFrom};
@@ -236,9 +236,7 @@ impl<F: Seek + std::io::Read> Held<F> {
         if !self.reads {
             return Err(DiskFault::Read(ErrorKind::PermissionDenied));
         }
-        self.file
-            .seek(SeekFrom::Start(0))
-            .map_err(DiskFault::of_read)?;
+        self.file.seek(SeekFrom::Start(0)).map_err(fault_of_open)?;
         read_file(alloc, &mut self.file)
     }
 }

@@ -116,6 +116,8 @@ pub enum Lines {
     Added,
     /// It writes none that belong to no text, and fails there.
     TextAlone,
+    /// It writes `?` for each control character that is not a tab, a line feed or a carriage return.
+    Shown,
 }
 
 /// Why a writer failed, where that is known.
@@ -130,6 +132,12 @@ pub enum Failed {
 /// Whether a byte belongs to no text: a control character but for those that move to a column or a line.
 fn is_binary(byte: u8) -> bool {
     byte < 8 || (14..32).contains(&byte) || byte == 127
+}
+
+/// Whether a terminal may take a byte for the beginning of a command, such as one that sets its title: a control
+/// character that is not a tab, a line feed or a carriage return. Those from 128 to 159 are among them.
+fn is_control(byte: u8) -> bool {
+    byte < 9 || (11..13).contains(&byte) || (14..32).contains(&byte) || (127..160).contains(&byte)
 }
 
 /// A writer that knows whether a line has begun, and what goes to a terminal.
@@ -181,7 +189,22 @@ impl<W: Write> Lined<W> {
             Lines::Plain => self.inner.write(buf),
             Lines::Added => self.write_lines(buf),
             Lines::TextAlone => self.write_text(buf),
+            Lines::Shown => self.write_shown(buf),
         }
+    }
+
+    /// Writes up to the first control character, or `?` for that one.
+    fn write_shown(&mut self, buf: &[u8]) -> io::Result<usize>
+        ensures bound { WritesAtMost result buf.now }
+    {
+        let Some(place) = buf.iter().position(|byte| is_control(*byte)) else {
+            return self.inner.write(buf);
+        };
+        if place > 0 {
+            return self.inner.write(&buf[..place]);
+        }
+        self.inner.write_all(b"?")?;
+        Ok(1)
     }
 
     /// Writes up to the first carriage return, and a line feed behind it.

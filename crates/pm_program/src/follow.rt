@@ -54,6 +54,7 @@ impl Terminals {
             Plan::Run(_, _) if self.output => Lines::Added,
             Plan::Asm(AsmOutput::File, _) if self.output => Lines::TextAlone,
             Plan::Files(plan) if self.output && plan.verb.gets() => Lines::TextAlone,
+            Plan::Files(plan) if self.output && gets_text(&plan.verb) => Lines::Shown,
             _ => Lines::Plain,
         }
     }
@@ -66,6 +67,14 @@ impl Terminals {
             Prompt::Once("")
         }
     }
+}
+
+/// Whether a verb writes the text of a file.
+fn gets_text(verb: &Verb) -> bool {
+    matches!(
+        verb,
+        Verb::Command(FileCommand::GetText(..) | FileCommand::GetTextSlot(..))
+    )
 }
 
 /// A prompt on standard error, before input is read from a terminal.

@@ -237,6 +237,7 @@ pub fn push_numbered<'a>(
     shown: &mut Vec<u16>,
     number: u8,
 ) -> Result<(), AllocError>
+    requires even { length sized.now.segment.now % 2 ≡ 0 }
     requires short { length sized.now.segment.now ≤ 65534 }
     requires sized { files.IsSizedSegment sized.now }
     requires decoded { IfSome decoded.old (λ d. IsDecoded d sized.now.segment.now) }

@@ -97,6 +97,7 @@ fn write_number<'a, W: Sink>(
     number: u8,
 ) -> Result<(), Fault>
     requires well { (W.seen sink.old).failed ≡ false }
+    requires even { length part.segment.now % 2 ≡ 0 }
     requires short { length part.segment.now ≤ 65534 }
     requires decoded { IsDecoded decoded.now part.segment.now }
     requires last { IfSome last.old (λ l. l.piece.items
@@ -123,6 +124,7 @@ pub(crate) fn write_numbers<W: Sink>(
     part: Part<'_>,
 ) -> Result<(), Fault>
     requires well { (W.seen sink.old).failed ≡ false }
+    requires even { length part.segment.now % 2 ≡ 0 }
     requires short { length part.segment.now ≤ 65534 }
     ensures writes { Writes (W.seen sink.old) (W.seen sink.new) (pieces part.form file.now part.slot
         part.segment.now 1 (procedures_in part.segment.now)) result }

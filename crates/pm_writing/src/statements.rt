@@ -26,6 +26,7 @@ fn write_numbered<'a, W: Sink>(
     number: u8,
 ) -> Result<(), Fault>
     requires well { (W.seen sink.old).failed ≡ false }
+    requires even { length sized.now.segment.now % 2 ≡ 0 }
     requires short { length sized.now.segment.now ≤ 65534 }
     requires sized { files.IsSizedSegment sized.now }
     requires decoded { IfSome decoded.old (λ d. IsDecoded d sized.now.segment.now) }
@@ -48,6 +49,7 @@ fn write_segment<W: Sink>(
     sized: &SizedSegment<'_>,
 ) -> Result<(), Fault>
     requires well { (W.seen sink.old).failed ≡ false }
+    requires even { length sized.now.segment.now % 2 ≡ 0 }
     requires short { length sized.now.segment.now ≤ 65534 }
     requires sized { files.IsSizedSegment sized.now }
     ensures writes { Writes (W.seen sink.old) (W.seen sink.new) (files.tables_text known.now

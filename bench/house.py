@@ -323,7 +323,7 @@ def prose(page):
 for page in ALL_PAGES:
     for paragraph in prose(page):
         plain = re.sub(r"`[^`]*`|\]\([^)]*\)", "x", " ".join(paragraph.split()))
-        for sentence in re.split(r"(?<=[.?!:])\s+(?=[A-Z*\[`(x])", plain):
+        for sentence in re.split(r"(?<=[.?!:])\**\s+(?=[A-Z*\[`(x])", plain):
             if len(sentence.split()) > 40:
                 tell("long sentence", "%s: %d words: %s" % (page, len(sentence.split()), sentence[:70]))
 

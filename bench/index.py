@@ -11,22 +11,27 @@ TOP = os.path.join(os.path.dirname(os.path.abspath(__file__)), "..")
 PAGE = os.path.join(TOP, "INDEX.md")
 HEAD = """# Index
 
-Each public call, by crate as in crates.txt, and there by type or module: in brackets the names of its clauses, behind
-`requires` those of its conditions; with empty ones it promises to return, and nothing else. A line of its own is a law,
-with the words that stand above it in the source; `worked_..` are computed values. What serves tests alone is counted at
-the end. Made by `bench/index.py`.
+This page lists every public function and every law, with the names of their clauses;
+[PROMISES](docs/PROMISES.md) explains these terms. `bench/index.py` makes it from the source.
+
+- The crates are in the order of `crates.txt`. In a crate, functions are grouped by type or module.
+- The parentheses after a function contain the names of its clauses and, after `requires`, the names of its conditions.
+  With empty parentheses a function promises only that it returns.
+- A line `name: sentence` is a law. The sentence is the comment above it in the source.
+- A name `worked_..` is an example whose value the checker computes.
+- Test crates are not listed; "Counts" has the number of their mutants.
 """
 MESSAGES = """
 ## Messages
 
-Each refusal, and what a terminal is told of it: behind it may stand what is known of the case. Of `asm` these are the
-sentences where nothing is known that helps in the line.
+This table has each refusal with the sentence that a terminal gets. What is known of the case may be added to the
+sentence. For `asm` these are the sentences for a line about which nothing more is known.
 
 """
 SUMS = """
 ## Counts
 
-%d calls and %d laws, %d clauses, %d calls with conditions, %d wrong bodies, of which the gate tries %d.
+%d calls and %d laws, %d clauses, %d calls with conditions, %d mutants, of which the gate tries %d.
 
 %s
 """

@@ -38,7 +38,7 @@ piece_cut old mid new text piece rest r w = (
   (
     w.2.0 ++ rest,
     r.written.whole ∙ ap (λ p. r.written.done ++ (p ++ rest)) w.2.1
-    ∙ ap (λ p. r.written.done ++ p) (append_assoc w.0 w.2.0 rest) ∙ sym (append_assoc r.written.done w.0 (w.2.0 ++ rest)),
+        ∙ ap (λ p. r.written.done ++ p) (append_assoc w.0 w.2.0 rest) ∙ sym (append_assoc r.written.done w.0 (w.2.0 ++ rest)),
   ),
 )
 

@@ -17,7 +17,7 @@ returns-in_err-write_number g c =
     let p = err_from_is_err_and r.result r.ensures.1 in
     record {
       writes = rw (p.1, p.2) (cut_piece _ _ _ _ (number_piece part.form c.args.file.now part.slot segment (done + 1) (attributes_in segment (done + 1))) _ _
-      (next_number part.form c.args.file.now part.slot segment done count _ _ _ more c.loop-done.invariant.rest) c.in_err-write_number.ensures.writes);
+          (next_number part.form c.args.file.now part.slot segment done count _ _ _ more c.loop-done.invariant.rest) c.in_err-write_number.ensures.writes);
     }
 
 pub loop-done-preserved : goal.loop-done-preserved

@@ -27,7 +27,7 @@ returns-in_err-write_piece g c =
     subst (λ piece. AppendsFront s0.contents s1.contents piece) (c.deref.ensures.value ∙ c.in_ok-head.ensures.piece) w.0 in
     record {
       writes = rw (there, p.1, p.2) (cut_piece s0 s0 s1 (head ++ (numbers ++ foot)) head (numbers ++ foot) _
-      (at_start s0 (head ++ (numbers ++ foot)) c.requires.well) (front, w.1));
+          (at_start s0 (head ++ (numbers ++ foot)) c.requires.well) (front, w.1));
     }
 
 pub returns-in_err-write_numbers : goal.returns-in_err-write_numbers
@@ -49,8 +49,8 @@ returns-in_err-write_numbers g c =
     subst (λ piece. Appends s0.contents s1.contents piece) (c.deref.ensures.value ∙ c.in_ok-head.ensures.piece) w.0 in
     record {
       writes = rw (there, p.1, p.2) (cut_piece s0 s1 s2 (head ++ (numbers ++ foot)) numbers foot _
-      (piece_written s0 s0 s1 (head ++ (numbers ++ foot)) head (numbers ++ foot) (at_start s0 (head ++ (numbers ++ foot)) c.requires.well) first w.1)
-      c.in_err-write_numbers.ensures.writes);
+          (piece_written s0 s0 s1 (head ++ (numbers ++ foot)) head (numbers ++ foot) (at_start s0 (head ++ (numbers ++ foot)) c.requires.well) first w.1)
+          c.in_err-write_numbers.ensures.writes);
     }
 
 pub returns-in_err-foot : goal.returns-in_err-foot
@@ -73,9 +73,9 @@ returns-in_err-foot g c =
     let v = c.in_ok-write_numbers.ensures.writes in
     record {
       writes = rw (there, p.1, p.2) (no_piece s0 s2 (head ++ (numbers ++ foot)) foot
-      (piece_written s0 s1 s2 (head ++ (numbers ++ foot)) numbers foot
-      (piece_written s0 s0 s1 (head ++ (numbers ++ foot)) head (numbers ++ foot) (at_start s0 (head ++ (numbers ++ foot)) c.requires.well) first w.1)
-      v.0 v.1));
+          (piece_written s0 s1 s2 (head ++ (numbers ++ foot)) numbers foot
+          (piece_written s0 s0 s1 (head ++ (numbers ++ foot)) head (numbers ++ foot) (at_start s0 (head ++ (numbers ++ foot)) c.requires.well) first w.1)
+          v.0 v.1));
     }
 
 pub returns : goal.returns
@@ -99,7 +99,7 @@ returns g c =
     subst (λ piece. Writes s2 s3 piece c.write_piece-2.result) (c.deref-2.ensures.value ∙ c.in_ok-foot.ensures.piece) c.write_piece-2.ensures.writes in
     record {
       writes = rw there (last_piece s0 s2 s3 (head ++ (numbers ++ foot)) foot c.write_piece-2.result
-      (piece_written s0 s1 s2 (head ++ (numbers ++ foot)) numbers foot
-      (piece_written s0 s0 s1 (head ++ (numbers ++ foot)) head (numbers ++ foot) (at_start s0 (head ++ (numbers ++ foot)) c.requires.well) first w.1)
-      v.0 v.1) last);
+          (piece_written s0 s1 s2 (head ++ (numbers ++ foot)) numbers foot
+          (piece_written s0 s0 s1 (head ++ (numbers ++ foot)) head (numbers ++ foot) (at_start s0 (head ++ (numbers ++ foot)) c.requires.well) first w.1)
+          v.0 v.1) last);
     }

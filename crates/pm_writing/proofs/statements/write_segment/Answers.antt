@@ -17,7 +17,7 @@ returns-in_err-write_numbered g c =
     let p = err_from_is_err_and c.from_residual.result c.from_residual.ensures.1 in
     record {
       writes = rw (p.1, p.2) (cut_piece _ _ _ _ (numbered_text known segment shown (done + 1) (attributes_in segment (done + 1))) _ _
-      (next_table known segment shown done count _ _ _ more c.loop-done.invariant.rest) c.in_err-write_numbered.ensures.writes);
+          (next_table known segment shown done count _ _ _ more c.loop-done.invariant.rest) c.in_err-write_numbered.ensures.writes);
     }
 
 pub loop-done-preserved : goal.loop-done-preserved

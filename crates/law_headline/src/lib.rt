@@ -3,9 +3,9 @@
 #![tactic(auto)]
 
 mod action;
-mod headline;
 mod put;
+mod theorem;
 
 pub use action::{Action, play};
-pub use headline::headline;
 pub use put::put_program_is_booted;
+pub use theorem::headline;

@@ -1,28 +1,38 @@
 -- Actions that are done one after the other.
-use Rattle.std.proofs.Common.{◌≡◌, List, [], ◌∷◌, ◌++◌, refl, sym, ap, ◌∙◌, append_assoc, append-nil}
-use Rattle.pm_machine.specs.Events.{Event, after_all, next}
+use Rattle.std.proofs.Common.{◌≡◌, List, [], ◌∷◌, ◌++◌, map, refl, sym, ap, ◌∙◌, append_assoc}
+use Rattle.law_headline.specs.declared.action.Action.{Action}
+use Rattle.law_headline.specs.Actions.{IsCut, event_of}
+use Rattle.pm_machine.specs.Events.{after_all, next}
 use Rattle.pm_machine.specs.State.{State}
 
-after_more : (s : State) (es : List Event) (e : Event) → after_all s (es ++ e ∷ []) ≡ next (after_all s es) e
-after_more s [] e = refl
-after_more s (x ∷ es) e = after_more (next s x) es e
+-- one action more
+pub after_more : (s : State) (done : List Action) (action : Action)
+    → after_all s (map event_of (done ++ action ∷ [])) ≡ next (after_all s (map event_of done)) (event_of action)
+after_more s [] action = refl
+after_more s (d ∷ done) action = after_more (next s (event_of d)) done action
 
--- these events have led to a state, and these are left
-pub record Left (start : State) (events : List Event) (now : State) (left : List Event) : Type 0 where
-  pub done : List Event
-  pub all : events ≡ done ++ left
-  pub state : now ≡ after_all start done
+map_append : (done left : List Action) → map event_of (done ++ left) ≡ map event_of done ++ map event_of left
+map_append [] left = refl
+map_append (d ∷ done) left = ap (λ es. event_of d ∷ es) (map_append done left)
 
-pub none_done : (start : State) (events : List Event) → Left start events start events
-none_done start events = record { done = []; all = refl; state = refl }
+-- the actions that are done, and those that are left, are all; the state is that after those that are done
+pub record Played (start : State) (actions : List Action) (now : State) (done left : List Action) : Type 0 where
+  pub all : actions ≡ done ++ left
+  pub state : now ≡ after_all start (map event_of done)
 
-pub one_done : (start now new : State) (events : List Event) (event : Event) (left : List Event) → Left start events now (event ∷ left)
-    → new ≡ next now event → Left start events new left
-one_done start now new events event left l e = record {
-  done = l.done ++ event ∷ [];
-  all = l.all ∙ sym (append_assoc l.done (event ∷ []) left);
-  state = e ∙ ap (λ s. next s event) l.state ∙ sym (after_more start l.done event);
+pub one_played : (start now new : State) (actions done left rest : List Action) (action : Action) → Played start actions now done left
+    → left ≡ action ∷ rest → new ≡ next now (event_of action) → Played start actions new (done ++ action ∷ []) rest
+one_played start now new actions done left rest action p more e = record {
+  all = p.all ∙ ap (λ l. done ++ l) more ∙ sym (append_assoc done (action ∷ []) rest);
+  state = e ∙ ap (λ s. next s (event_of action)) p.state ∙ sym (after_more start done action);
 }
 
-pub all_done : (start now : State) (events : List Event) → Left start events now [] → now ≡ after_all start events
-all_done start now events l = l.state ∙ ap (after_all start) (sym (l.all ∙ append-nil l.done))
+pub is_cut : (start now : State) (actions done left rest : List Action) (action : Action) → Played start actions now done left
+    → left ≡ action ∷ rest → IsCut start (map event_of actions) now
+is_cut start now actions done left rest action p more = record {
+  done = map event_of done;
+  event = event_of action;
+  rest = map event_of rest;
+  all = ap (map event_of) (p.all ∙ ap (λ l. done ++ l) more) ∙ map_append done (action ∷ rest);
+  state = p.state;
+}

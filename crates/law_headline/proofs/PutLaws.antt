@@ -1,5 +1,5 @@
 -- An assembled code file that is put on a volume is found and booted.
-use Rattle.std.proofs.Common.{◌≡◌, ℕ, List, Option, Some, Ok, length, true, refl, sym, ap, ◌∙◌, arith, subst}
+use Rattle.std.proofs.Common.{◌≡◌, ℕ, List, Some, Ok, length, true, refl, sym, ap, ◌∙◌, arith, subst}
 use Rattle.pm_filer.specs.Filed.{Filed, Put, bytes_of_file, filed}
 use Rattle.pm_filer.specs.Laws.{IsVolumeOfBytes, file_given}
 use Rattle.pm_machine.specs.Boot.{code_file}

@@ -25,13 +25,17 @@ type Volumes = [Option<Volume>; 6];
 /// Boots a program and does actions on the machine, one after the other. Returns the machine, and whether all actions
 /// were done: without memory the machine is in the state after those before.
 ///
-/// The clauses are the main theorem. The first two are about any volumes and any order of steps, keys and the operator's
-/// actions: the machine starts in the state that the table gives for these volumes (`boots`), and is in the state that
-/// the table gives after the events (`order`). The next ones are about texts: what the assembler accepts is loaded as its
-/// listing states, from this machine on by a call (`loads`) and by standard procedure 21 (`keeps`), at a boot
-/// (`starts`), and from a volume on which it was put (`found`, `put`); the characters of the listing denote these bytes
-/// (`denotes`); and the disassembler's text of it is assembled to the same code file (`back`). The last one is about the
-/// debugger: what a session shows is what the table gives after its steps, keys and pokes (`shows`).
+/// The clauses are the main theorem. `refusal` and `order` are about any volumes and any order of steps, keys and the
+/// operator's actions: the machine starts in the state that the table gives for these volumes, and is in the state that
+/// the table gives after the events of the actions.
+///
+/// The next clauses are about texts. What the assembler accepts is loaded as its listing states: from this machine on
+/// by a call (`loads`) and by standard procedure 21 (`keeps`), at a boot (`starts`), and from a volume on which it was
+/// put (`found`, `put`). The characters of the listing denote these bytes (`denotes`). The disassembler's text of the
+/// code file is assembled to the same code file (`back`).
+///
+/// The last clause is about the debugger: what a session shows is what the table gives after its steps, keys and pokes
+/// (`shows`).
 ///
 /// # Errors
 ///

@@ -459,5 +459,88 @@ chmod 755 stranger/crates/pmach/out/pmach
 said=$(cd stranger && PATH=$(dirname "$(readlink -f "$here/pmach")"):$PATH bash pmach --version 2>&1)
 comes "bash pmach in a stranger's directory" pmach "${said%% *}"
 
+# Control characters of a text do not reach a terminal, and those of a path do not in the question before `new`.
+if has "control characters on a terminal" python3; then
+    rm -f t.img
+    "$pmach" files --image t.img new T 50
+    printf 'A\033]0;EVIL\007B\tC\n\302\233X\n' | "$pmach" files --image t.img puttext T.TEXT
+    said=$(python3 -c 'import pty, sys; pty.spawn(sys.argv[1:])' "$pmach" files --image t.img gettext T.TEXT </dev/null | od -An -c | tr -s ' ' | tr -d '\n')
+    comes "gettext on a terminal" ' A ? ] 0 ; E V I L ? B \t C \r \n 302 ? X \r \n' "$said"
+    said=$("$pmach" files --image t.img gettext T.TEXT | od -An -c | tr -s ' ' | tr -d '\n')
+    comes "gettext in a pipe" ' A 033 ] 0 ; E V I L \a B \t C \n 302 233 X \n' "$said"
+    path=$(printf 'a\302\2330m\033b')
+    cp t.img "$path"
+    said=$(echo n | "$here/script/ask.sh" files --image "$path" new X 50 2>&1 | LC_ALL=C grep -c $'[\233\033]')
+    comes "a path with control characters in the question before new" 0 "$said"
+fi
+
+# Entries that share all blocks of an image: the copies have at most twice its bytes.
+if has "entries that share all blocks" python3; then
+    rm -rf shared.img shared
+    python3 - <<'PY'
+import struct
+image = bytearray(512 * 200)
+entries = struct.pack("<HHHB7sHHHH4x", 0, 6, 0, 1, b"S", 200, 77, 0, 0)
+for n in range(77):
+    name = b"F%d" % n
+    entries += struct.pack("<HHHB15sHH", 6, 200, 3, len(name), name, 512, 0)
+image[1024:1024 + len(entries)] = entries
+open("shared.img", "wb").write(image)
+PY
+    "$here/examples/salvage.sh" shared.img shared >/dev/null 2>&1
+    said=$(cat shared/F* | wc -c)
+    comes "salvage.sh of 77 entries over all blocks: bytes at most twice the image" yes "$([ "$said" -gt 0 ] && [ "$said" -le 204800 ] && echo yes || echo "$said")"
+fi
+
+# A signal leaves no file in the temporary directory.
+for signal in TERM HUP; do
+    rm -rf tmp pipe
+    mkdir tmp
+    mkfifo pipe
+    TMPDIR=$PWD/tmp "$here/examples/dos-order.sh" <pipe >/dev/null 2>&1 &
+    exec 9>pipe
+    sleep 0.3
+    pkill -$signal -P $! 2>/dev/null
+    kill -$signal $!
+    exec 9>&-
+    wait $! 2>/dev/null
+    comes "dos-order.sh ended by $signal: files left" 0 "$(find tmp -type f | wc -l)"
+done
+
+# A small code file does not make `dis` use hundreds of megabytes: 250 procedures that share 60,000 bytes, in 16 slots.
+if has "the memory of dis" python3; then
+    python3 - <<'PY'
+import struct
+size, count = 65530, 250
+code = bytearray([0xD7] * size)
+code[size - 2:] = bytes([1, count])
+places = [size - 14 - 2 * count - 12 * k for k in range(count)]
+for k, place in enumerate(places):
+    code[place:place + 2] = bytes([k % 250 + 1, 0])
+    struct.pack_into("<HHHH", code, place - 8, 0, 0, place - 4 - (places[-1] - 20), place - 2)
+    struct.pack_into("<H", code, size - 4 - 2 * k, size - 4 - 2 * k - place)
+head = bytearray(512)
+for slot in range(16):
+    struct.pack_into("<HH", head, 4 * slot, 1, size)
+    head[64 + 8 * slot:72 + 8 * slot] = b"HOSTILE "
+open("hostile.code", "wb").write(head + code)
+PY
+    for option in '' --names --list --statements --blocks; do
+        # shellcheck disable=SC2086 # an option or none
+        said=$(python3 - "$pmach" $option <<'PY'
+import resource, subprocess, sys
+run = subprocess.Popen(["timeout", "20", sys.argv[1], "dis", *sys.argv[2:], "hostile.code"], stdout=subprocess.PIPE)
+for _ in range(200):
+    if not run.stdout.read(65536):
+        break
+run.kill()
+run.wait()
+print("less" if resource.getrusage(resource.RUSAGE_CHILDREN).ru_maxrss < 65536 else resource.getrusage(resource.RUSAGE_CHILDREN).ru_maxrss)
+PY
+        )
+        comes "dis $option of a hostile code file: less than 64 MB" less "$said"
+    done
+fi
+
 echo "$passed passed, $failed failed, $left left out"
 [ $failed = 0 ]

@@ -344,7 +344,8 @@ def comments(pattern, mark):
                      for found in (re.match(mark, line) for line in lines(path)) if found)
 
 
-GROUPS = {"pages": "\n".join("\n".join(lines(page)) for page in ALL_PAGES),
+# (names in backquotes are those of the source)
+GROUPS = {"pages": re.sub(r"`[^`\n]*`", "", "\n".join("\n".join(lines(page)) for page in ALL_PAGES)),
           "comments": comments("crates/**/*.rt", r" *//[/!]?(.*)") + comments("crates/**/*.antt", r" *--(.*)"),
           "scripts": "\n".join("\n".join(lines(path)) for path in ["pmach", *sorted(glob.glob("script/**/*.sh", recursive=True))])
                      + comments("examples/**/*.sh", r" *#(.*)") + comments("bench/*.*", r" *#(.*)")}

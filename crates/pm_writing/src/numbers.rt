@@ -65,9 +65,9 @@ fn write_table<'a, W: Sink>(
     requires last { IfSome last.old (λ l. l.piece.items
         ≡ table_piece part.form file.now part.slot part.segment.now l.table) }
     ensures writes { Writes (W.seen sink.old) (W.seen sink.new)
-        (table_piece part.form file.now part.slot part.segment.now table) result }
+        (table_piece part.entry.form file.now part.entry.slot part.entry.segment.now table) result }
     ensures last { OnOk result (IfSome last.new (λ l. l.piece.items
-        ≡ table_piece part.form file.now part.slot part.segment.now l.table)) }
+        ≡ table_piece part.entry.form file.now part.entry.slot part.entry.segment.now l.table)) }
 {
     if let Some(piece) = same(last, &table) {
         return write_piece(sink, piece);
@@ -102,10 +102,10 @@ fn write_number<'a, W: Sink>(
     requires decoded { IsDecoded decoded.now part.segment.now }
     requires last { IfSome last.old (λ l. l.piece.items
         ≡ table_piece part.form file.now part.slot part.segment.now l.table) }
-    ensures writes { Writes (W.seen sink.old) (W.seen sink.new) (number_piece part.form file.now part.slot
-        part.segment.now number (attributes_in part.segment.now number)) result }
+    ensures writes { Writes (W.seen sink.old) (W.seen sink.new) (number_piece part.entry.form file.now part.entry.slot
+        part.entry.segment.now number (attributes_in part.entry.segment.now number)) result }
     ensures last { OnOk result (IfSome last.new (λ l. l.piece.items
-        ≡ table_piece part.form file.now part.slot part.segment.now l.table)) }
+        ≡ table_piece part.entry.form file.now part.entry.slot part.entry.segment.now l.table)) }
 {
     match attributes(part.segment, number) {
         Some(table) => write_table(alloc, sink, file, part, decoded, last, table),
@@ -126,8 +126,8 @@ pub(crate) fn write_numbers<W: Sink>(
     requires well { (W.seen sink.old).failed ≡ false }
     requires even { length part.segment.now % 2 ≡ 0 }
     requires short { length part.segment.now ≤ 65534 }
-    ensures writes { Writes (W.seen sink.old) (W.seen sink.new) (pieces part.form file.now part.slot
-        part.segment.now 1 (procedures_in part.segment.now)) result }
+    ensures writes { Writes (W.seen sink.old) (W.seen sink.new) (pieces part.entry.form file.now part.entry.slot
+        part.entry.segment.now 1 (procedures_in part.entry.segment.now)) result }
 {
     let decoded = decode_segment(alloc, part.segment)?;
     let mut last = None;

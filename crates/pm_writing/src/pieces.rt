@@ -3,7 +3,7 @@
 ghost use Rattle.std.specs.Prelude.{◌≡◌, ◌<◌, ◌≤◌, ℕ, Some, length, string_bytes, IfOk};
 ghost use Rattle.pm_codefile.specs.Segments.{attributes_in};
 ghost use Rattle.pm_disasm.specs.Offsets.{IsDecoded};
-ghost use Rattle.pm_writing.specs.Pieces.{foot_piece, head_piece, missing_piece, raw_foot, raw_head, raw_table};
+ghost use Rattle.pm_writing.specs.Pieces.{foot_piece, head_piece, missing_piece, raw_head, raw_table};
 ghost use Rattle.pm_writing.specs.Pieces.{table_piece, told};
 
 use crate::form::Form;

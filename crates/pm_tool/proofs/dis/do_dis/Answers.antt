@@ -16,9 +16,9 @@ returns-in_err-outcome-clause-broken g c =
     let r = c.from_residual-in_err-outcome in
     let p = err_from_is_err_and r.result r.ensures.1 in
     rw (p.1, p.2) (batch_broken true _ _ c.in_ok-input.input.items (dis_product c.args.output) _ c.in_ok-input.ensures.all
-    c.in_err-outcome.ensures.front c.in_ok-input.ensures.well c.in_err-outcome.ensures.cause)
+    (rw c.deref.ensures.value at c.in_err-outcome.ensures.front) c.in_ok-input.ensures.well c.in_err-outcome.ensures.cause)
 
 pub returns-clause-done : goal.returns-clause-done
 returns-clause-done g c =
     batch_done true _ _ c.in_ok-input.input.items (dis_product c.args.output) _ c.in_ok-input.ensures.all
-    c.in_ok-outcome.ensures.written c.in_ok-outcome.ensures.outcome
+    (rw c.deref.ensures.value at c.in_ok-outcome.ensures.written) (rw c.deref.ensures.value at c.in_ok-outcome.ensures.outcome)

@@ -46,7 +46,7 @@ for option in --prove --install --uninstall; do
     [ $? = 70 ] && [ ! -s "$scratch/out" ] && grep -q "delete the directory" "$scratch/err" && [ ! -e "$scratch/prefix" ]
     result "$option of the unpacked program says what removes it" $?
 done
-for option in --test --package --library; do
+for option in --test --package --library --page; do
     env -i PATH=/usr/bin:/bin "$front" $option >"$scratch/out" 2>"$scratch/err"
     [ $? = 70 ] && [ ! -s "$scratch/out" ] && grep -q "only in a clone" "$scratch/err"
     result "$option of the unpacked program says that it needs a clone" $?

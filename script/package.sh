@@ -44,8 +44,7 @@ rm "$usr/lib/pmach/installed" "$usr/lib/pmach/install.sh" || fail "the installat
 [ ! -f "$usr/lib/pmach/not-proved.txt" ] ||
     echo "pmach: this program was built without a proof; a failed run-time check ends it with a signal" >"$usr/lib/pmach/not-proved.txt"
 [ ! -f "$usr/lib/pkgconfig/pmach.pc" ] || sed -i 's|^prefix=.*|prefix=${pcfiledir}/../..|' "$usr/lib/pkgconfig/pmach.pc"
-version=$("$program" --version | sed 's/.* //')+git$(date -d "@$SOURCE_DATE_EPOCH" +%Y%m%d).$(git -C "$here" rev-parse --short=8 HEAD)
-[ -z "$(git -C "$here" status --porcelain -uno)" ] || version=$version+changed
+version=$("$script/version.sh" "$("$program" --version | sed 's/.* //')")
 [ "$state" = proved ] || version=$version+unproved
 
 # archive NAME: writes the directory `usr` as an archive, in which its name is NAME, to standard output.

@@ -1,0 +1,98 @@
+#!/usr/bin/env python3
+"""flow.py PAGE SHOTS: what a person does with the page, in Chromium. Runs looks.js, and what only a browser can show: files
+that are chosen and dropped, keys, downloads, the width, both color schemes, messages and requests of the browser. Run it in an
+empty directory; it puts screenshots into SHOTS. PMACH names the native program."""
+import json
+import os
+import subprocess
+import sys
+import tempfile
+import time
+
+HERE = os.path.dirname(os.path.abspath(__file__))
+sys.dont_write_bytecode = True
+from cdp import Browser
+
+PAGE, SHOTS = sys.argv[1:]
+PMACH = os.environ.get("PMACH", os.path.join(HERE, "..", "..", "pmach"))
+os.makedirs(SHOTS, exist_ok=True)
+passed = failed = 0
+
+
+def check(name, got, wanted):
+    global passed, failed
+    is_right = bool(wanted(got)) if callable(wanted) else got == wanted
+    passed, failed = passed + is_right, failed + (not is_right)
+    if not is_right:
+        print("FAILED: %s: %r" % (name, got))
+
+
+subprocess.run([os.path.join(HERE, "../../examples/disk.sh"), "kept.img"], check=True, env=dict(os.environ, PMACH=PMACH))
+browser = Browser()
+try:
+    browser.open(PAGE)
+    browser.shot(SHOTS + "/empty.png")
+    with open(os.path.join(HERE, "looks.js"), encoding="utf-8") as file:
+        browser.js(file.read() + "; 0")
+    with open("kept.img", "rb") as file:
+        given = {"kept": list(file.read()), "random": 50}
+    for name, is_right, got in browser.js("looks(%s)" % json.dumps(given)):
+        check(name, is_right, lambda right, got=got: right or print(got))
+
+    browser.js("changed = false; 0")
+    browser.open(PAGE)
+    browser.files("#image", "kept.img")
+    browser.wait("document.querySelectorAll('#files button').length === 3")
+    check("a chosen file is opened", browser.text("total"), "files 3 free 24 largest 24")
+    # with keys only: Tab to the first file, Enter, then Debug, a breakpoint, Go
+    browser.js("document.querySelector('#files button').focus(); 0")
+    browser.press("Enter")
+    browser.js("$('debug').focus(); 0")
+    browser.press("Enter")
+    browser.wait("program !== null")
+    browser.js("$('lines').querySelector('.place[tabindex=\"0\"]').focus(); 0")
+    check("a line has the focus", browser.js("document.activeElement.className.includes('place')"), True)
+    browser.press("Enter")
+    check("Enter sets a breakpoint", browser.text("breaks"), lambda text: text != "")
+    browser.press("F8")
+    browser.wait("running === null")
+    browser.shot(SHOTS + "/break.png")
+    check("the focus is visible", browser.js("getComputedStyle(document.activeElement).outlineStyle"), lambda style: style != "none")
+    browser.js("closeProgram(); 0")
+    # typed keys
+    browser.js("makeSample(); 0")
+    browser.wait("document.querySelectorAll('#files button').length === 3")
+    browser.js("[...document.querySelectorAll('#files button')].find(b => b.textContent === 'ECHO').click(); $('run').click(); 0")
+    browser.wait("running === null")
+    check("Keys has the focus", browser.js("document.activeElement.id"), "keys")
+    browser.type("abc\r.")
+    browser.wait("running === null && document.getElementById('state').textContent.startsWith('The program has ended')")
+    check("typed keys", browser.text("console"), "abc\n.")
+    browser.js("closeProgram(); 0")
+    # downloads
+    folder = tempfile.mkdtemp()
+    browser.send("Browser.setDownloadBehavior", behavior="allow", downloadPath=folder)
+    browser.js("$('save').click(); 0")
+    for _ in range(100):
+        if os.listdir(folder) == ["sample.img"]:
+            break
+        time.sleep(0.1)
+    listed = subprocess.run([PMACH, "files", "--image", folder + "/sample.img", "list"], stdout=subprocess.PIPE, check=False)
+    check("the saved image", listed.stdout.decode().split("\n")[0], "SAMPLE:")
+    # a dropped file
+    browser.js("""(() => { const data = new DataTransfer(); data.items.add(new File([new Uint8Array(600)], "dropped.bin"));
+        document.dispatchEvent(new DragEvent("drop", {dataTransfer: data, bubbles: true, cancelable: true})); })()""")
+    browser.wait("$('refusal-title').textContent === 'dropped.bin is not opened'")
+    check("a dropped file that is no volume", browser.text("reason"), lambda text: text.startswith("refused volume 1: "))
+    # widths and color schemes
+    for width in (360, 800, 1500, 2000):
+        browser.do("Emulation.setDeviceMetricsOverride", width=width, height=900, deviceScaleFactor=1, mobile=False)
+        for scheme in ("light", "dark"):
+            browser.do("Emulation.setEmulatedMedia", features=[{"name": "prefers-color-scheme", "value": scheme}])
+            browser.shot("%s/%d-%s.png" % (SHOTS, width, scheme))
+        check("no part is wider than %d pixels" % width, browser.js("document.documentElement.scrollWidth"), lambda wide, width=width: wide <= width)
+    check("no message and no request", browser.messages(), [])
+finally:
+    browser.close()
+print("%d passed, %d failed" % (passed, failed))
+sys.exit(failed > 0)

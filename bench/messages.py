@@ -90,7 +90,7 @@ def page_numbers():
     found = set(re.findall(r"`refused (\w+ \d+)`\s+(?:is|one)\s", whole.split("# What the numbers mean")[0]))
     for line in table.split("\n"):
         cells = line.split(" | ")
-        for said in re.findall(r"`refused ([a-z]+ [0-9A-Z .]*)`", cells[0]):
+        for said in re.findall(r"`refused ([a-z]+ [0-9](?:[0-9A-UW-Z .]*))`", cells[0]):
             words = [word for word in said.split() if word != ".."]
             found.add(" ".join(words[: 3 if words[0] == "filer" and words[1] in "12" else 2]))
     return found

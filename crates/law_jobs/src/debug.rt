@@ -1,41 +1,43 @@
-//! Laws of runs. The functions do nothing.
+//! Laws about runs of the debugger. The functions do nothing.
 
 ghost use Rattle.pm_debug.specs.Runs.{GoIsRun};
 ghost use Rattle.pm_debug.specs.RunLaws.{ChangesAreFirst, FalseConditionsStopNothing, GoStopsAtBreaks};
 ghost use Rattle.pm_debug.specs.RunLaws.{TrueConditionsAreNone};
 ghost use Rattle.law_jobs.specs.Breakpoints.{WorkedWords};
 
-/// Without breakpoints and watched words a run is the machine's own: as many steps, the same state,
-/// and the reason is the last answer; but on a machine that has ended the reason is that.
+/// Without breakpoints and watched words, a run of the debugger is the run of the machine with the same limit. It has
+/// the same number of steps and the same state. If the machine had ended before the run, the reason is `Ended`.
+/// Otherwise the reason is the one that the last answer of the machine gives.
 #[tactic(auto, using(pm_debug::proofs::GoLaws::go_is_run))]
 pub fn go_is_run()
     ensures law { GoIsRun }
 {}
 
-/// Where a run answers that the word at an address has changed, that word is another after its steps
-/// than when it began, each word that was watched before it is not, and after each smaller number of
-/// steps all watched words are as they were.
+/// If a run answers `changed K A`, the word at A differs from its value at the start of the run. Each word that
+/// precedes A in the list of watched words has its value from the start. After every smaller number of steps, all
+/// watched words had their values from the start. The run has at least one step, and all its steps succeeded.
 #[tactic(auto, using(pm_debug::proofs::WatchLaws::changes_are_first))]
 pub fn changes_are_first()
     ensures law { ChangesAreFirst }
 {}
 
-/// Without watched words a run is the one that breakpoints alone may stop.
+/// If the machine has not ended, and no words are watched, `go` is the run of the machine whose test is that of the
+/// breakpoints. This test is not applied before the first step.
 #[tactic(auto, using(pm_debug::proofs::GoLaws::go_stops_at_breaks))]
 pub fn go_stops_at_breaks()
     ensures law { GoStopsAtBreaks }
 {}
 
-/// A breakpoint whose condition does not hold after any step of a run, as it is without that breakpoint, stops nothing:
-/// the run is the same with it. One whose condition holds after each step of the run, as it is with that breakpoint but
-/// without the condition, is as this.
+/// Take a run without a certain breakpoint. If the condition of the breakpoint holds after no step of this run, the run
+/// with the breakpoint is the same. Now take a run with the breakpoint, but without its condition. If the condition
+/// holds after each step of this run, the run with the breakpoint and its condition is the same.
 #[tactic(auto, using(pm_debug::proofs::ConditionLaws::false_conditions_stop_nothing, pm_debug::proofs::ConditionLaws::true_conditions_are_none))]
 pub fn conditions_decide()
     ensures nothing { FalseConditionsStopNothing }
     ensures same { TrueConditionsAreNone }
 {}
 
-/// The bytes of the words of a breakpoint, worked out by hand.
+/// The number of bytes that a breakpoint on words covers, worked out by hand.
 #[tactic(auto, using(crate::proofs::BreakStops::worked_words))]
 pub fn worked_words()
     ensures law { WorkedWords }

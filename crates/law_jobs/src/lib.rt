@@ -1,6 +1,7 @@
-//! Laws of jobs, where no crate below has a part of one whole: from a text to its code file and back, from a text to
-//! the memory of a machine, from the lines of a session to the events of the table, the lines of a trace, and a run
-//! with its streams and images. The functions do nothing.
+//! Laws about whole jobs, which no lower crate can state. `round_trip` is about a text, its code file, and the text of
+//! this file. `loaded` is about a text and the memory of a machine. `sessions` and `debug` are about the lines of a
+//! session and the events of the table. `trace` is about the lines of a trace. `tool` and `streams` are about a run
+//! with its images and its input. The functions do nothing.
 #![tactic(auto)]
 
 pub mod debug;

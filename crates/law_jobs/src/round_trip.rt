@@ -1,12 +1,12 @@
-//! From a program to its text and back; and which fault of a text is told where several hold: the first in its order.
+//! Laws about programs and their texts, and laws that state which fault of a text is the first.
 
 ghost use Rattle.law_jobs.specs.Refusals.{JumpsTellFirst, LinesTellFirst, TextsTellFirst};
 ghost use Rattle.law_jobs.specs.RoundTrip.{AssembledIsShownAgain, NamedIsShownAgain, NamesSayNothing};
 ghost use Rattle.law_jobs.specs.RoundTrip.{ShownFileIsSpelled};
 
-/// The text that the disassembler shows for the code file of a program of which no segment has more than 65,534 bytes
-/// spells a program of the same code file, of the same segments in their bytes: the same program, where no item of it
-/// is a byte that is no instruction.
+/// Take a program whose segments have at most 65,534 bytes each. The text that the disassembler shows for its code file
+/// spells a program with the same code file and the same bytes in each segment. If all items of the first program are
+/// instructions, both programs are the same.
 pub fn shown_file_is_spelled()
     ensures law { ShownFileIsSpelled }
 {}
@@ -16,26 +16,32 @@ pub fn assembled_is_shown_again()
     ensures law { AssembledIsShownAgain }
 {}
 
-/// What is told behind the lines of a text, names and notes, changes nothing of what it is assembled to, whatever file
-/// and text; so the text with names of an assembled code file is assembled to the same code file.
+/// The notes of `dis --names` have no effect on the assembler. For any file and any text, the text with notes is
+/// assembled to the same result as the text without notes. The text with notes of an assembled code file is assembled
+/// to the same code file.
 #[tactic(auto, using(crate::proofs::NamedLines::names_say_nothing, crate::proofs::NamedLines::named_is_shown_again))]
 pub fn names_say_nothing()
     ensures law { NamesSayNothing }
     ensures again { NamedIsShownAgain }
 {}
 
-/// A line is refused where it is out of place or begins a procedure that never ends, then for an unknown type word,
-/// then for a slot, a label or the exit code that is said again, and then for a number.
+/// The faults of a line with a statement begin with the first of these four that holds. The first is `Syntax`: the line
+/// is out of place, or begins a procedure that no later line ends. The second is `Unknown`: its type word is unknown.
+/// The third is `Twice`: it repeats a slot, a label or the exit code. The fourth is `Range`: a number is out of range,
+/// a procedure has another number than the next one, or it ends with an odd length or a wrong count of entries. If none
+/// of the four holds, the line has no fault.
 pub fn lines_tell_first()
     ensures law { LinesTellFirst }
 {}
 
-/// A jump is refused for a label that is none of its procedure's, and then for one that is too far.
+/// The faults of a jump begin with `NoLabel` if its procedure does not have its label. If the procedure has the label,
+/// but the label is too far from the jump, the only fault is `Far`.
 pub fn jumps_tell_first()
     ensures law { JumpsTellFirst }
 {}
 
-/// A text is refused for its lines, and for its labels where no line has a fault.
+/// If a line of a text has a fault, the faults of the text begin with the first fault of its lines. If no line has a
+/// fault, the faults of the text are those of its labels.
 pub fn texts_tell_first()
     ensures law { TextsTellFirst }
 {}

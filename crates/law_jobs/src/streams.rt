@@ -1,9 +1,9 @@
-//! Laws of streams. The functions do nothing.
+//! A law about streams. The function does nothing.
 ghost use Rattle.std.specs.Prelude.{◌≡◌};
 
 use pm_jobs::INPUT_LIMIT;
 
-/// An input has at most 16,777,216 bytes.
+/// The limit of an input, `INPUT_LIMIT`, is 16,777,216 bytes.
 pub fn input_is_bounded()
     ensures bound { INPUT_LIMIT ≡ 16777216 }
 {}

@@ -1,41 +1,45 @@
-//! Laws of runs, of the images that they leave, and of the faults of a text. The functions do nothing.
+//! Laws about runs, about the images that they leave, and about the faults of a text. The functions do nothing.
 ghost use Rattle.law_jobs.specs.ToolLaws.{FaultsEndAsAssembling, ImagesAreOfTheirUnits, RunsAreEvents};
 ghost use Rattle.law_jobs.specs.ToolLaws.{RunsGoByTheMachine, SavingChangesNothing, ShowingChangesNothing};
 
-/// A run leaves the machine as a list of steps and keys leaves it, and the bytes that are keyed are exactly those that
-/// are read.
+/// A run leaves the machine in the state after some list of steps and keys. The bytes of these keys are, in order, the
+/// bytes that the run read from the input.
 #[tactic(auto, using(crate::proofs::ToolRuns::runs_are_events))]
 pub fn runs_are_events()
     ensures law { RunsAreEvents }
 {}
 
-/// What is shown of a run, its trace or its console, changes neither its end, nor the machine, nor what is read.
+/// A run can be shown by its trace or by its console output. This choice changes neither the end of the run, nor the
+/// machine, nor the input that is left unread.
 #[tactic(auto, using(crate::proofs::ToolRuns::showing_changes_nothing))]
 pub fn showing_changes_nothing()
     ensures law { ShowingChangesNothing }
 {}
 
-/// A run is that of the machine without input as far as it goes; where that waits, the next byte is keyed, and what is
-/// left of the limit is run from there.
+/// A run of a job is the machine's own run without input. If the machine waits, the next byte of the input is keyed,
+/// and the rest of the limit is run from that state. If the machine waits and the input has no next byte, the run ends
+/// as waiting. If the machine's run reaches the limit, ends or halts, the run of the job ends for this reason, in the
+/// same state, and leaves the rest of the input unread.
 #[tactic(auto, using(crate::proofs::MachineRuns::runs_go_by_the_machine))]
 pub fn runs_go_by_the_machine()
     ensures law { RunsGoByTheMachine }
 {}
 
-/// A run that has made no step leaves each image as it was given, on its own unit.
+/// Before its first step, a run without `--system` has each image unchanged on its own unit. If it saves all images,
+/// its image is that of unit 4, and its others are those of units 5, 9, 10, 11 and 12, in this order.
 pub fn images_are_of_their_units()
     ensures law { ImagesAreOfTheirUnits }
 {}
 
-/// Which images of a run are kept changes nothing else that is said of it, and that of unit 4 is kept the same alone
-/// and with the others.
+/// The choice of the images that a run saves changes nothing else of the run. The image of unit 4 that is saved is the
+/// same with `--save` and with `--save-all`. The images of the other units are the same if the image of unit 4 is saved
+/// and if it is not. If only the images of the other units are saved, there is no image of unit 4.
 #[tactic(auto, using(crate::proofs::RunImages::saving_changes_nothing))]
 pub fn saving_changes_nothing()
     ensures law { SavingChangesNothing }
 {}
 
-/// The job that tells all faults of a text ends as the one that assembles it, by the same status and message; where
-/// that accepts the text, nothing is written.
+/// `asm --all` ends with the same status and message as `asm`. If this status is 0, `asm --all` writes nothing.
 #[tactic(auto, using(crate::proofs::FaultLaws::faults_end_as_assembling))]
 pub fn faults_end_as_assembling()
     ensures law { FaultsEndAsAssembling }

@@ -1,29 +1,32 @@
-//! Laws of the lines of a trace that are selected. The functions do nothing.
+//! Laws about the selected lines of a trace. The functions do nothing.
 ghost use Rattle.law_jobs.specs.Selections.{AskedLinesAreShown, CallsByNumber, OtherLinesAreNot};
 ghost use Rattle.law_jobs.specs.TraceLaws.{AllIsTheTrace, LinesStay};
 
-/// Where every line is selected, and nothing is put in front of it, each is shown as it is.
+/// If all lines are selected, and `--calls` and `--places` are not given, a trace shows for each step exactly its line
+/// and a line feed.
 #[tactic(auto, using(crate::proofs::LineLaws::all_is_the_trace))]
 pub fn all_is_the_trace()
     ensures law { AllIsTheTrace }
 {}
 
-/// Whatever is selected, what is shown of a step is nothing, or ends with its whole line and a line feed.
+/// For any selection, a trace shows for a step either nothing, or its line and a line feed, possibly after a prefix.
 #[tactic(auto, using(crate::proofs::LineLaws::lines_stay))]
 pub fn lines_stay()
     ensures law { LinesStay }
 {}
 
-/// The line of a step is shown whole, behind what stands in front of it, where as many steps were made as `--from` says
-/// or more, the low bytes of the words at SEG and JTAB are the numbers of the segment and the procedure that are asked
-/// for, and, with `--calls`, the step is a call or a return; of every other step nothing is shown.
+/// The line of a step is shown after its prefix, with a line feed, if it is selected. Otherwise nothing is shown for
+/// the step. A line is selected if and only if all of the following hold. At least as many steps were executed before
+/// it as `--from` states. If a segment is requested, SEG and JTAB are even, and the low byte of the word at SEG is the
+/// number of the segment. If a procedure is requested, the low byte of the word at JTAB is also its number. With
+/// `--calls`, the step is a call or a return.
 #[tactic(auto, using(crate::proofs::SelectedLines::asked_lines_are_shown, crate::proofs::SelectedLines::other_lines_are_not))]
 pub fn asked_lines_are_shown()
     ensures shown { AskedLinesAreShown }
     ensures others { OtherLinesAreNot }
 {}
 
-/// Of the 256 opcodes 173, 174, 193, 194, 205, 206 and 207 alone are calls and returns.
+/// Of the 256 opcodes, exactly 173, 174, 193, 194, 205, 206 and 207 are calls or returns.
 #[tactic(auto, using(crate::proofs::SelectedLines::calls_by_number))]
 pub fn calls_are_seven_opcodes()
     ensures law { CallsByNumber }

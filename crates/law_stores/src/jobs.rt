@@ -1,4 +1,4 @@
-//! Jobs of the program over stores in memory that tell what they hold: which bytes the files have afterwards.
+//! Jobs of the program on stores in memory. The contracts state which bytes the files have after the job.
 
 ghost use Rattle.std.specs.Prelude.{◌≡◌, IfOk, OnErr};
 ghost use Rattle.pm_tool.specs.Said.{IsSoundExit};
@@ -12,22 +12,24 @@ use pm_program::{Printing, SavedOfRun, do_files, do_run};
 use pm_tool::Outcome;
 use std::alloc::Global;
 
-/// What came of a command on a file.
+/// The result of a command on a file.
 #[derive(Drop)]
 pub struct OnFile {
-    /// Its outcome, or why the file could not be read or written.
+    /// The outcome of the job, or the reason why the file could not be read or written.
     pub done: Result<Outcome, DiskFault>,
-    /// The bytes that the file has afterwards.
+    /// The bytes that the file has after the job.
     pub file: Vec<u8>,
 }
 
-/// The path of the one file.
+/// The path of the only file.
 const FILE: &str = "file";
 
-/// Does a verb of `files` on a file that has these bytes, with this input. Afterwards the file has the image that the
-/// verb says to its bytes and to the input, where the verb is done; where it is refused, or changes nothing, where a
-/// stream fails, or the file cannot be read or written, it has the bytes that it had. An error is want of memory before
-/// or behind the job.
+/// Executes a verb of `files` on a file with these bytes, with this input. If the job has an outcome with an image, the
+/// file has this image afterwards. If the outcome has no image, the file has its old bytes. If the outcome is neither a
+/// stream failure nor out of memory, the file has the image that the definition of the verb gives for the old bytes and
+/// the input. If the definition gives no image, the file has its old bytes. After a stream failure or out of memory, or
+/// if the file cannot be read or written, the file has its old bytes. The clauses state nothing about the file if the
+/// call itself returns an error.
 pub fn on_file(alloc: Global, image: Vec<u8>, typed: &[u8], verb: Verb) -> Result<OnFile, DiskFault>
     ensures unchanged { IfOk result (λ came. OnErr came.done (came.file.items ≡ image.items)) }
     ensures cut { IfOk result (λ came. IfOk came.done (StaysWhereCut image.items came.file.items)) }
@@ -48,9 +50,12 @@ pub fn on_file(alloc: Global, image: Vec<u8>, typed: &[u8], verb: Verb) -> Resul
     Ok(OnFile { done, file })
 }
 
-/// Runs the program of a name on a disk whose file has these bytes, with this input, at most so many steps. Afterwards
-/// the file has the image that the run leaves of its bytes and of the input, where it is to be saved and the program
-/// has run; else it has the bytes that it had. Where the job cannot be done the file may have an image or its bytes.
+/// Runs the program with this name on a disk with these bytes, with this input, for at most `limit` steps. If the job
+/// has an outcome with an image, and the image of unit 4 is to be saved, the file has this image afterwards. In all
+/// other outcomes the file has its old bytes. If the outcome is neither a stream failure nor out of memory, the file
+/// has the image that the definition of the run gives for the input and only this disk, on unit 4. If the definition
+/// gives no image, the file has its old bytes. After a stream failure or out of memory, the file has its old bytes. The
+/// clauses state nothing about the file if the file cannot be read or written, or if the call itself returns an error.
 pub fn on_disk(
     alloc: Global,
     image: Vec<u8>,

@@ -1,5 +1,5 @@
-//! Stores in memory of which a contract knows what they hold, and jobs of the program over them: which bytes the files
-//! have afterwards.
+//! Stores in memory whose contents the contracts can state, and jobs of the program on these stores. The contracts of
+//! the jobs state which bytes the files have after the job.
 #![tactic(auto)]
 
 mod jobs;

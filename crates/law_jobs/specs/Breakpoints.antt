@@ -1,5 +1,4 @@
--- What the breakpoints and the watched words of a session are after its lines, as sets: which are in them, and which
--- are not.
+-- The breakpoints and the watched words of a session after its lines, as sets.
 use Rattle.std.specs.Prelude.{◌≡◌, ◌<◌, ◌==◌, ◌||◌, ◌&&◌, not, ℕ, Bool, true, false, List, [], ◌∷◌, length}
 use Rattle.std.specs.Prelude.{Option, Some, None, ⊤, filter, if◌then◌else◌, codes}
 use Rattle.pm_words.specs.Words.{word_at}
@@ -39,55 +38,54 @@ abbrev pub NoneIs : (Option Order → Bool) → List (List ℕ) → Type 0
 NoneIs test [] = ⊤
 NoneIs test (line ∷ lines) = (test (order_of line) ≡ false) × NoneIs test lines
 
--- lines among which there is no `break`, `reads`, `writes` and `clear` leave the breakpoints, whatever steps they make
+-- lines without `break`, `reads`, `writes` and `clear` leave all breakpoints unchanged
 abbrev pub BreaksStay : Type 0
 BreaksStay = (lines : List (List ℕ)) (d : Session) → NoneIs is_of_breaks lines → (after_lines lines d).breaks ≡ d.breaks
 
--- lines among which there is no `watch` and no `unwatch` leave the watched words
+-- lines without `watch` and `unwatch` leave the watched words unchanged
 abbrev pub WatchesStay : Type 0
 WatchesStay =
     (lines : List (List ℕ)) (d : Session) → NoneIs is_of_watches lines → (after_lines lines d).watches ≡ d.watches
 
--- After `break`, where fewer than 64 are set, a breakpoint stands at its place, and at each other place and on words as
--- before.
+-- After `break`, if fewer than 64 are set, a breakpoint is set at its position. All others are set as before.
 abbrev pub BreakSetsOne : Type 0
 BreakSetsOne = (s p o : ℕ) (d : Session) (spot : Spot) → length d.breaks < 64
     → is_set spot (session_after (Some (Does (commands.Break s p o None))) d).breaks
     ≡ (is_same spot (Code (code_place s p o)) || is_set spot d.breaks)
 
--- and so after `break` with a condition, where the address of its word is even
+-- the same after `break` with a condition, if the address of its word is even
 abbrev pub BreakIfSetsOne : Type 0
 BreakIfSetsOne = (s p o a w : ℕ) (d : Session) (spot : Spot) → is_even a ≡ true → length d.breaks < 64
     → is_set spot (session_after (Some (Does (commands.Break s p o (Some (word_is a w))))) d).breaks
     ≡ (is_same spot (Code (code_place s p o)) || is_set spot d.breaks)
 
--- and so after `reads` and `writes`, where the address of the first word is even: one stands on these words
+-- the same after `reads` and `writes`, for a breakpoint on these words, if all addresses are even
 abbrev pub WordsSetOne : Type 0
 WordsSetOne = (on : Spot) (condition : Option Condition) (d : Session) (spot : Spot) → can_stand on ≡ true
     → can_be_asked condition ≡ true → length d.breaks < 64
     → is_set spot (session_after (Some (Does (commands.BreakOn on condition))) d).breaks
     ≡ (is_same spot on || is_set spot d.breaks)
 
--- After `clear` none stands at its place, and at each other place and on words as before.
+-- After `clear` no breakpoint is set at its position. All others are set as before.
 abbrev pub ClearTakesOne : Type 0
 ClearTakesOne = (s p o : ℕ) (d : Session) (spot : Spot)
     → is_set spot (session_after (Some (Does (commands.Clear s p o))) d).breaks
     ≡ (not (is_same spot (Code (code_place s p o))) && is_set spot d.breaks)
 
--- and so after `clear reads` and `clear writes`, on these words
+-- the same after `clear reads` and `clear writes`, for the breakpoint on these words
 abbrev pub ClearWordsTakesOne : Type 0
 ClearWordsTakesOne = (on : Spot) (d : Session) (spot : Spot)
     → is_set spot (session_after (Some (Does (commands.ClearOn on))) d).breaks
     ≡ (not (is_same spot on) && is_set spot d.breaks)
 
--- After `watch` with an even address, where fewer than 64 are watched, the word there is watched, and each other as
--- before.
+-- After `watch` with an even address, if fewer than 64 are watched, the word at this address is watched. All others are
+-- watched as before.
 abbrev pub WatchAddsOne : Type 0
 WatchAddsOne = (a : ℕ) (d : Session) (address : ℕ) → is_even a ≡ true → length d.watches < 64
     → is_watched address (session_after (Some (Does (commands.Watch a))) d).watches
     ≡ (a == address || is_watched address d.watches)
 
--- After `unwatch` the word at its address is not watched, and each other is as before.
+-- After `unwatch` the word at its address is not watched. All others are watched as before.
 abbrev pub UnwatchTakesOne : Type 0
 UnwatchTakesOne = (a : ℕ) (d : Session) (address : ℕ)
     → is_watched address (session_after (Some (Does (commands.Unwatch a))) d).watches
@@ -100,46 +98,44 @@ is_on_words (Code place) = false
 is_on_words (Reads a n) = true
 is_on_words (Writes a n) = true
 
--- the breakpoints that stand on words
+-- the breakpoints on words
 abbrev pub on_words : List Breakpoint → List Breakpoint
 on_words breaks = filter (λ b. is_on_words b.spot) breaks
 
--- the breakpoints that stand at other places and on other words
+-- the breakpoints at other positions and on other words
 abbrev pub elsewhere : Spot → List Breakpoint → List Breakpoint
 elsewhere spot breaks = filter (λ b. not (is_same spot b.spot)) breaks
 
--- After `break` a breakpoint stops a run wherever the machine stands at its place, whatever was set there before, and
--- at each other place as before.
+-- After `break` a breakpoint stops a run in every state at its position, even if another was set there before. At every
+-- other position runs stop as before.
 abbrev pub BreakStopsThere : Type 0
 BreakStopsThere = (s p o : ℕ) (d : Session) (t : State) → length d.breaks < 64
     → is_at_break (session_after (Some (Does (commands.Break s p o None))) d).breaks t
     ≡ (if stands_at (code_place s p o) t then true else is_at_break d.breaks t)
 
--- After `break` on the condition that the word at a is w, a breakpoint stops a run at its place exactly where that word
--- is w or the next step reads or writes words on which one stands, whatever was set there before, and at each other
--- place as before.
+-- After `break` with the condition that the word at a is w, a run stops at its position if and only if this word is w
+-- or a breakpoint on words stops it, even if another was set there before. At every other position runs stop as before.
 abbrev pub BreakIfStopsSo : Type 0
 BreakIfStopsSo = (s p o a w : ℕ) (d : Session) (t : State) → is_even a ≡ true → length d.breaks < 64
     → is_at_break (session_after (Some (Does (commands.Break s p o (Some (word_is a w))))) d).breaks t
     ≡ (if stands_at (code_place s p o) t then word_at t.memory a == w || is_at_break (on_words d.breaks) t
     else is_at_break d.breaks t)
 
--- After `clear` only a breakpoint on words stops a run at its place, whatever its condition was, and at each other
--- place one stops it as before.
+-- After `clear` only a breakpoint on words stops a run at its position. At every other position runs stop as before.
 abbrev pub ClearStopsNoMore : Type 0
 ClearStopsNoMore = (s p o : ℕ) (d : Session) (t : State)
     → is_at_break (session_after (Some (Does (commands.Clear s p o))) d).breaks t
     ≡ (if stands_at (code_place s p o) t then is_at_break (on_words d.breaks) t else is_at_break d.breaks t)
 
--- After `reads` or `writes` a breakpoint stops a run before a step that reads, or writes, one of these words, where its
--- condition holds, whatever was set on these words before; and those that stand elsewhere as before.
+-- After `reads` or `writes` a breakpoint stops a run before a step that reads, or writes, one of these words, if its
+-- condition holds, even if another was set on these words before. All other breakpoints stop runs as before.
 abbrev pub WordsStopSo : Type 0
 WordsStopSo = (on : Spot) (condition : Option Condition) (d : Session) (t : State) → can_stand on ≡ true
     → can_be_asked condition ≡ true → length d.breaks < 64
     → is_at_break (session_after (Some (Does (commands.BreakOn on condition))) d).breaks t
     ≡ ((is_met on t && holds condition t.memory) || is_at_break (elsewhere on d.breaks) t)
 
--- After `clear reads` or `clear writes` those that stand elsewhere stop a run as before, and no others.
+-- After `clear reads` or `clear writes` only the other breakpoints stop a run, as before.
 abbrev pub ClearWordsStopsNoMore : Type 0
 ClearWordsStopsNoMore = (on : Spot) (d : Session) (t : State)
     → is_at_break (session_after (Some (Does (commands.ClearOn on))) d).breaks t
@@ -147,18 +143,19 @@ ClearWordsStopsNoMore = (on : Spot) (d : Session) (t : State)
 
 -- ---- how a condition is read
 
--- a line with the numbers 1 to 5, each at its place
+-- the numbers 1 to 5 of a line, in their order
 abbrev pub ConditionIsRead : Type 0
 ConditionIsRead =
     order_of (codes "break 1 2 3 if 4 = 5") ≡ Some (Does (commands.Break 1 2 3 (Some (word_is 4 5))))
 
--- the words of each, with the address first
+-- the words of each breakpoint, by address and number
 pub record WordsAreRead : Type 0 where
   pub reads : order_of (codes "reads 8 2 if 6 = 7") ≡ Some (Does (commands.BreakOn (Reads 8 2) (Some (word_is 6 7))))
   pub writes : order_of (codes "writes 8 2") ≡ Some (Does (commands.BreakOn (Writes 8 2) None))
   pub clears : order_of (codes "clear reads 8 2") ≡ Some (Does (commands.ClearOn (Reads 8 2)))
 
--- The bytes of the words of a breakpoint, worked out by hand: words in memory, none, and words behind its last byte.
+-- The number of bytes of the words of a breakpoint, worked out by hand: words in memory, none, and words after the last
+-- byte of memory.
 pub record WorkedWords : Type 0 where
   pub few : bytes_from 1000 3 ≡ 6
   pub none : bytes_from 1000 0 ≡ 0

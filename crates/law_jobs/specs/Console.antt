@@ -8,7 +8,7 @@ use Rattle.pm_session.specs.Orders.{Order, order_of}
 use Rattle.pm_session.specs.Orders.Order.{Does}
 use Rattle.pm_session.specs.Sessions.{answers, console_added, console_line, with_feed}
 
--- a line that is not `quit` and not `console off`
+-- a line that is neither `quit` nor `console off`
 abbrev pub stays_on : Option Order → Bool
 stays_on (Some (Does commands.Quit)) = false
 stays_on (Some (Does (commands.ShowConsole shows))) = shows
@@ -23,26 +23,26 @@ abbrev pub after_lines : List (List ℕ) → Session → Session
 after_lines [] d = d
 after_lines (line ∷ lines) d = after_lines lines (session_after (order_of line) d)
 
--- what the commands of lines write to the console, each by itself
+-- the bytes that each of these lines writes to the console
 abbrev pub written_by : List (List ℕ) → Session → List (List ℕ)
 written_by [] d = []
 written_by (line ∷ lines) d =
     console_added (order_of line) d ∷ written_by lines (session_after (order_of line) d)
 
--- what they are answered, each with its line feed, without the console
+-- the answer to each of these lines with its line feed, without the console
 abbrev pub answers_alone : List (List ℕ) → Session → List (List ℕ)
 answers_alone [] d = []
 answers_alone (line ∷ lines) d =
     with_feed (answer_text (order_of line) d) ∷ answers_alone lines (session_after (order_of line) d)
 
--- texts, each behind the line of the bytes of the console at its place
+-- texts, each after a line with the bytes of the console that belong to it
 abbrev pub behind_console : List (List ℕ) → List (List ℕ) → List ℕ
 behind_console [] texts = []
 behind_console (part ∷ parts) [] = []
 behind_console (part ∷ parts) (text ∷ texts) = (console_line part ++ text) ++ behind_console parts texts
 
--- The answers to lines are those of their commands, each behind what its command wrote to the console; and all that is
--- shown so, one part behind the other, is what the console has more afterwards.
+-- The answer to each line is that of its command, after a line with the bytes that the command wrote to the console.
+-- All these bytes, in order, are the bytes that the lines append to the console output.
 pub record ShowsTheConsole (lines : List (List ℕ)) (d : Session) : Type 0 where
   pub answered : answers lines d ≡ behind_console (written_by lines d) (answers_alone lines d)
   pub whole : (after_lines lines d).machine.devices.console

@@ -17,12 +17,12 @@ use Rattle.pm_machine.specs.Steps.{stepped}
 use Rattle.law_engine.specs.Loads.{IsAtCall, IsAtKeep, IsBootedFrom, IsImage}
 use Rattle.pm_words.specs.declared.layout.TheConstants.{SYSTEM_FRAME}
 
--- the bytes that the listing's lines of a segment give, joined
+-- the joined bytes of the lines of a segment in the listing
 abbrev pub listed : Segment → List ℕ
 listed s = listed_bytes (listed_segment s)
 
--- The text spells a program, the listing is that program's, and its segment n stands in a memory, below an address, by
--- the joined bytes of its lines.
+-- The text spells a program with this listing. Memory has the joined bytes of the lines of segment n in the listing,
+-- directly below the address `below`.
 pub record StandsAsListed (text shown : List ℕ) (n below : ℕ) (memory : List ℕ) : Type 0 where
   pub program : List Segment
   pub spelled : Spells text program
@@ -31,9 +31,9 @@ pub record StandsAsListed (text shown : List ℕ) (n below : ℕ) (memory : List
   pub numbered : segment_numbered n program ≡ Some segment
   pub stands : bytes_at memory (below - length (listed segment)) (length (listed segment)) ≡ listed segment
 
--- A text is assembled to a file and a listing; a machine was booted from the file on a volume, and whatever happened
--- since, its unit has that disk. Then a step that goes and calls a procedure of slot n, which has no place, leaves the
--- segment as it is listed in memory, below the SP before it.
+-- A text is assembled to a file and a listing, a machine was booted from the file on a volume, and the unit still has
+-- this volume after any events. If a step calls a procedure of slot n, which has no address, and succeeds, memory has
+-- the segment as it is listed, directly below the SP before the step.
 abbrev pub AssembledLoadsListed : State → Type 0
 AssembledLoadsListed s =
     (text shown file image : List ℕ) (unit n p : ℕ) →
@@ -42,8 +42,8 @@ AssembledLoadsListed s =
     placed s.places n ≡ None → IsAtCall n p s → (stepped s).1 ≡ Went →
     StandsAsListed text shown n s.registers.sp (stepped s).0.memory
 
--- And a step that goes and keeps the segment of slot n, which has no place, by standard procedure 21, leaves it as it
--- is listed, below the SP behind the slot's number.
+-- If a step keeps the segment of slot n, which has no address, by standard procedure 21 and succeeds, memory has the
+-- segment as it is listed, directly below the SP after the operand is popped.
 abbrev pub AssembledKeepsListed : State → Type 0
 AssembledKeepsListed s =
     (text shown file image : List ℕ) (unit n : ℕ) →
@@ -52,7 +52,7 @@ AssembledKeepsListed s =
     placed s.places n ≡ None → IsAtKeep n s → (stepped s).1 ≡ Went →
     StandsAsListed text shown n (s.registers.sp + 2) (stepped s).0.memory
 
--- A machine that is booted from the file of a text begins with segment 1 as it is listed, below 65,492.
+-- A machine that is booted from the file of a text starts with segment 1 as it is listed, directly below 65,492.
 abbrev pub AssembledBootsListed : Type 0
 AssembledBootsListed =
     (text shown file : List ℕ) (images : List (Option (List ℕ))) (image name : List ℕ) (entry : Entry)
@@ -61,11 +61,12 @@ AssembledBootsListed =
     IsImage image → image_of images unit ≡ Some image → code_file images unit name ≡ Ok (entry, file) →
     boot_start images unit name clock ≡ Ok s → StandsAsListed text shown 1 SYSTEM_FRAME s.memory
 
--- What a text is assembled to is a code file.
+-- An assembled file is a code file.
 abbrev pub AssembledIsAccepted : Type 0
 AssembledIsAccepted = (text shown file : List ℕ) → assembled text ≡ Ok (file, shown) → file_fault file ≡ None
 
--- Where the text has a segment 1, a boot finds its file, under any name, on any volume that has it as a file of kind 2.
+-- If the text has a segment 1, a boot finds its file under any name on any volume that has it as a file of kind 2 under
+-- this name.
 abbrev pub AssembledIsFound : Type 0
 AssembledIsFound =
     (text shown file : List ℕ) (program : List Segment) (segment : Segment) (images : List (Option (List ℕ)))

@@ -1,4 +1,4 @@
--- Which fault of a text is told where several hold: the first in its order.
+-- Which fault is the first if a line, a jump or a text has several.
 use Rattle.std.specs.Prelude.{◌≡◌, ◌⊎◌, ◌+◌, ℕ, true, false, List, [], ◌∷◌}
 use Rattle.std.specs.List.{list_any}
 use Rattle.pm_source.specs.Faults.{Reading, all_label_faults, ends, faults, faults_of_lines, is_again, is_begin, is_far}
@@ -12,17 +12,17 @@ use Rattle.pm_code.specs.Item.Item.{Jump}
 use Rattle.pm_source.specs.declared.fault.AsmFault.{AsmFault}
 use Rattle.pm_source.specs.declared.fault.AsmFault.TheVariants.{Syntax, Unknown, Range, NoLabel, Twice, Far}
 
--- a list of faults begins with this one
+-- a list of faults begins with this fault
 abbrev pub BeginsWith : AsmFault → List AsmFault → Type 0
 BeginsWith fault faults = (rest : List AsmFault) × (faults ≡ fault ∷ rest)
 
--- a statement stands where it may, and where it begins a procedure a later line ends one
+-- a statement is in place, and if it begins a procedure, a later line ends one
 pub record IsPlaced (r : Reading) (said : Statement) (rest : List Line) : Type 0 where
   pub placed : is_in_place r said ≡ true
   pub ended : is_begin said ≡ true → list_any ends rest ≡ true
 
--- a line that says something: it is out of place or begins a procedure that never ends; its type word is unknown; it
--- says a slot, a label or the exit code again; a number is wrong
+-- The faults of a line with a statement begin with the first of these: the line is out of place or begins a procedure
+-- that never ends; its type word is unknown; it repeats a slot, a label or the exit code; a number is wrong.
 pub record LineTellsFirst (n : ℕ) (r : Reading) (said : Statement) (flaw : Flaw) (rest : List Line)
     (told : List AsmFault) : Type 0 where
   pub out_of_place : is_in_place r said ≡ false → BeginsWith (Syntax n) told
@@ -40,7 +40,7 @@ LinesTellFirst =
     (n : ℕ) (r : Reading) (said : Statement) (flaw : Flaw) (rest : List Line)
     → LineTellsFirst n r said flaw rest (line_faults n r (Says said flaw) rest)
 
--- a jump: its label is none of the procedure's; it leads too far
+-- the faults of a jump begin with the first of these: its procedure does not have its label; the label is too far
 pub record JumpTellsFirst (places : Places) (line at op : ℕ) (target : Target Name) (told : List AsmFault)
     : Type 0 where
   pub no_label : is_unknown_target places target ≡ true → BeginsWith (NoLabel line) told
@@ -51,7 +51,7 @@ JumpsTellFirst =
     (places : Places) (line at op : ℕ) (target : Target Name)
     → JumpTellsFirst places line at op target (item_faults places line at (Jump op target))
 
--- the labels of a text are looked at where none of its lines has a fault
+-- the faults of a text are those of its labels if none of its lines has a fault
 pub record TextTellsFirst (text : List ℕ) : Type 0 where
   pub lines : (fault : AsmFault) → BeginsWith fault (faults_of_lines text) → BeginsWith fault (faults text)
   pub labels : faults_of_lines text ≡ [] → faults text ≡ all_label_faults (source_of text)

@@ -1,4 +1,4 @@
--- Programs that become text, and texts that become programs, one after the other.
+-- Programs that are shown as text, and texts that are assembled to programs.
 use Rattle.std.specs.Prelude.{◌≡◌, ℕ, List, Ok}
 use Rattle.std.specs.List.{AllByRecursion, AllZip}
 use Rattle.pm_code.specs.Image.{file_of}
@@ -9,8 +9,8 @@ use Rattle.pm_notes.specs.Lines.{with_names}
 use Rattle.pm_source.specs.Meaning.{Spells}
 use Rattle.pm_asm.specs.Assembled.{assembled}
 
--- The text of a program's code file spells a program of the same code file: of the same segments in their bytes, and
--- the same program where no item is a byte that is no instruction.
+-- The text of the code file of a program spells a program with the same code file and the same bytes in each segment.
+-- If all items of the first program are instructions, both programs are the same.
 pub record IsShownAgain (ss ts : List Segment) : Type 0 where
   pub spelled : Spells (file_text (file_of ss)) ts
   pub segments : AllZip IsSameSegment ss ts
@@ -25,11 +25,11 @@ abbrev pub AssembledIsShownAgain : Type 0
 AssembledIsShownAgain = (text file shown : List ℕ) → assembled text ≡ Ok (file, shown)
     → (again : List ℕ) × (assembled (file_text file) ≡ Ok (file, again))
 
--- What is told behind the lines of a text says nothing, whatever the file: it is assembled as the text without it is.
+-- For any file, a text with notes is assembled to the same result as the text without notes.
 abbrev pub NamesSayNothing : Type 0
 NamesSayNothing = (file text : List ℕ) → assembled (with_names file text) ≡ assembled text
 
--- The text with names that is shown for an assembled code file is assembled to the same code file.
+-- The text with notes that is shown for an assembled code file is assembled to the same code file.
 abbrev pub NamedIsShownAgain : Type 0
 NamedIsShownAgain = (text file shown : List ℕ) → assembled text ≡ Ok (file, shown)
     → (again : List ℕ) × (assembled (with_names file (file_text file)) ≡ Ok (file, again))

@@ -26,14 +26,15 @@ use Rattle.pm_session.specs.Sessions.{answers, is_quit, opened}
 
 -- ---- the steps of `go`, `step`, `finish` and `until`
 
--- The machine goes on after each of so many steps, and the test, as of a breakpoint or of a changed word, holds before
--- none of them from this one on: a run looks before each step but its first.
+-- Each of the n steps from s succeeds, and the test holds before none of them from step number `first` on
+-- (counted from 0).
 pub record GoesOn (test : State → Bool) (first n : ℕ) (s : State) : Type 0 where
   pub went : AllWent n s
   pub free : (k : ℕ) → first ≤ k → k < n → test (after_steps k s) ≡ false
 
--- why a command makes no more steps than these: the machine has ended before; they are as many as it may make; the test
--- holds behind the last of them; or the machine does not go on after the last of them, which ends it, halts it or waits
+-- Why a command executes no more steps than these: the machine had ended before; they are as many as the limit allows;
+-- the test holds after the last of them; or the last of them did not succeed, because the machine ended, halted or
+-- waits.
 pub data StopsAfter (test : State → Bool) (first limit : ℕ) (s : State) : ℕ → Type 0 where
   rests : has_ended s.status ≡ true → StopsAfter test first limit s 0
   all : GoesOn test first limit s → StopsAfter test first limit s limit
@@ -42,29 +43,32 @@ pub data StopsAfter (test : State → Bool) (first limit : ℕ) (s : State) : �
   stops : (n : ℕ) → n < limit → GoesOn test first n s → (first ≤ n → test (after_steps n s) ≡ false)
       → (stepped (after_steps n s)).1 ≢ stop.Went → StopsAfter test first limit s (n + 1)
 
--- so many steps, up to where a test holds, which is looked at from this one on
+-- these events are the steps of a run of at most `limit` steps to a state at which the test holds, tested from step
+-- number `first` on
 abbrev pub AreStepsFrom : ℕ → (State → Bool) → ℕ → State → List Event → Type 0
 AreStepsFrom first test limit s events =
     (steps : ℕ) × StopsAfter test first limit s steps × (events ≡ replicate steps Step)
 
--- so many steps of a run that begins
+-- these events are the steps of such a run that begins at s, and tests from its second step on
 abbrev pub AreStepsTo : (State → Bool) → ℕ → State → List Event → Type 0
 AreStepsTo test limit s events = AreStepsFrom 1 test limit s events
 
--- a run that has made a step looks before the next one at once
+-- the number of the first step, counted from 0, before which a run tests that has executed `made` steps: every step
+-- except the first of the whole run
 abbrev pub first_look : ℕ → ℕ
 first_look zero = 1
 first_look (suc made) = 0
 
--- ---- breakpoints that are passed over
+-- ---- breakpoints that are ignored
 
--- the steps of a run that passes over the breakpoint at s: none, where it is to go no further; else as many as a run
--- that begins there makes
+-- these events are the steps of a run after the ignored breakpoint at s: none if the run is at its end, else those of a
+-- run that begins there
 abbrev pub AreStepsPast : Bool → (State → Bool) → ℕ → State → List Event → Type 0
 AreStepsPast true test limit s events = events ≡ []
 AreStepsPast false test limit s events = AreStepsTo test limit s events
 
--- the steps of a run of at most so many, which ended at s, behind each of the breakpoints that it passes over
+-- these events are the steps of a run of at most `most` steps, which ended at s, after each of the breakpoints that it
+-- ignores
 abbrev pub AreStepsBehind : List Breakpoint → ℕ → ℕ → Left → State → List Event → Type 0
 AreStepsBehind breaks most zero left s events = events ≡ []
 AreStepsBehind breaks most (suc passes) Nothing s events = events ≡ []
@@ -75,22 +79,22 @@ AreStepsBehind breaks most (suc passes) (AtBreak depth made watched) s events =
     × AreStepsBehind breaks most passes (left_past breaks (AtBreak depth made watched) most s)
     (gone_past breaks watched depth made most s).machine more × (events ≡ first ++ more)
 
--- the steps of a run up to where it ended so, and those behind the breakpoints that it passes over
+-- these events are the steps of a run up to its end `run`, and those after the breakpoints that it ignores
 abbrev pub AreStepsOfRun : Session → ℕ → Left → Gone → (List Event → Type 0) → List Event → Type 0
 AreStepsOfRun d most left run Up events =
     (first more : List Event) × Up first × AreStepsBehind d.breaks most d.passes left run.machine more
     × (events ≡ first ++ more)
 
--- the steps of a run that begins, and is to go so far
+-- these events are the steps of a run that begins in a session, to this depth
 abbrev pub AreStepsOfBegun : Session → Depth → ℕ → Gone → (State → Bool) → List Event → Type 0
 AreStepsOfBegun d depth limit run test events =
     AreStepsOfRun d limit (left_of depth d.watches d.machine run) run (AreStepsTo test limit d.machine) events
 
--- the run that is left
+-- the rest of a run
 abbrev pub rest_of : Session → Depth → ℕ → List WatchedWord → ℕ → Gone
 rest_of d depth made watched limit = gone_from d.breaks watched (is_there depth) made (countable made limit) d.machine
 
--- the steps of what is left of a run
+-- these events are the steps of the rest of a run
 abbrev pub AreStepsOn : Session → Left → ℕ → List Event → Type 0
 AreStepsOn d Nothing limit events = events ≡ []
 AreStepsOn d (AtBreak depth made watched) limit events = events ≡ []
@@ -102,16 +106,15 @@ AreStepsOn d (Rest depth made watched) limit events =
 
 -- ---- sessions
 
--- a watched word is another than when the command was given
+-- a watched word differs from its value at the time of the command
 abbrev pub has_changed_since : Session → State → Bool
 has_changed_since d s = has_changed (watched_words d.watches d.machine.memory) s.memory
 
--- The events of a command in a session, of a line that is none no events: a poke and a key are one, and a text that is
--- typed is a key for each of its bytes; `go` is as many
--- steps as it makes, up to a watched word that has changed or to a breakpoint, and behind each that it passes over; so
--- are `step` and `finish`, up to these or to where the machine stands in the frame of now again or above it, or above
--- it, and `until`, up to these or to its place; `on` is as many as what is left of the last run makes; and all others
--- only show, or set and clear breakpoints and watched words, and say how many are passed over.
+-- The events of a line in a session. A poke and a key are one event each. A text that is typed is a key for each of its
+-- bytes. `go` is its steps up to its limit, to a changed word or to a breakpoint, and its steps after each breakpoint
+-- that it ignores. `step`, `finish` and `until` are the same, and also end when MP is at least its value before, when
+-- MP is greater than this value, or at the named position. `on` is the steps of the rest of the last run. All other
+-- lines have no events.
 abbrev pub AreEventsOf : Option Order → Session → List Event → Type 0
 AreEventsOf (Some (Does (commands.Poke a w))) d events = events ≡ Poke a w ∷ []
 AreEventsOf (Some (Does (commands.Key b))) d events = events ≡ Key b ∷ []
@@ -144,8 +147,8 @@ abbrev pub GoesOnAfter : List (List ℕ) → Type 0
 GoesOnAfter [] = ⊤
 GoesOnAfter (line ∷ lines) = (is_quit (order_of line) ≡ false) × GoesOnAfter lines
 
--- After these lines a session over the machine s stands at the state that their events give, and answers whatever lines
--- follow as a session of that state does.
+-- After these lines, a session over the machine s is in the state that their events give. The answers to all lines that
+-- follow are those of a session in that state.
 pub record ShowsTheTable (lines : List (List ℕ)) (s : State) : Type 0 where
   pub events : List Event
   pub named : AreEventsOfLines lines (opened s) events

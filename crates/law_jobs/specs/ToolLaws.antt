@@ -1,4 +1,4 @@
--- Laws of runs, of the images that they leave, and of the faults of a text.
+-- Laws about runs, about the images that they leave, and about the faults of a text.
 use Rattle.std.specs.Prelude.{◌≡◌, ℕ, ◌-◌, Bool, true, false, List, [], ◌∷◌, ◌++◌, Option, None, Ok}
 use Rattle.pm_machine.specs.State.{State}
 use Rattle.pm_machine.specs.Events.{Event, Step, Key, Poke, Mount, Eject, after_all, next}
@@ -25,7 +25,7 @@ keyed_in (Poke address word ∷ events) = keyed_in events
 keyed_in (Mount unit image ∷ events) = keyed_in events
 keyed_in (Eject unit ∷ events) = keyed_in events
 
--- these events are steps and keys alone
+-- all these events are steps and keys
 abbrev pub are_steps_and_keys : List Event → Bool
 are_steps_and_keys [] = true
 are_steps_and_keys (Key byte ∷ events) = are_steps_and_keys events
@@ -34,25 +34,25 @@ are_steps_and_keys (Poke address word ∷ events) = false
 are_steps_and_keys (Mount unit image ∷ events) = false
 are_steps_and_keys (Eject unit ∷ events) = false
 
--- a run from m leaves the machine as these steps and keys leave it, the keys being the bytes that it read
+-- a run from m leaves the machine in the state after these steps and keys, whose bytes are those that it read
 pub record IsOfEvents (run : Run) (bytes : List ℕ) (m : State) (events : List Event) : Type 0 where
   pub alone : are_steps_and_keys events ≡ true
   pub left : run.machine ≡ after_all m events
   pub read : bytes ≡ keyed_in events ++ run.unread
 
--- each run is one of steps and keys, and the bytes that are keyed are exactly those that are read
+-- each run is a list of steps and keys, and the bytes of the keys are exactly those that are read
 abbrev pub RunsAreEvents : Type 0
 RunsAreEvents =
     (show : _) (limit : ℕ) (bytes : List ℕ) (m : State)
     → (events : List Event) × IsOfEvents (run_of show limit bytes m) bytes m events
 
--- runs that differ in what they show alone
+-- runs that differ only in what they show
 pub record AreAlike (run other : Run) : Type 0 where
   pub ending : run.ending ≡ other.ending
   pub machine : run.machine ≡ other.machine
   pub unread : run.unread ≡ other.unread
 
--- what is shown of a run changes nothing else of it
+-- the choice of what is shown of a run changes nothing else of the run
 abbrev pub ShowingChangesNothing : Type 0
 ShowingChangesNothing =
     (show other : _) (limit : ℕ) (bytes : List ℕ) (m : State)
@@ -60,8 +60,8 @@ ShowingChangesNothing =
 
 -- ---- runs of the machine
 
--- What a run is, where the machine's own run without input has this count, last answer and state: that run, and no byte
--- is read; but where it waits, the next byte is keyed and what is left of the limit is run from there.
+-- The run of a job, if the machine's own run without input has this count, last answer and state. It is that run, and
+-- no byte is read. If the machine waits, the next byte is keyed, and the rest of the limit is run from that state.
 abbrev pub GoesOn : (ℕ → List ℕ → State → Run) → ℕ → List ℕ → State → ℕ → Stop → State → Type 0
 GoesOn run limit bytes m count Went t = AreAlike (run limit bytes m) (ended_run [] endings.Limit t bytes)
 GoesOn run limit bytes m count Ended t = AreAlike (run limit bytes m) (ended_run [] endings.Ended t bytes)
@@ -71,7 +71,7 @@ GoesOn run limit [] m count Waiting t = AreAlike (run limit [] m) (ended_run [] 
 GoesOn run limit (byte ∷ bytes) m count Waiting t =
     AreAlike (run limit (byte ∷ bytes) m) (run (limit - count) bytes (next t (Key byte)))
 
--- each run goes on so
+-- each run is of this kind
 abbrev pub RunsGoByTheMachine : Type 0
 RunsGoByTheMachine =
     (show : _) (limit count : ℕ) (bytes : List ℕ) (m t : State) (stop : Stop) →
@@ -79,8 +79,8 @@ RunsGoByTheMachine =
 
 -- ---- the images that a run leaves
 
--- Before the first step all images are kept as they were given, each on its own unit: first that of unit 4, then
--- those of units 5, 9, 10, 11 and 12.
+-- Before the first step, all images are unchanged on their own units: first that of unit 4, then those of units 5, 9,
+-- 10, 11 and 12.
 abbrev pub ImagesAreOfTheirUnits : Type 0
 ImagesAreOfTheirUnits =
     (show : _) (d4 d5 d9 d10 d11 d12 : Option (List ℕ)) (name input : List ℕ) (m : State)
@@ -88,7 +88,7 @@ ImagesAreOfTheirUnits =
     → ((run_said savings.All (run_of show 0 input m)).image ≡ d4)
     × ((run_said savings.All (run_of show 0 input m)).others ≡ d5 ∷ d9 ∷ d10 ∷ d11 ∷ d12 ∷ [])
 
--- what is said of a run is the same but for the images that are kept
+-- the results of two runs are the same except for the images that are saved
 pub record SayTheSame (told other : Said) : Type 0 where
   pub written : told.written ≡ other.written
   pub exit : told.exit ≡ other.exit
@@ -97,8 +97,9 @@ pub record SayTheSame (told other : Said) : Type 0 where
   pub unread : told.unread ≡ other.unread
   pub stopped : told.stopped ≡ other.stopped
 
--- Which images are kept changes nothing else; that of unit 4 is the same alone and with the others, and these are the
--- same with it and without it, where no image of unit 4 is kept.
+-- The choice of the images that are saved changes nothing else. The image of unit 4 is the same if the others are saved
+-- and if they are not. The others are the same if the image of unit 4 is saved and if it is not; in the latter case
+-- there is no image of unit 4.
 pub record SavesApart (run : Run) : Type 0 where
   pub same : (saving other : Saving) → SayTheSame (run_said saving run) (run_said other run)
   pub fourth : (run_said savings.First run).image ≡ (run_said savings.All run).image
@@ -110,13 +111,13 @@ SavingChangesNothing = (run : Run) → SavesApart run
 
 -- ---- all faults of a text
 
--- a job ends as another does, by its status and its message; and where it ends well it has written nothing
+-- a job has the status and the message of another, and if its status is `Ended`, it has written nothing
 pub record EndsAs (told other : Said) : Type 0 where
   pub exit : told.exit ≡ other.exit
   pub message : told.message ≡ other.message
   pub nothing : told.exit ≡ exits.Ended → told.written ≡ []
 
--- all faults of a text are told with the end that its assembling has
+-- the job that writes all faults of a text ends as the job that assembles it
 abbrev pub FaultsEndAsAssembling : Type 0
 FaultsEndAsAssembling =
     (input : List ℕ) → EndsAs (job_said (jobs.Asm asm.Faults) input) (job_said (jobs.Asm asm.File) input)

@@ -7,7 +7,7 @@ use Rattle.pm_session.specs.Orders.Order.{Types}
 use Rattle.pm_session.specs.Answers.{answer_text, session_after}
 use Rattle.pm_tool.specs.Said.{debugged, said_debug}
 
--- `type "AB"` leaves the session that `key 65` and then `key 66` leave, and is answered as each of these.
+-- `type "AB"` leaves the same session as `key 65` and then `key 66`, and has the same answer as each of them.
 pub record IsTwoKeys (d : Session) : Type 0 where
   pub session : session_after (order_of (codes "type \"AB\"")) d
       ≡ session_after (order_of (codes "key 66")) (session_after (order_of (codes "key 65")) d)
@@ -17,13 +17,13 @@ pub record IsTwoKeys (d : Session) : Type 0 where
 abbrev pub TypesAreKeys : Type 0
 TypesAreKeys = (d : Session) → IsTwoKeys d
 
--- no byte of a line ends it
+-- the line contains no line feed
 abbrev pub IsOneLine : List ℕ → Type 0
 IsOneLine [] = ⊤
 IsOneLine (c ∷ line) = ((c == 10) ≡ false) × IsOneLine line
 
--- A debugger whose first line lets bytes wait on the console answers that by `ok`, and then as one on whose console
--- they wait from the start on.
+-- If the first line of a session is a `type`, its answer is `ok`. The other answers are those of a session on whose
+-- console the bytes of the text wait from the start.
 abbrev pub InputIsTyped : Type 0
 InputIsTyped = (typed line input : List ℕ) (machine : State) → IsOneLine line → order_of line ≡ Some (Types typed)
     → (debugged machine (line ++ 10 ∷ input)).written

@@ -9,8 +9,8 @@ use Rattle.pm_notes.specs.Lines.{with_names}
 use Rattle.pm_source.specs.Meaning.{Spells}
 use Rattle.pm_asm.specs.Assembled.{assembled}
 
--- The text of the code file of a program spells a program with the same code file and the same bytes in each segment.
--- If all items of the first program are instructions, both programs are the same.
+-- The text of the code file of a program spells a program with the same code file, whose segments have the same
+-- numbers, names and bytes. A segment whose items are all instructions is the same in both programs.
 pub record IsShownAgain (ss ts : List Segment) : Type 0 where
   pub spelled : Spells (file_text (file_of ss)) ts
   pub segments : AllZip IsSameSegment ss ts

@@ -5,8 +5,8 @@ ghost use Rattle.law_jobs.specs.RoundTrip.{AssembledIsShownAgain, NamedIsShownAg
 ghost use Rattle.law_jobs.specs.RoundTrip.{ShownFileIsSpelled};
 
 /// Take a program whose segments have at most 65,534 bytes each. The text that the disassembler shows for its code file
-/// spells a program with the same code file and the same bytes in each segment. If all items of the first program are
-/// instructions, both programs are the same.
+/// spells a program with the same code file, whose segments have the same numbers, names and bytes. A segment whose
+/// items are all instructions is the same in both programs. If this holds for all segments, both programs are the same.
 pub fn shown_file_is_spelled()
     ensures law { ShownFileIsSpelled }
 {}

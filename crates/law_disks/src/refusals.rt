@@ -1,40 +1,48 @@
-//! Which refusal is told where several hold: the first in its order.
+//! Laws that state which refusal a call gives if several conditions hold: the first one in a fixed order.
 
 ghost use Rattle.law_disks.specs.Refusals as refusals;
 
-/// A new file is refused for its name, then for a file of that name, then for 77 files, and then for want of room.
+/// A `Put` is refused with `BadName` if the name is invalid. Otherwise it is refused with `Duplicate` if a file has the
+/// name. Otherwise it is refused with `DirectoryFull` if the volume has at least 77 files. Otherwise it is refused with
+/// `NoRoom`, or it succeeds.
 #[tactic(auto, using(crate::proofs::RefusalLaws::puts_tell_first))]
 pub fn puts_tell_first()
     ensures law { refusals.PutsTellFirst }
 {}
 
-/// Another name is refused for a file that is not there, then for the new name, and then for another file that has it.
+/// A `Change` is refused with `NoFile` if no file has the old name. Otherwise it is refused with `BadName` if the new
+/// name is invalid. Otherwise it is refused with `Duplicate` if another file has the new name. Otherwise it succeeds.
 #[tactic(auto, using(crate::proofs::RefusalLaws::changes_tell_first))]
 pub fn changes_tell_first()
     ensures law { refusals.ChangesTellFirst }
 {}
 
-/// A second copy of the directory is refused for a volume of fewer than 10 blocks, and then for a file below block 10.
+/// A `Duplicate`, which adds a second copy of the directory, is refused with `BadHeader` if the volume has fewer than
+/// 10 blocks. Otherwise it is refused with `Occupied` if a file begins before block 10.
 #[tactic(auto, using(crate::proofs::RefusalLaws::doubling_tells_first))]
 pub fn doubling_tells_first()
     ensures law { refusals.DoublingTellsFirst }
 {}
 
-/// Of entries the first bad one is told, by the number of its slot, and it is not sound before it ends past the volume.
+/// Take an entry of a directory after entries that are all valid. If the entry is not sound after them, the fault is
+/// `BadEntry` with its number. Otherwise, if it ends after the last block of the volume, the fault is `PastEnd`.
 #[tactic(auto, using(crate::proofs::RefusalLaws::entries_tell_first))]
 pub fn entries_tell_first()
     ensures law { refusals.EntriesTellFirst }
 {}
 
-/// A directory is refused for its header, then for more blocks than the image has, then for more than 77 files, and
-/// then for its entries.
+/// The fault of a directory is `BadHeader` if its header is not sound. Otherwise it is `PastEnd` if the directory
+/// states more blocks than the image has. Otherwise it is `TooManyFiles` if it states more than 77 files. Otherwise it
+/// is the fault of its entries, if they have one.
 #[tactic(auto, using(crate::proofs::RefusalLaws::directories_tell_first))]
 pub fn directories_tell_first()
     ensures law { refusals.DirectoriesTellFirst }
 {}
 
-/// An image is refused for a part of a block, then for fewer than 6 blocks, and then for its first copy: by that
-/// copy's own fault, which `FirstCopyBad` names where the second copy is good.
+/// The fault of an image is `NotBlocks` if its length is not a multiple of 512. Otherwise it is `TooShort` if the image
+/// has fewer than 6 blocks. Otherwise it depends on the first copy of the directory. If this copy has no fault, the
+/// image has none. If it has a fault and the second copy is valid, the fault of the image is `FirstCopyBad` with the
+/// number of this fault. If the second copy is not valid, the fault of the image is that of the first copy.
 #[tactic(auto, using(crate::proofs::RefusalLaws::images_tell_first))]
 pub fn images_tell_first()
     ensures law { refusals.ImagesTellFirst }

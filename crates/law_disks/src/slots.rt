@@ -1,45 +1,48 @@
-//! What a removal and another name by the slot make of the list of files.
+//! Laws of how a removal or a new name, by slot or by pattern, changes the list of files.
 
 ghost use Rattle.law_disks.specs.Fitting as fitting;
 ghost use Rattle.law_disks.specs.Slots as slots;
 
-/// A file that is removed by its slot is missing from the list, and every other one, also of its name, stands there in
-/// the order and with the bytes that it had.
+/// `RemoveSlot` with the slot of a file of a volume succeeds. The list of files then lacks this file. All other files,
+/// even those of the same name, are in the list in the same order, with the bytes that they had.
 pub fn removal_takes_one()
     ensures law { slots.RemovalTakesOne }
 {}
 
-/// A file that gets another name by its slot stands in its place of the list with that name and the bytes that it had,
-/// and every other one, also of its old name, is as it was.
+/// `ChangeSlot` with the slot of a file of a volume succeeds if the new name is valid and no other file has it. The
+/// file then has the new name, at the same position of the list, and is otherwise unchanged. All other files, even
+/// those of its old name, are unchanged, and all files have the bytes that they had.
 pub fn change_names_one()
     ensures law { slots.ChangeNamesOne }
 {}
 
-/// Another name by the slot is refused for the new name, and then for another file that has it. The name that the file
-/// has already is refused only where another file has it too.
+/// `ChangeSlot` with the slot of a file is refused with `BadName` if the new name is invalid. Otherwise it is refused
+/// with `Duplicate` if another file has the new name. Otherwise it succeeds.
 pub fn slot_changes_tell_first()
     ensures law { slots.SlotChangesTellFirst }
 {}
 
-/// A slot without a file is refused as a name that is not there.
+/// `RemoveSlot`, and `ChangeSlot` with any new name, are refused with `NoFile` if the slot has no file.
 pub fn empty_slots_are_refused()
     ensures law { slots.EmptySlotsAreRefused }
 {}
 
-/// What a name does is what the slot of the first file of that name does.
+/// `Remove` and `Change` of a name give the same result as `RemoveSlot` and `ChangeSlot` of the slot of the first file
+/// that has the name.
 pub fn names_are_slots()
     ensures law { slots.NamesAreSlots }
 {}
 
-/// A pattern with `=` fits the names that are what stands before its first `=`, anything, and what stands behind that,
-/// whatever the case; a pattern without one fits the names that are the same.
+/// A pattern that contains `=` matches exactly the names that have three parts: the characters before its first `=`,
+/// any characters, and the characters after this `=`. A pattern without `=` matches exactly the names that equal it.
+/// Upper and lower case are equal.
 pub fn equals_is_anything()
     ensures law { fitting.EqualsIsAnything }
     ensures name { fitting.PatternIsName }
 {}
 
-/// Where the files that fit a pattern are removed, those that do not are left, in their order and with the bytes that
-/// they had; where none fits, it is refused as a name that is not there.
+/// `RemoveFitting` on a volume succeeds if some file matches the pattern. The files that do not match are then the list
+/// of files, in the same order, with the bytes that they had. If no file matches, the command is refused with `NoFile`.
 pub fn removal_leaves_unfit()
     ensures law { fitting.RemovalLeavesUnfit }
     ensures refused { fitting.UnfitIsRefused }

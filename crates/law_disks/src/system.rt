@@ -1,14 +1,15 @@
-//! Laws of code files with the system's segment. The functions do nothing.
+//! Laws of code files with a system segment. The functions do nothing.
 ghost use Rattle.law_disks.specs.SystemLaws.{NewFileIsSound, SegmentsStay};
 
-/// A code file that was given a segment has its bytes in slot 0; each other slot is what it was, and where its segment
-/// begins behind the dictionary it has the bytes that it had.
+/// Take a code file of fewer than 65,536 blocks into which a segment of 1 to 65,535 bytes, with a name of 8 bytes, is
+/// put. Slot 0 of the new file has the bytes of this segment. Each other slot is unchanged. If the segment of such a
+/// slot begins after block 0, its bytes are unchanged too.
 pub fn segments_stay()
     ensures law { SegmentsStay }
 {}
 
-/// A code file that was given a segment of even length, as each of a code file has, is a code file: no slot has a
-/// fault.
+/// Take a code file of fewer than 65,536 blocks into which a segment of 2 to 65,534 bytes, with an even length and a
+/// name of 8 bytes, is put. The new file is a code file, which means that no slot has a fault.
 pub fn new_file_is_sound()
     ensures law { NewFileIsSound }
 {}

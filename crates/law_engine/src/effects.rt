@@ -1,27 +1,32 @@
-//! Laws that the table of what instructions take off the stack and leave there is the machine's. The functions do
+//! Laws of the table of effects, which has the number of words that an instruction pops and leaves. The functions do
 //! nothing.
 
 ghost use Rattle.law_engine.specs.CallEffects as calls;
 ghost use Rattle.law_engine.specs.Effects.{EffectsAreTheMachines};
 ghost use Rattle.law_engine.specs.StandardEffects.{StandardEffectsAreTheMachines};
 
-/// Each row that ends well moves SP by what it leaves less what it takes, of a set its count and the words below it; a
-/// row without an entry in the table never ends well.
+/// Take a row of integers, variables, addresses, constants in the code, values or jumps that succeeds. The SP after it
+/// is the SP before it, plus the number of words that the table states as popped, less the number that it states as
+/// left. A set has one word more than its count states. A row on values without an entry in the table never succeeds.
+/// Premise: the memory and the stack are those of a machine.
 #[tactic(auto, using(crate::proofs::EffectLaws::effects_are_the_machines))]
 pub fn effects_are_the_machines()
     ensures law { EffectsAreTheMachines }
 {}
 
-/// So does each standard procedure on memory and on units. `EXIT`, and what loads and unloads a segment, leave SP
-/// elsewhere: of these the law says the number alone.
+/// The table has, for each number, the effect of the standard procedure with this number. If a standard procedure on
+/// memory or on units succeeds, the SP after it is the SP before it, plus the number of words that its effect states as
+/// popped, less the number that it states as left. For EXIT and the procedures 21 and 22 the law states only the entry
+/// of the table.
 #[tactic(auto, using(crate::proofs::StandardEffectLaws::standard_effects_are_the_machines))]
 pub fn standard_effects_are_the_machines()
     ensures law { StandardEffectsAreTheMachines }
 {}
 
-/// From a call to behind the return SP moves by what the return leaves less what the call takes: the words of the
-/// parameters that the attribute table states of the procedure that is reached, and the words of the return. That is so
-/// whatever runs between, if MP and the SP that the frame keeps are at the return as the call left them.
+/// Take a call and a return that succeed, with any execution between them. The SP after the return is the SP before the
+/// call, plus the number of parameter words in the attribute table of the called procedure, less the number of words
+/// that the return leaves. Premises: the memory before the call is that of a machine; loaded code consists of bytes; at
+/// the return, MP and the SP that the frame saved are as the call left them.
 #[tactic(auto, using(crate::proofs::CallEffectLaws::calls_are_the_machines))]
 pub fn calls_are_the_machines()
     ensures law { calls.CallsAreTheMachines }

@@ -1,6 +1,5 @@
-//! Laws of the machine: opcodes and their bytes, words and bytes of the memory, values and sets, rows, calls and
-//! returns, standard procedures, disks, lists of events, runs; what no event changes, what each machine holds, where
-//! loaded and kept code stands, and that outputs only grow. The functions do nothing.
+//! Laws of the machine: opcodes and their bytes, memory, values, rows, calls and returns, standard procedures, disks,
+//! events and runs. A law states a fact about definitions. The functions do nothing.
 #![tactic(auto)]
 
 pub mod calls;

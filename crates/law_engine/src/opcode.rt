@@ -1,20 +1,22 @@
-//! Laws of spellings, by which the contracts of `decode` and `encode` hang together. The functions do nothing.
+//! Laws of the encodings of instructions, on which the contracts of `decode` and `encode` depend. The functions do
+//! nothing.
 
 ghost use Rattle.pm_opcode.specs.Laws as laws;
 ghost use Rattle.law_engine.specs.WorkedReadings.{WorkedReadings};
 
-/// What `encode` writes for a place is read there again: the same opcode, operands and named bytes, whatever stands
-/// around it.
+/// If the bytes that `encode` writes for an instruction are at an offset, the same opcode and operands are read there,
+/// and the same bytes are named. This holds for any bytes before and after them. Premises: the operands are in range,
+/// and the named bytes exist.
 pub fn written_is_read()
     ensures law { laws.WrittenIsRead }
 {}
 
-/// At one parity no spelling begins another one, so bytes fall into instructions in one way only.
+/// No encoding is a proper prefix of another one, if both begin at an odd address or both at an even one.
 pub fn none_begins_another()
     ensures law { laws.NoneBeginsAnother }
 {}
 
-/// An instruction whose operands are out of range is read nowhere.
+/// An instruction whose operands are out of range is read at no offset of any bytes.
 pub fn nowhere_else()
     ensures law { laws.NowhereElse }
 {}

@@ -1,9 +1,8 @@
-//! The law of what is written to the console and to the printer.
+//! The law of the bytes that are written to the console and to the printer.
 
 ghost use Rattle.law_engine.specs.Outputs.{OutputsOnlyGrow};
 
-/// After any events the console and the printer have the bytes that they had, and perhaps more behind them: nothing
-/// that was written is taken back.
+/// After any events, the console output and the printer output begin with the bytes that they had before these events.
 pub fn outputs_only_grow()
     ensures law { OutputsOnlyGrow }
 {}

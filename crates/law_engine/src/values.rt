@@ -1,51 +1,51 @@
-//! Laws of sets, fields and strings, by which the rows hang together. The functions do nothing.
+//! Laws of sets, fields and strings, on which the rows depend. The functions do nothing.
 
 ghost use Rattle.pm_values.specs.Laws.{IntersectionCommutes, OtherBitsStay, PartsUnite, SetIsItsTest, StoredIsLoaded};
 ghost use Rattle.pm_values.specs.Laws.{StringsAreOrdered, SubsetIsOfNumbers, UnionCommutes};
 
-/// A set made by a test has the numbers within its words that pass it, and no others.
+/// A set of n words that is made by a test has exactly the numbers below 16 n that pass the test.
 #[tactic(auto, using(pm_values::proofs::MemberLaws::set_is_its_test))]
 pub fn set_is_its_test()
     ensures law { SetIsItsTest }
 {}
 
-/// Two sets unite to the same words in either order.
+/// The union of two sets has the same words in either order.
 #[tactic(auto, using(pm_values::proofs::MemberLaws::union_commutes))]
 pub fn union_commutes()
     ensures law { UnionCommutes }
 {}
 
-/// Two sets intersect to the same words in either order.
+/// The intersection of two sets has the same words in either order.
 #[tactic(auto, using(pm_values::proofs::MemberLaws::intersection_commutes))]
 pub fn intersection_commutes()
     ensures law { IntersectionCommutes }
 {}
 
-/// What is left of a set after a difference, united with what was taken away, is the set again.
+/// The difference of two sets, united with their intersection, has exactly the numbers of the first set.
 #[tactic(auto, using(pm_values::proofs::MemberLaws::parts_unite))]
 pub fn parts_unite()
     ensures law { PartsUnite }
 {}
 
-/// A subset is one by its numbers, however many words the two sets have.
+/// A set is a subset of another one if and only if the other one has each of its numbers, for any numbers of words.
 #[tactic(auto, using(pm_values::proofs::SubsetLaws::subset_is_of_numbers))]
 pub fn subset_is_of_numbers()
     ensures law { SubsetIsOfNumbers }
 {}
 
-/// The field that is stored is the field that is loaded.
+/// A field that is loaded after a value was stored into it gives this value, modulo 2 to the power of its width.
 #[tactic(auto, using(pm_values::proofs::FieldLaws::stored_is_loaded))]
 pub fn stored_is_loaded()
     ensures law { StoredIsLoaded }
 {}
 
-/// A store into a field leaves every other bit of the word.
+/// Storing into a field changes no bit of the word outside the field.
 #[tactic(auto, using(pm_values::proofs::FieldLaws::other_bits_stay))]
 pub fn other_bits_stay()
     ensures law { OtherBitsStay }
 {}
 
-/// Strings are totally ordered.
+/// The order of strings is total.
 #[tactic(auto, using(std::proofs::lemmas::Cmp::nat_list_cmp_total))]
 pub fn strings_are_ordered()
     ensures law { StringsAreOrdered }

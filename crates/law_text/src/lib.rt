@@ -1,5 +1,5 @@
-//! Laws of texts: what an assembler's text says and what of it says nothing, which faults are told, that what is shown
-//! is spelled, listings, a file's text read back, and what statements do. The functions do nothing.
+//! Laws of texts: what an assembler text spells, which fault is reported, listings, the text of a code file, and what
+//! statements do. A law states a fact about definitions. The functions do nothing.
 #![tactic(auto)]
 
 pub mod asm;

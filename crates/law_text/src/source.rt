@@ -1,4 +1,4 @@
-//! Laws of the assembler's text, of what it spells and of its listing. The functions do nothing.
+//! Laws of the text of the assembler, of what it spells and of its listing. The functions do nothing.
 ghost use Rattle.pm_source.specs.Denoted.{ListingDenotesSegments, ListingIsRead};
 ghost use Rattle.law_text.specs.Same.{BaseSaysNothing, BlankSaysNothing, BlanksSayNothing};
 ghost use Rattle.law_text.specs.Same.{CommentSaysNothing, EndBlankSaysNothing, FaultsAscend, LineFaultsAscend};
@@ -6,52 +6,55 @@ ghost use Rattle.law_text.specs.Same.{NumberWithoutZero, NumbersSayValues, ZeroS
 ghost use Rattle.pm_source.specs.Laws.{FaultlessIsSaid, FaultlessIsSpelled, FoundIsFaultless, LabelsFound};
 ghost use Rattle.pm_source.specs.Laws.{SaidIsFaultless, SpelledIsFaultless, SpelledIsProgram};
 
-/// The characters of a program's listing, read back, denote its lines: of each its segment, procedure, offset and
-/// bytes. The bytes that they denote for a segment are the segment, and each line names the offset at which its bytes
-/// stand in it.
+/// Take the listing of a program whose segments have at most 65,534 bytes each. Its characters denote its lines, each
+/// with its segment, procedure, offset and bytes. The bytes that they denote for a segment number are the segment, or
+/// none if there is no such segment. Each line of the segment names the offset at which its bytes are in the segment.
 pub fn listing_is_read()
     ensures law { ListingIsRead }
     ensures segments { ListingDenotesSegments }
 {}
 
-/// The labels of a procedure that has no fault of them are found: it means the procedure of a program that has their
-/// places.
+/// If the labels of a procedure that begins at an offset have no fault, it means the procedure of a program that is
+/// found with the offsets of its labels.
 pub fn labels_are_found()
     ensures law { LabelsFound }
 {}
 
-/// A procedure that means one of a program has no fault of its labels, and it means no other.
+/// If a procedure of a text means a procedure of a program, its labels have no fault, and it means no other procedure
+/// that begins at the same offset.
 pub fn found_is_faultless()
     ensures law { FoundIsFaultless }
 {}
 
-/// Where no line has a fault, the lines say sound segments with labels, those that the text is read as.
+/// If no line of a text has a fault, its lines spell the segments with labels that the text is read as, and these
+/// segments are sound.
 pub fn faultless_is_said()
     ensures law { FaultlessIsSaid }
 {}
 
-/// Where the lines say sound segments with labels, none has a fault, and they say no others.
+/// If the lines of a text spell sound segments with labels, no line has a fault, and the lines spell no other sound
+/// segments.
 pub fn said_is_faultless()
     ensures law { SaidIsFaultless }
 {}
 
-/// A text without faults spells its program.
+/// A text without faults spells the program that it is read as.
 pub fn faultless_is_spelled()
     ensures law { FaultlessIsSpelled }
 {}
 
-/// A text that spells a program has no faults, and it spells no other.
+/// A text that spells a program has no faults, and spells no other program.
 pub fn spelled_is_faultless()
     ensures law { SpelledIsFaultless }
 {}
 
-/// What a text spells is a program, where no segment has more than 65,534 bytes.
+/// If a text spells segments that have at most 65,534 bytes each, these segments are a program.
 pub fn spelled_is_program()
     ensures law { SpelledIsProgram }
 {}
 
-/// A comment behind a line whose quotes are closed, and a blank in front of a line or behind it, change nothing of what
-/// it says; nor does a zero in front of decimal digits of their number.
+/// The meaning of a line does not change if a comment of valid characters is appended after closed quotes, or if a
+/// space or a tab is added at its beginning or its end. A zero before decimal digits does not change their number.
 #[tactic(auto, using(crate::proofs::SameLines::comment_says_nothing, crate::proofs::SameLines::blank_says_nothing, crate::proofs::EndBlanks::end_blank_says_nothing, crate::proofs::SameLines::zero_says_nothing))]
 pub fn comments_blanks_zeros_say_nothing()
     ensures comment { CommentSaysNothing }
@@ -60,31 +63,34 @@ pub fn comments_blanks_zeros_say_nothing()
     ensures zero { ZeroSaysNothing }
 {}
 
-/// Blanks between operands and between words change nothing of what a line says: in front of operands, behind them and
-/// beside a comma outside quotes, and beside another blank.
+/// A space or a tab before or after operands, or outside quotes next to a comma, does not change the operands. A space
+/// or a tab before another one does not change how the line is split at spaces. If two texts after a keyword have the
+/// same operands, the keyword means the same items with both. If they are also split into the same parts at spaces, the
+/// keyword means the same with both.
 #[tactic(auto, using(crate::proofs::Between::blanks_say_nothing))]
 pub fn blanks_say_nothing()
     ensures law { BlanksSayNothing }
 {}
 
-/// How a number is written changes nothing of what a line says: neither zeros in front of its digits, nor whether they
-/// are hexadecimal. What stands behind a mnemonic, `.BYTE` or `.PROC` says the same with numbers of the same values,
-/// and
-/// `.SEG` with the same name.
+/// A zero before the digits of a number, with or without a minus sign, does not change the number. A number in
+/// hexadecimal digits after `$` equals the number in decimal digits with the same value. If operands are replaced by
+/// others that are numbers of the same value, the items of a keyword and the head of a procedure do not change. The
+/// same holds for the number in the head of a segment, and for the numbers of a marked operand, of a jump table entry
+/// and of the size of a comparison.
 pub fn numbers_say_values()
     ensures zeros { NumberWithoutZero }
     ensures base { BaseSaysNothing }
     ensures law { NumbersSayValues }
 {}
 
-/// The faults of a text's lines ascend: none is of a line before that of the fault before it.
+/// Each fault of the lines of a text names a line, and none names a line before that of the fault before it.
 #[tactic(auto, using(crate::proofs::Ascending::line_faults_ascend))]
 pub fn line_faults_ascend()
     ensures law { LineFaultsAscend }
 {}
 
-/// The faults of a text ascend: those of its lines, and where no line has one, those of its labels. None is of a line
-/// before that of the fault before it, so that the first one is of the least line that has one.
+/// Each fault of a text names a line, and none names a line before that of the fault before it. So the first fault
+/// names the lowest line that has a fault.
 pub fn faults_ascend()
     ensures law { FaultsAscend }
 {}

@@ -12,7 +12,7 @@ mod system_segment;
 pub use command::{FileCommand, Reply, apply};
 pub use fault::FilerFault;
 pub use fitting::fits;
-pub use listing::kind_word;
+pub use listing::{DateWord, kind_word};
 pub use system_disk::put_system;
 pub use system_fault::SystemFault;
 pub use system_segment::with_system;

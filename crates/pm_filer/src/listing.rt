@@ -55,7 +55,7 @@ impl fmt::Display for Kind {
 
 /// A date by its word, shown as year, month and day.
 #[derive(Clone, Copy)]
-struct DateWord(u16);
+pub struct DateWord(pub u16);
 
 impl fmt::Display for DateWord {
     ghost output = { λ date. Some (date_text date.0) };

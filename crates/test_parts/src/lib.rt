@@ -1,24 +1,17 @@
-//! Worked examples, as tests, of what no row and no output shows:
+//! Tests of facts that no row and no output shows: opcodes, calls and returns, volumes, code files; steps on the fast
+//! execution path; large memory use; and two machines with the same program.
 //!
-//! - opcodes, calls and returns, volumes, code files;
-//! - steps that go the quick way, what takes much memory, and machines against themselves;
-//! - of a job: streams of which a call fails, what is written when, how much of its input it leaves, and the most that
-//!   it takes.
-//!
-//! And what other tests use: programs, and of the replays of rows and of cases how they spell numbers and bytes, the
-//! code file that they give a machine, and the report of how many agree.
+//! It also has functions that other test crates use: programs; how rows and cases spell numbers and bytes; the code file
+//! that they give a machine; and the report of how many cases agree.
 #![tactic(auto)]
 
 pub mod any_bytes;
-pub mod blanks;
 pub mod booted;
 #[cfg(test)]
 mod code_files;
 pub mod codes;
 #[cfg(test)]
 mod frames;
-#[cfg(test)]
-mod job_tests;
 mod layout;
 pub mod one_segment;
 #[cfg(test)]
@@ -26,7 +19,6 @@ mod opcodes;
 pub mod programs;
 #[cfg(test)]
 mod quick;
-pub mod recorder;
 mod report;
 #[cfg(test)]
 mod room;

@@ -1,6 +1,6 @@
 //! The most input that a job takes.
 use crate::blanks::Blanks;
-use crate::job_tests::streams::raw;
+use crate::streams::raw;
 use pm_tool::{Reader, Writer, run};
 use std::alloc::Global;
 use std::process::Abort;

@@ -2,8 +2,8 @@
 //! and calls no stream any more. What takes memory ends the test where there is none, as in `left`.
 ghost use Rattle.std.specs.Prelude.{◌≡◌, length, sum};
 
-use crate::job_tests::streams::raw;
-use crate::programs::{ADDITION, ADDITION_TRACE, ECHO, EXITS, LETTERS};
+use crate::streams::raw;
+use test_parts::programs::{ADDITION, ADDITION_TRACE, ECHO, EXITS, LETTERS};
 use crate::recorder::{Call, Kind, Manner, Recorded, recorded_run};
 use pm_tool::{Job, Saving, Selection};
 use pm_volume::Volume;

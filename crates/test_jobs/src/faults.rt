@@ -1,6 +1,6 @@
 //! Streams that fail at each of their calls in turn.
-use crate::job_tests::streams::{Full, ShortReader, ShortWriter, raw};
-use crate::programs::{ADDITION, ADDITION_TRACE};
+use crate::streams::{Full, ShortReader, ShortWriter, raw};
+use test_parts::programs::{ADDITION, ADDITION_TRACE};
 use pm_tool::{Outcome, Reader, Sink, Source, Writer, run};
 use std::alloc::Global;
 use std::process::Abort;

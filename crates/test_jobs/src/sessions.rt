@@ -1,6 +1,6 @@
 //! Sessions of the debugger over streams that fail at each of their calls in turn.
-use crate::job_tests::broken::{ANSWERS, COMMANDS, Tried};
-use crate::job_tests::streams::{Full, ShortReader, ShortWriter};
+use crate::broken::{ANSWERS, COMMANDS, Tried};
+use crate::streams::{Full, ShortReader, ShortWriter};
 use pm_tool::{Reader, Writer, run};
 use std::alloc::Global;
 use std::process::Abort;

@@ -2,9 +2,9 @@
 //! no body has a way out at each call: a `?` behind which images are let go is what a proof of a test costs most for.
 ghost use Rattle.std.specs.Prelude.{◌≡◌, length, sum};
 
-use crate::job_tests::jobs::{Told, job_run, tells};
-use crate::job_tests::streams::raw;
-use crate::programs::{ADDITION, ADDITION_TRACE, ECHO, LETTERS};
+use crate::jobs::{Told, job_run, tells};
+use crate::streams::raw;
+use test_parts::programs::{ADDITION, ADDITION_TRACE, ECHO, LETTERS};
 use pm_filer::FileCommand;
 use pm_tool::{AsmOutput, DisOutput, Job, Saving};
 use std::alloc::Global;

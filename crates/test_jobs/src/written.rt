@@ -1,6 +1,6 @@
 //! What is written when. No clause can say it, since a sink knows no steps.
-use crate::job_tests::broken::{COMMANDS, Tried, image};
-use crate::job_tests::streams::raw;
+use crate::broken::{COMMANDS, Tried, image};
+use crate::streams::raw;
 use crate::recorder::{Call, Kind, Manner, Recorded, recorded_run};
 use pm_tool::{Job, Saving};
 use std::alloc::Global;

@@ -108,7 +108,7 @@ impl<'a> CodeFile<'a> {
     /// 1. `NoDictionary`: there are fewer than 512 bytes.
     /// 2. `OddLength`: the length of a slot is odd.
     /// 3. `SlotPastEnd`: the length of a slot is not 0, and its block times 512 plus its length exceeds the number of
-    ///   bytes.
+    ///    bytes.
     pub fn read(bytes: &'a [u8]) -> Result<CodeFile<'a>, CodeFault>
         ensures accepted { IsOk result ↔ (file_fault bytes.now ≡ None) }
         ensures sound { OnOk result (IsCodeFile bytes.now) }

@@ -192,9 +192,10 @@ fn image_blocks(image: &[u8]) -> u16
 ///
 /// # Errors
 ///
-/// 1. `TooShort`: the image is too short to have that copy of the directory.
-/// 2. The faults of `Volume::blank` and `Volume::add`: `NoRoom` if the files need more than 65,535 blocks, and
-///    `NoMemory`.
+/// Checked in this order:
+/// - `TooShort`: the image is too short to have that copy of the directory.
+/// - The faults of `Volume::blank` and `Volume::add`: `NoRoom` if the files need more than 65,535 blocks, and
+///   `NoMemory`.
 #[tactic(auto, unfolding(crate::specs::Saving::salvaged, crate::specs::Contents::believed_of))]
 pub fn salvage(alloc: Global, image: &[u8], second: bool) -> Result<Salvaged, VolumeFault>
     ensures saved { IfOk result (λ s. IsSaved s.image.items (string_bytes s.text) (salvaged image.now second)) }

@@ -103,12 +103,11 @@ impl<'a> CodeFile<'a> {
     ///
     /// # Errors
     ///
-    /// The slots are checked from 0 to 15. The first fault is returned.
-    ///
-    /// 1. `NoDictionary`: there are fewer than 512 bytes.
-    /// 2. `OddLength`: the length of a slot is odd.
-    /// 3. `SlotPastEnd`: the length of a slot is not 0, and its block times 512 plus its length exceeds the number of
-    ///    bytes.
+    /// Checked in this order, for the slots from 0 to 15:
+    /// - `NoDictionary`: there are fewer than 512 bytes.
+    /// - `OddLength`: the length of a slot is odd.
+    /// - `SlotPastEnd`: the length of a slot is not 0, and its block times 512 plus its length exceeds the number of
+    ///   bytes.
     pub fn read(bytes: &'a [u8]) -> Result<CodeFile<'a>, CodeFault>
         ensures accepted { IsOk result ↔ (file_fault bytes.now ≡ None) }
         ensures sound { OnOk result (IsCodeFile bytes.now) }

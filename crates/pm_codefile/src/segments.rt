@@ -30,9 +30,9 @@ fn self_relative(segment: &[u8], place: u16) -> Option<u16>
 ///
 /// Returns None unless all of these conditions are true:
 ///
-/// * `procedure` is from 1 to the procedure count of the segment.
-/// * The table lies in the segment, at an even offset.
-/// * The first instruction and the exit code are both at least 8 bytes below the table.
+/// - `procedure` is from 1 to the procedure count of the segment.
+/// - The table lies in the segment, at an even offset.
+/// - The first instruction and the exit code are both at least 8 bytes below the table.
 ///
 /// An offset below 0 is not in the segment. The number in the table, the sizes and the jump entries are not checked.
 #[tactic(auto, unfolding(crate::specs::Segments::attributes_in))]

@@ -23,18 +23,19 @@ pub(crate) enum LinePart {
 ///
 /// The first 1,024 bytes are skipped. The other bytes are read as follows:
 ///
-/// * A byte 16 at the start of a line and the byte after it are one indentation. Its number of spaces is the second
+/// - A byte 16 at the start of a line and the byte after it are one indentation. Its number of spaces is the second
 ///   byte minus 32, or 0 if that byte is less than 32.
-/// * Byte 13 ends a line.
-/// * Byte 0 is skipped.
-/// * Any other byte is a character.
+/// - Byte 13 ends a line.
+/// - Byte 0 is skipped.
+/// - Any other byte is a character.
 ///
 /// Bytes after the last 13 are a line too, unless all of them are 0.
 ///
 /// # Errors
 ///
-/// 1. `NoHeader`: there are fewer than 1,024 bytes.
-/// 2. `NoMemory`: memory was refused.
+/// Checked in this order:
+/// - `NoHeader`: there are fewer than 1,024 bytes.
+/// - `NoMemory`: memory was refused.
 pub fn decode(alloc: Global, bytes: &[u8]) -> Result<Vec<u8>, TextFault>
     ensures text { IfOk result (λ text. text.items ≡ text_of_file bytes.now) }
     ensures no_header { IsErrOf result TextFault.NoHeader ↔ (length bytes.now < 1024) }

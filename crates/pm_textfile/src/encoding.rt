@@ -19,19 +19,18 @@ const MOST_SPACES: usize = 223;
 ///
 /// The file has 1,024 zeros and then pages of 1,024 bytes, padded with zeros. A line is stored in three parts:
 ///
-/// * If it begins with spaces, byte 16 and the number of these spaces plus 32. At most 223 spaces are encoded in this
+/// - If it begins with spaces, byte 16 and the number of these spaces plus 32. At most 223 spaces are encoded in this
 ///   way.
-/// * Its other characters, unchanged.
-/// * Byte 13.
+/// - Its other characters, unchanged.
+/// - Byte 13.
 ///
 /// A line that does not fit on the rest of a page begins the next page. The file of an empty text has no page.
 ///
 /// # Errors
 ///
-/// The lines are checked in order. For each line `BadByte` is checked first.
-///
-/// 1. `BadByte`: the line contains a byte 0, 13 or 16. The position is that of the first such byte.
-/// 2. `LineTooLong`: the stored line has more than 1,024 bytes.
+/// Checked in this order, line by line:
+/// - `BadByte`: the line contains a byte 0, 13 or 16. The position is that of the first such byte.
+/// - `LineTooLong`: the stored line has more than 1,024 bytes.
 ///
 /// `NoMemory`: memory was refused.
 pub fn encode(alloc: Global, text: &[u8]) -> Result<Vec<u8>, TextFault>

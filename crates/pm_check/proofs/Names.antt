@@ -13,7 +13,7 @@ use Rattle.pm_bytes.specs.Decimals.{padded}
 use Rattle.pm_volume.specs.Files.{file_named}
 use Rattle.pm_check.specs.Naming.{free_from, good_character, good_name, numbered}
 
--- what `{n:02}` writes
+-- the text that `{n:02}` writes
 pub padded_two : (n : ℕ) → padded_integral (format_spec 32 0 4 2 (2 ^ 64 - 1)) false [] (decimal n) ≡ padded 2 n
 unfolding padded_integral padded char_count
 padded_two n = simp append-nil (ap (λ k. replicate k 48 ++ decimal n) (omega arith))

@@ -32,7 +32,8 @@ fn self_relative(segment: &[u8], place: u16) -> Option<u16>
 ///
 /// - `procedure` is from 1 to the procedure count of the segment.
 /// - The table lies in the segment, at an even offset.
-/// - The first instruction and the exit code are both at least 8 bytes below the table.
+/// - The offsets of the first instruction and of the exit code are at most `jtab` - 8, where `jtab` is the offset of
+///   the table.
 ///
 /// An offset below 0 is not in the segment. The number in the table, the sizes and the jump entries are not checked.
 #[tactic(auto, unfolding(crate::specs::Segments::attributes_in))]

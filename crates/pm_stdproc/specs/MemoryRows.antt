@@ -30,7 +30,7 @@ pop_place m sp = do
 abbrev pub is_positive : ℕ → Bool
 is_positive w = nat_lt 0 w && nat_lt w 32768
 
--- ---- the rows
+-- ---- the rules
 
 -- IOCHECK
 unfoldable pub check_io_row : MemoryRow

@@ -1,4 +1,4 @@
--- What the files of a saved volume have.
+-- The contents of the files of a salvaged volume.
 use Rattle.std.proofs.Common.{◌≡◌, ◌<◌, ℕ, zero, suc, ◌+◌, ◌%◌, Bool, true, false, ltb, ◌&&◌, ◌||◌, ◌==◌, List, [], ◌∷◌, ◌++◌}
 use Rattle.std.proofs.Common.{length, take, get_or, map, Option, None, Some, refl, ap, arith, append_assoc, append-nil, inl, inr}
 use Rattle.std.specs.Prelude.{IfOk, Result, Ok, Err, nat_le, slice_index, unwrap_or, if◌then◌else◌}
@@ -24,7 +24,7 @@ use Rattle.pm_check.specs.Saving.{bytes_of}
 use Rattle.pm_check.specs.declared.saving.Salvaged.{Salvaged}
 use Rattle.pm_check.specs.Contents.{HasFilesOf, Content, believed, content_in, contents_of, contents_taken, could_stand, entries_taken, entry_taken}
 
--- ---- the entries that are taken
+-- ---- the entries that are copied
 
 IsPermutation-swap : {X : Type 0} (a b : X) (xs : List X) → IsPermutation (a ∷ b ∷ xs) (b ∷ a ∷ xs)
 IsPermutation-swap a b xs = IsPermutation-middle (a ∷ []) b xs
@@ -58,7 +58,7 @@ sound_back : (lowest blocks length first end bytes : ℕ) → (ltb length 1 || l
 sound_back lowest blocks length first end bytes a b c d e = grind (arith, nat_tests)
 
 module _ (lowest blocks : ℕ) (e : Entry) where
-  -- an entry that could stand is not left out
+  -- an entry that could be the first file is not left out
   none-from_sound : could_stand lowest blocks e ≡ true → why_left lowest blocks e ≡ None
   unfolding why_left is_sound_entry
   none-from_sound h =
@@ -69,7 +69,7 @@ module _ (lowest blocks : ℕ) (e : Entry) where
   none_if true f rest h = cc
   none_if false f rest h = (refl, h)
 
-  -- one that is not left out could stand
+  -- an entry that is not left out could be the first file
   sound-from_none : why_left lowest blocks e ≡ None → could_stand lowest blocks e ≡ true
   unfolding why_left is_sound_entry
   sound-from_none h =
@@ -80,7 +80,7 @@ module _ (lowest blocks : ℕ) (e : Entry) where
       let f = none_if _ _ _ d.1 in
       sound_back lowest blocks (slice_index e.name 0) e.first e.end e.last_bytes a.0 b.0 c.0 d.0 f.0
 
-  -- one that could not is not among those that are taken
+  -- an entry that could not be the first file is not copied
   not_taken : (n : ℕ) (ts : List Taken) (why : Option SlotFinding) → why_left lowest blocks e ≡ why
       → could_stand lowest blocks e ≡ false → taken_with n e why ts ≡ ts
   not_taken n ts None is wrong = absurd (let right = sound-from_none is in cc)
@@ -114,14 +114,14 @@ module _ (d : List ℕ) (lowest blocks : ℕ) where
       IsPermutation-trans _ _ _ (believed_more n left ts (could_stand lowest blocks (entry_in d n)) refl)
       (believed_from (n + 1) left (taken_with n (entry_in d n) (why_left lowest blocks (entry_in d n)) ts))
 
-  -- the entries that are taken are those that are believed
+  -- the entries that are copied are those that could be the first file
   pub believed-taken : IsPermutation (believed d lowest blocks) (entries_taken (taken_from d lowest blocks 1 77 []))
   unfolding believed
   believed-taken =
       let h = believed_from 1 77 [] in
       rw (append-nil (filter (could_stand lowest blocks) (entries_from d 1 77))) at h
 
--- ---- one file more
+-- ---- one more file
 
 contents_stay : (old new : List ℕ) (es : List Entry) → All (FileStays old new) es → map (content_in new) es ≡ map (content_in old) es
 unfolding content_in
@@ -141,7 +141,7 @@ contents_more old new k e files stay =
 mod_twice : (n : ℕ) → n % 16 % 16 ≡ n % 16
 mod_twice n = omega arith
 
--- the file of an entry has what the entry's file had
+-- the file of an entry has the contents of the original file
 pub content_saved : (image new : List ℕ) (e file : Entry) (bytes : List ℕ) → file.kind ≡ e.kind % 16 → file.date ≡ e.date
     → file_bytes new file ≡ Some bytes → bytes ≡ unwrap_or (file_bytes image e) [] → content_in new file ≡ content_in image e
 unfolding content_in

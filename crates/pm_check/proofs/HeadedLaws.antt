@@ -1,4 +1,4 @@
--- What is filed is read back, and what stands around it stays.
+-- A volume that is written to a file of kind .2mg reads back, and the bytes around its blocks are unchanged.
 use Rattle.std.proofs.Common.{arith, ◌≡◌, ◌∙◌, ◌+◌, ◌-◌, ◌*◌, ◌/◌, ◌≤◌, ◌<◌, ℕ, true}
 use Rattle.std.proofs.Common.{List, [], ◌∷◌, ◌++◌, Option, None, Some, IfSome, option_map, refl, sym, ap, subst, cond, eqb, ltb, leb}
 use Rattle.std.proofs.Common.{length, take, drop, length-append, length-drop}
@@ -27,7 +27,7 @@ of_header header count fit =
     of_order (order_of (long_in header 12)) (long_in header 24) (front_size header) count
     (leb-true 52 (long_in header 24) b.0) (leb-true (long_in header 24 + front_size header) count c.1)
 
--- so do those of a header that fits
+-- the blocks that a fitting header describes are in the file
 pub span_lies : (file : List ℕ) → IfSome (span_of file) (Lies (length file))
 unfolding span_of
 span_lies file = cond_both (ltb (length file) 64) None (span_fitting (take 32 file) (length file))
@@ -36,7 +36,7 @@ span_lies file = cond_both (ltb (length file) 64) None (span_fitting (take 32 fi
     (λ found. IfSome found (Lies (length file)))
     (λ fit. of_header (take 32 file) (length file) fit) (λ unfit. tt))
 
--- the first 32 bytes are there
+-- the file has the first 32 bytes
 pub front_of_32 : (file : List ℕ) → 64 ≤ length file → length (take 32 file) ≡ 32
 front_of_32 file long = length-take-le 32 file (omega (arith, long))
 
@@ -46,7 +46,7 @@ module _ (old : List ℕ) (begin : ℕ) (blocks : List ℕ) (behind : 52 ≤ beg
   front_long : length (take begin old) ≡ begin
   front_long = length-take-le begin old (omega (arith, inside))
 
-  -- the length stays
+  -- the length is unchanged
   pub written_size : length (written old begin blocks) ≡ length old
   unfolding written
   written_size = omega (
@@ -58,19 +58,19 @@ module _ (old : List ℕ) (begin : ℕ) (blocks : List ℕ) (behind : 52 ≤ beg
     length-drop (begin + length blocks) old,
   )
 
-  -- the front stays
+  -- the bytes before the blocks are unchanged
   pub written_front : take begin (written old begin blocks) ≡ take begin old
   unfolding written
   written_front = take_at (take begin old) (blocks ++ drop (begin + length blocks) old) begin front_long
 
-  -- the tail stays
+  -- the bytes after the blocks are unchanged
   pub written_tail : drop (begin + length blocks) (written old begin blocks) ≡ drop (begin + length blocks) old
   unfolding written
   written_tail = ap (λ made. drop (begin + length blocks) made) (sym (append_assoc (take begin old) blocks (drop (begin + length blocks) old)))
       ∙ drop_at (take begin old ++ blocks) (drop (begin + length blocks) old) (begin + length blocks)
       (length-append (take begin old) blocks ∙ ap (λ n. n + length blocks) front_long)
 
-  -- and the blocks are these
+  -- the blocks are the new ones
   pub written_blocks : slice_range (written old begin blocks) begin (begin + length blocks) ≡ blocks
   unfolding written
   written_blocks = ap (take ((begin + length blocks) - begin)) (drop_at (take begin old) (blocks ++ drop (begin + length blocks) old) begin front_long)
@@ -81,7 +81,7 @@ module _ (old : List ℕ) (begin : ℕ) (blocks : List ℕ) (behind : 52 ≤ beg
   header_stays = take-append-le 32 (take begin old) (blocks ++ drop (begin + length blocks) old) (omega (arith, front_long, behind))
       ∙ take-take 32 begin old (omega (arith, behind))
 
-  -- so the header says the same
+  -- the header states the same position
   pub written_span : span_of (written old begin blocks) ≡ span_of old
   unfolding span_of
   written_span = rw (header_stays, written_size) refl
@@ -146,14 +146,14 @@ empty_back : volume_in (new_file []) ≡ []
 unfolding volume_in span_of new_file plain_header fits front_size long_in word_in
 empty_back = refl
 
--- it has the volume
+-- the new file contains the volume
 pub new_back : (volume : List ℕ) → length volume < 4294967296 → volume_in (new_file volume) ≡ volume
 unfolding volume_in span_of
 new_back [] small = empty_back
 new_back (v ∷ vs) small = rw (new_front_is (v ∷ vs), new_long (v ∷ vs), new_span (length (v ∷ vs)) (omega arith) small)
     (rw (new_blocks (v ∷ vs)) (turned_blocks (v ∷ vs)))
 
--- ---- what is filed
+-- ---- a volume that is written
 
 kept_back : (old volume : List ℕ) (span : Span) → span_of old ≡ Some span → Lies (length old) span
     → span.size ≡ length volume → volume_in (written old span.begin (turned span.order volume)) ≡ volume
@@ -176,12 +176,12 @@ filed_at_back old volume (Some span) is lies small =
     (λ file. volume_in file ≡ volume)
     (λ same. kept_back old volume span is lies (eqb-true span.size (length volume) same)) (λ other. new_back volume small)
 
--- what is filed is read back
+-- a volume that is written reads back
 pub filed_back : (old volume : List ℕ) → length volume < 4294967296 → volume_in (filed old volume) ≡ volume
 unfolding filed
 filed_back old volume small = filed_at_back old volume (span_of old) refl (span_lies old) small
 
--- ---- what stands around the blocks
+-- ---- the bytes around the blocks
 
 kept_of : (old volume : List ℕ) (found : Option Span) (span : Span) → found ≡ Some span → span.size ≡ length volume
     → filed_at found old volume ≡ written old span.begin (turned span.order volume)
@@ -217,7 +217,7 @@ module _ (old volume : List ℕ) (span : Span) (is : span_of old ≡ Some span) 
       ∙ written_tail old span.begin (turned span.order volume) lies.0 inside
       ∙ ap (λ n. drop (span.begin + n) old) new_size
 
--- ---- worked out
+-- ---- worked examples
 
 dos_worked : span_of (example 0 0 64 4 (1 ∷ 2 ∷ 3 ∷ 4 ∷ 5 ∷ [])) ≡ Some (record { begin = 64; size = 4; order = orders.Dos })
 unfolding span_of fits front_size long_in word_in

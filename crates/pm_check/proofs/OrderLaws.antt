@@ -1,4 +1,4 @@
--- An image that is turned twice is the image.
+-- An image that is converted twice is unchanged.
 use Rattle.std.proofs.Common.{arith, ◌≡◌, ◌∙◌, ◌+◌, ◌*◌, ◌/◌, ◌%◌, ◌<◌, ℕ, true, List, [], ◌∷◌, ◌++◌}
 use Rattle.std.proofs.Common.{length, map, refl, sym, ap, eqb, ltb}
 use Rattle.std.specs.Prelude.{slice_index}
@@ -10,7 +10,7 @@ use Rattle.pm_check.specs.Orders.{WorkedOrders, other_sector, place_in, place_in
 use Rattle.pm_check.specs.declared.order.Order.{Order}
 use Rattle.pm_check.specs.declared.order.Order.TheVariants as orders
 
--- the front of no bytes, and that of one byte more
+-- the first 0 bytes of the converted image, and one byte more
 pub front_none : (order : Order) (image : List ℕ) → [] ≡ turned_front order image 0
 unfolding turned_front
 front_none order image = refl
@@ -22,12 +22,12 @@ unfolding turned_front
 front_more order image made place from whole value =
     rw (whole, value) (sym (map-range_with_len_more _ 0 place place (omega arith)))
 
--- its length stays
+-- a conversion keeps the length
 pub turned_size : (order : Order) (image : List ℕ) → length (turned order image) ≡ length image
 unfolding turned turned_front
 turned_size order image = length-map-range_with_len _ 0 (length image)
 
--- a sector of a track is one of it, and the other of the other is the sector
+-- the sector exchanged with a sector is in the track, and exchanging twice gives the sector
 sector_inside : (sector : ℕ) → sector < 16 → other_sector sector < 16
 unfolding other_sector
 sector_inside sector inside =
@@ -38,7 +38,7 @@ unfolding other_sector
 sector_back sector inside =
     eqb-true _ _ (agree_below_at (λ sector. eqb (other_sector (other_sector sector)) sector) (λ sector. true) 16 sector refl inside)
 
--- track, sector and byte of a place that is made of them
+-- the track, the sector and the byte of an offset that is composed of them
 track_of : (track sector byte : ℕ) → sector < 16 → byte < 256 → (track * 4096 + (sector * 256 + byte)) / 4096 ≡ track
 track_of track sector byte few small = omega (arith, few, small)
 
@@ -72,7 +72,7 @@ word_back place = omega arith
 word_inside : (place words : ℕ) → place < words * 2 → place_in_word place < words * 2
 word_inside place words inside = omega (arith, inside)
 
--- a place of it is one of it
+-- the offset before the conversion is in the image
 pub place_inside : (order : Order) (size place : ℕ) → place < size → place_in order size place < size
 place_inside orders.Blocks size place inside = inside
 place_inside orders.Dos size place inside = cond_both (ltb place (size / 4096 * 4096)) _ _ (λ there. there < size)
@@ -80,7 +80,7 @@ place_inside orders.Dos size place inside = cond_both (ltb place (size / 4096 * 
 place_inside orders.Swapped size place inside = cond_both (ltb place (size / 2 * 2)) _ _ (λ there. there < size)
     (λ is. let here = word_inside place (size / 2) (ltb-true _ _ is) in omega (arith, here)) (λ is. inside)
 
--- and the place of that is the place
+-- and the offset before that conversion is the original offset
 pub place_back : (order : Order) (size place : ℕ) → place < size → place_in order size (place_in order size place) ≡ place
 place_back orders.Blocks size place inside = refl
 place_back orders.Dos size place inside =
@@ -92,13 +92,13 @@ place_back orders.Swapped size place inside =
     (λ is. cond-true _ _ _ (lt-ltb _ _ (word_inside place (size / 2) (ltb-true _ _ is))) ∙ word_back place)
     (λ is. cond-false _ _ _ is)
 
--- the byte at a place of it
+-- the byte at an offset of the converted image
 turned_at : (order : Order) (image : List ℕ) (place : ℕ) → place < length image
     → slice_index (turned order image) place ≡ slice_index image (place_in order (length image) place)
 unfolding turned turned_front
 turned_at order image place inside = get_or-map-range_with_len _ 0 (length image) place place 0 inside (omega arith)
 
--- the image is turned by its length
+-- the whole image is converted
 turned_over : (order : Order) (image : List ℕ) (size : ℕ) → size ≡ length image
     → map (λ place. slice_index image (place_in order size place)) (range_with_len 0 size) ≡ turned order image
 unfolding turned turned_front
@@ -118,7 +118,7 @@ unfolding turned turned_front
 turned_blocks image =
     sym (fill_by_all (λ place. slice_index image place) image (length image) 0 refl (λ place inside. refl))
 
--- sectors, places and bytes that are worked out
+-- worked examples of sectors, offsets and bytes
 table_worked : map other_sector (range_with_len 0 16)
     ≡ 0 ∷ 14 ∷ 13 ∷ 12 ∷ 11 ∷ 10 ∷ 9 ∷ 8 ∷ 7 ∷ 6 ∷ 5 ∷ 4 ∷ 3 ∷ 2 ∷ 1 ∷ 15 ∷ []
 unfolding other_sector

@@ -1,4 +1,4 @@
--- What loops over slots and files have done so far.
+-- One step of the loops over slots and files.
 use Rattle.std.proofs.Common.{◌≡◌, ◌<◌, ◌≤◌, ℕ, zero, suc, ◌+◌, ◌-◌, true, false, ltb, List, [], ◌∷◌, ◌++◌, length, drop, take, get_or}
 use Rattle.std.proofs.Common.{Option, None, Some, add-one, ap, append_assoc, arith, refl, inl, inr}
 use Rattle.std.proofs.Math.Seq.{drop-cons}
@@ -53,7 +53,7 @@ pub taken_length : (n : ℕ) (e : Entry) (why : Option SlotFinding) (ts : List T
 taken_length n e None ts = omega (arith, placed_length (record { slot = n; entry = e }) ts)
 taken_length n e (Some finding) ts = omega arith
 
--- ---- a file in its place
+-- ---- inserting a file
 
 pub placed-before : (t d : Taken) (ts : List Taken) (i : ℕ) → i < length ts → t.entry.first < (get_or ts i d).entry.first → placed t (drop i ts) ≡ t ∷ drop i ts
 unfolding placed

@@ -1,4 +1,4 @@
--- What loops over slots have found so far.
+-- One step of the loops over slots.
 use Rattle.std.proofs.Common.{◌≡◌, ◌<◌, ◌≤◌, ℕ, suc, ◌+◌, ◌-◌, List, [], ◌++◌, arith}
 use Rattle.pm_check.specs.Rules.{findings_from, slot_findings}
 use Rattle.pm_check.specs.Forms.{note_if}

@@ -1,4 +1,4 @@
--- Which entries of a directory make sense, each by itself, and in which order their files are taken.
+-- The valid entries of a directory, each checked by itself, and the order of their files.
 use Rattle.std.specs.Prelude.{ℕ, zero, suc, ◌+◌, ◌-◌, ◌==◌, ◌&&◌, ◌||◌, Bool, not, nat_lt, List, [], ◌∷◌, ◌++◌}
 use Rattle.std.specs.Prelude.{Option, None, Some, slice_index, if◌then◌else◌}
 use Rattle.std.specs.List.{find}
@@ -14,11 +14,12 @@ use Rattle.pm_check.specs.declared.believing.Taken.{Taken}
 
 -- ---- one entry
 
--- a slot that holds no entry: a name without characters, and blocks 0 to 0
+-- a slot without an entry: the name has no characters, and the blocks are 0 to 0
 abbrev pub is_empty : Entry → Bool
 is_empty e = (slice_index e.name 0 == 0) && (e.first == 0) && (e.end == 0)
 
--- the first rule that an entry breaks by itself, in an image of so many blocks whose files begin at a block or later
+-- the first rule that an entry breaks by itself, in an image of `blocks` blocks whose files begin at block `lowest` or
+-- later
 unfoldable pub why_left : ℕ → ℕ → Entry → Option SlotFinding
 why_left lowest blocks e =
     if nat_lt (slice_index e.name 0) 1 || nat_lt LONGEST_NAME (slice_index e.name 0)
@@ -30,41 +31,41 @@ why_left lowest blocks e =
 
 -- ---- the slots
 
--- the entry in slot n where it is left out
+-- the entry in slot `n` if it is left out
 abbrev pub left_of : ℕ → Bool → Option SlotFinding → List Left
 left_of n empty None = []
 left_of n empty (Some finding) = if empty then [] else record { slot = n; finding = finding } ∷ []
 
--- those in so many slots from slot n on
+-- the entries left out in the `left` slots from slot `n`
 unfoldable pub left_from : List ℕ → ℕ → ℕ → ℕ → ℕ → List Left
 left_from d lowest blocks n zero = []
 left_from d lowest blocks n (suc left) =
     left_of n (is_empty (entry_in d n)) (why_left lowest blocks (entry_in d n))
     ++ left_from d lowest blocks (n + 1) left
 
--- a file in its place among others in the order of their first blocks, behind those that begin where it does
+-- files in the order of their first blocks, with one more file; it comes after those that begin at the same block
 unfoldable pub placed : Taken → List Taken → List Taken
 placed t [] = t ∷ []
 placed t (other ∷ others) =
     if nat_lt t.entry.first other.entry.first then t ∷ other ∷ others else other ∷ placed t others
 
--- the entry in slot n where it is taken, among those that are
+-- the files with the entry in slot `n`, if it is valid
 abbrev pub taken_with : ℕ → Entry → Option SlotFinding → List Taken → List Taken
 taken_with n e None taken = placed (record { slot = n; entry = e }) taken
 taken_with n e (Some finding) taken = taken
 
--- those in so many slots from slot n on
+-- the files with the valid entries in the `left` slots from slot `n`
 unfoldable pub taken_from : List ℕ → ℕ → ℕ → ℕ → ℕ → List Taken → List Taken
 taken_from d lowest blocks n zero taken = taken
 taken_from d lowest blocks n (suc left) taken =
     taken_from d lowest blocks (n + 1) left
     (taken_with n (entry_in d n) (why_left lowest blocks (entry_in d n)) taken)
 
--- the blocks of files
+-- the number of blocks of files
 unfoldable pub blocks_of : List Taken → ℕ
 blocks_of [] = 0
 blocks_of (t ∷ ts) = t.entry.end - t.entry.first + blocks_of ts
 
--- the first of these files that has a block of another one in common with it
+-- the first file of `taken` that is in another slot than `t` and has a block in common with it
 unfoldable pub sharing : Taken → List Taken → Option Taken
 sharing t taken = find (λ other. not (other.slot == t.slot) && shares other.entry t.entry) taken

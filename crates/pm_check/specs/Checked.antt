@@ -1,4 +1,4 @@
--- What is said of an image: a line for each fault and each note, and a last line.
+-- The text of a check: a line for each fault and each note, and a last line.
 use Rattle.std.specs.Prelude.{ℕ, ◌==◌, List, [], ◌∷◌, ◌++◌, codes, length, if◌then◌else◌}
 use Rattle.std.specs.Fmt.{decimal}
 use Rattle.std.specs.List.{flat_map}
@@ -15,11 +15,11 @@ finding_line finding = finding_text finding ++ 10 ∷ []
 unfoldable pub note_line : Note → List ℕ
 note_line note = note_text note ++ 10 ∷ []
 
--- the last line, by the number of faults
+-- the last line for `count` faults
 abbrev pub last_line : ℕ → List ℕ
 last_line count = if count == 0 then codes "good" ++ 10 ∷ [] else codes "faults " ++ (decimal count ++ 10 ∷ [])
 
--- all that is said
+-- the whole text
 unfoldable pub check_text : List ℕ → List ℕ
 check_text image =
     flat_map finding_line (image_findings image)

@@ -1,5 +1,5 @@
--- Files of kind .2mg: a header that says where the blocks begin, how many bytes they have and in which order they
--- stand, the blocks, and what stands behind them.
+-- Files of kind .2mg: a header that states where the blocks begin, how many bytes they have and in which order they
+-- are; the blocks; and the bytes after them.
 use Rattle.std.specs.Prelude.{◌≡◌, ◌≤◌, ◌<◌, ℕ, ◌+◌, ◌*◌, ◌/◌, ◌%◌, ◌==◌, ◌&&◌, Bool, nat_le, nat_lt, codes}
 use Rattle.std.specs.Prelude.{List, [], ◌∷◌, ◌++◌}
 use Rattle.std.specs.Prelude.{Option, None, Some, drop, length, option_map, replicate, slice_range, take, if◌then◌else◌}
@@ -11,35 +11,35 @@ use Rattle.pm_check.specs.declared.headed.Span.{Span}
 use Rattle.pm_check.specs.declared.order.Order.{Order}
 use Rattle.pm_check.specs.declared.order.Order.TheVariants as orders
 
--- the order of a number, which stands at 12: 0 is that of DOS, 1 blocks in their order
+-- the order with this number, which is at offset 12: 0 is DOS sector order, 1 is blocks in order
 abbrev pub order_of : ℕ → Option Order
 order_of number = if number == 0 then Some orders.Dos else (if number == 1 then Some orders.Blocks else None)
 
--- whether 32 bytes are the front of a header that fits a file of so many bytes: it begins with 2IMG, and the blocks,
--- which begin where the bytes at 24 say, lie behind byte 51 and in the file
+-- whether 32 bytes begin a header that fits a file of `count` bytes: it begins with 2IMG, and the blocks, whose offset
+-- is at 24, are after byte 51 and in the file
 unfoldable pub fits : List ℕ → ℕ → Bool
 fits header count =
     bytes_eq (take 4 header) (codes "2IMG") && (nat_le 52 (front_begin header) && (nat_lt 0 (front_size header)
     && nat_le (front_begin header + front_size header) count))
 
--- what such a header says
+-- the position of the blocks that such a header states
 abbrev pub span_in : List ℕ → Option Span
 span_in header = option_map (λ order. record { begin = front_begin header; size = front_size header; order = order })
     (order_of (long_in header 12))
 
--- if it fits a file of so many bytes
+-- the same, if the header fits a file of `count` bytes
 abbrev pub span_fitting : List ℕ → ℕ → Option Span
 span_fitting header count = if fits header count then span_in header else None
 
--- what the header of a file says, if it has one that fits
+-- the position of the blocks, if a file has a header that fits
 unfoldable pub span_of : List ℕ → Option Span
 span_of file = if nat_lt (length file) 64 then None else span_fitting (take 32 file) (length file)
 
--- blocks that lie behind byte 51 of a file of so many bytes, and in it
+-- blocks that are after byte 51 of a file of `count` bytes, and in it
 abbrev pub Lies : ℕ → Span → Type 0
 Lies count span = (52 ≤ span.begin) × (span.begin + span.size ≤ count)
 
--- the volume in a file, its blocks in their order; no bytes where the file has no such header
+-- the volume in a file, with its blocks in order; no bytes if the file has no such header
 abbrev pub volume_at : Option Span → List ℕ → List ℕ
 volume_at None file = []
 volume_at (Some span) file = turned span.order (slice_range file span.begin (span.begin + span.size))
@@ -47,12 +47,12 @@ volume_at (Some span) file = turned span.order (slice_range file span.begin (spa
 unfoldable pub volume_in : List ℕ → List ℕ
 volume_in file = volume_at (span_of file) file
 
--- the four bytes of a number, the low one first
+-- the four bytes of a number, low byte first
 abbrev pub long_bytes : ℕ → List ℕ
 long_bytes number = number % 256 ∷ number / 256 % 256 ∷ number / 65536 % 256 ∷ number / 16777216 % 256 ∷ []
 
--- the header of a new file: 2IMG, PMCH for who made it, its 64 bytes, version 1, blocks in their order, no flags; how
--- many blocks there are, where they begin, and how many bytes they have; and zeros
+-- the header of a new file: 2IMG, PMCH for the program, its 64 bytes, version 1, blocks in order, no flags; the number
+-- of blocks, their offset, and their number of bytes; and zeros
 unfoldable pub plain_header : ℕ → List ℕ
 plain_header size =
     (50 ∷ 73 ∷ 77 ∷ 71 ∷ 80 ∷ 77 ∷ 67 ∷ 72 ∷ 64 ∷ 0 ∷ 1 ∷ 0 ∷ 1 ∷ 0 ∷ 0 ∷ 0 ∷ 0 ∷ 0 ∷ 0 ∷ 0 ∷ [])
@@ -61,8 +61,8 @@ plain_header size =
 unfoldable pub new_file : List ℕ → List ℕ
 new_file volume = plain_header (length volume) ++ volume
 
--- the file of a volume in the place of an old one: where that has as many bytes of blocks, all that stands around them
--- stays; else there is a new header
+-- the file of a volume that replaces an old file; if the blocks of the old file have as many bytes, all bytes around
+-- them are unchanged; otherwise the header is new
 abbrev pub filed_at : Option Span → List ℕ → List ℕ → List ℕ
 filed_at None old volume = new_file volume
 filed_at (Some span) old volume =
@@ -73,16 +73,17 @@ filed old volume = filed_at (span_of old) old volume
 
 -- ---- laws
 
--- a file of kind .2mg: its header says an order, blocks, where they begin and how many bytes they have, each below 256
+-- a file of kind .2mg, whose header states an order, a number of blocks, their offset and their number of bytes, each
+-- below 256
 abbrev pub example : ℕ → ℕ → ℕ → ℕ → List ℕ → List ℕ
 example order blocks begin size rest =
     50 ∷ 73 ∷ 77 ∷ 71 ∷ 1 ∷ 2 ∷ 3 ∷ 4 ∷ 64 ∷ 0 ∷ 1 ∷ 0 ∷ order ∷ 0 ∷ 0 ∷ 0 ∷ 5 ∷ 6 ∷ 7 ∷ 8 ∷ blocks ∷ 0 ∷ 0 ∷ 0
     ∷ begin ∷ 0 ∷ 0 ∷ 0 ∷ size ∷ 0 ∷ 0 ∷ 0 ∷ 9 ∷ 9 ∷ 9 ∷ 9 ∷ 9 ∷ 9 ∷ 9 ∷ 9 ∷ 9 ∷ 9 ∷ 9 ∷ 9 ∷ 9 ∷ 9 ∷ 9 ∷ 9
     ∷ 9 ∷ 9 ∷ 9 ∷ 9 ∷ 9 ∷ 9 ∷ 9 ∷ 9 ∷ 9 ∷ 9 ∷ 9 ∷ 9 ∷ 9 ∷ 9 ∷ 9 ∷ 9 ∷ rest
 
--- What is filed is read back. Where the file that is there has as many bytes of blocks its length stays, and all that
--- stands before and behind them. Headers of both orders, one that says blocks, and four that do not fit; and a file
--- with other blocks.
+-- A volume that is written reads back. If the blocks of the old file have as many bytes, the file keeps its length and
+-- all bytes before and after the blocks. The examples are headers of both orders, one that states the number of blocks,
+-- four that do not fit, and a file with other blocks.
 pub record WorkedHeaders : Type 0 where
   pub back : (old volume : List ℕ) → length volume < 4294967296 → volume_in (filed old volume) ≡ volume
   pub size : (old volume : List ℕ) (span : Span) → span_of old ≡ Some span → span.size ≡ length volume

@@ -1,4 +1,4 @@
--- What is said of each note, without the line feed.
+-- The text of each note, without the line feed.
 use Rattle.std.specs.Prelude.{ℕ, List, ◌++◌, codes}
 use Rattle.std.specs.Fmt.{decimal}
 use Rattle.pm_check.specs.declared.note.Form.{Form}
@@ -6,7 +6,7 @@ use Rattle.pm_check.specs.declared.note.Form.TheVariants.{Dos, Swapped, FrontBlo
 use Rattle.pm_check.specs.declared.note.Note.{Note}
 use Rattle.pm_check.specs.declared.note.Note.TheVariants as notes
 
--- the forms have the names by which examples/form.sh takes them
+-- the formats have the names that examples/form.sh accepts
 abbrev pub form_text : Form → List ℕ
 form_text Dos = codes "dos"
 form_text Swapped = codes "swapped"

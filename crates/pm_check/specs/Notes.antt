@@ -1,4 +1,4 @@
--- What may be of use to know of an image beside the rules that it breaks.
+-- Facts about an image that break no rule.
 use Rattle.std.specs.Prelude.{◌≤◌, ◌<◌, ℕ, zero, suc, ◌+◌, ◌-◌, ◌*◌, ◌/◌, ◌==◌, ◌&&◌, ◌||◌, Bool, not}
 use Rattle.std.specs.Prelude.{nat_le, nat_lt, List, [], ◌∷◌, ◌++◌, length, min, slice_index, slice_range}
 use Rattle.std.specs.Prelude.{if◌then◌else◌}
@@ -20,11 +20,11 @@ use Rattle.pm_check.specs.Rules.{directory_findings, slot_count}
 abbrev pub is_plain_character : ℕ → Bool
 is_plain_character c = nat_le 33 c && nat_le c 126
 
--- whether each byte of a name is one of 33 to 126
+-- whether each byte of a name is from 33 to 126
 unfoldable pub is_plain : List ℕ → Bool
 is_plain name = list_all is_plain_character name
 
--- the characters of the volume's name, at most 7
+-- the characters of the name of the volume, at most 7
 unfoldable pub header_name : List ℕ → List ℕ
 header_name d =
     slice_range d (HEADER_NAME + 1) (HEADER_NAME + 1 + min (slice_index d HEADER_NAME) LONGEST_VOLUME_NAME)
@@ -33,7 +33,7 @@ header_name d =
 abbrev pub shares : Entry → Entry → Bool
 shares a b = nat_lt a.first a.end && nat_lt b.first b.end && nat_lt a.first b.end && nat_lt b.first a.end
 
--- the same in words: a block that both have
+-- the same as a fact: a block that both files have
 pub record HaveBlock (a b : Entry) : Type 0 where
   pub block : ℕ
   pub from : a.first ≤ block
@@ -41,24 +41,24 @@ pub record HaveBlock (a b : Entry) : Type 0 where
   pub other_from : b.first ≤ block
   pub other_to : block < b.end
 
--- the file in slot n beside that in slot k
+-- the notes for the file in slot `n` and the file in slot `k`
 unfoldable pub pair_notes : List ℕ → ℕ → ℕ → List Note
 pair_notes d n k =
     note_if (shares (entry_in d n) (entry_in d k)) (notes.Shares n k)
     ++ note_if (is_same_name (characters_of (entry_in d n).name) (characters_of (entry_in d k).name))
     (notes.SameName n k)
 
--- beside those in so many slots from slot k on
+-- the notes for the file in slot `n` and the files in the `left` slots from slot `k`
 unfoldable pub pairs_from : List ℕ → ℕ → ℕ → ℕ → List Note
 pairs_from d n k zero = []
 pairs_from d n k (suc left) = pair_notes d n k ++ pairs_from d n (k + 1) left
 
--- the file in slot n: its name, and beside those in the slots before
+-- the notes for the file in slot `n`: its name, and what it has in common with the files before it
 unfoldable pub slot_notes : List ℕ → ℕ → List Note
 slot_notes d n =
     note_if (not (is_plain (characters_of (entry_in d n).name))) (notes.Name n) ++ pairs_from d n 1 (n - 1)
 
--- those in so many slots from slot n on
+-- the notes for the files in the `left` slots from slot `n`
 unfoldable pub notes_from : List ℕ → ℕ → ℕ → List Note
 notes_from d n zero = []
 notes_from d n (suc left) = slot_notes d n ++ notes_from d (n + 1) left
@@ -69,36 +69,36 @@ directory_notes d =
 
 -- ---- the second copy
 
--- whether a slot differs in two directories
+-- whether slot `n` differs in two directories
 unfoldable pub differs : List ℕ → List ℕ → ℕ → Bool
 differs d other n =
     not (bytes_eq (slice_range d (SLOT * n) (SLOT * n + SLOT)) (slice_range other (SLOT * n) (SLOT * n + SLOT)))
 
--- the slot that differs, slot 0 being the header
+-- the note for slot `n` if it differs; slot 0 is the header
 abbrev pub differing : ℕ → Note
 differing n = if n == 0 then notes.HeadersDiffer else notes.SlotsDiffer n
 
--- of so many slots from slot n on
+-- the notes for the `left` slots from slot `n`
 unfoldable pub differing_from : List ℕ → List ℕ → ℕ → ℕ → List Note
 differing_from d other n zero = []
 differing_from d other n (suc left) =
     note_if (differs d other n) (differing n) ++ differing_from d other (n + 1) left
 
--- whether a second copy breaks no rule in an image of so many blocks, and says itself that it is one
+-- whether a second copy breaks no rule in an image of `blocks` blocks and states that it is one
 unfoldable pub is_good_second : List ℕ → ℕ → Bool
 is_good_second second blocks =
     (files_begin second == PAST_SECOND) && (length (directory_findings second blocks) == 0)
 
--- how a second copy is
+-- the note for the state of a second copy
 abbrev pub copy_note : Bool → Note
 copy_note good = if good then notes.SecondGood else notes.SecondDamaged
 
--- that, and in which slots it differs; a second copy is there where the first says so, or where it is good
+-- that note, and the notes for the slots that differ; a second copy exists if the first copy says so or if it is good
 unfoldable pub second_notes : Bool → List ℕ → List ℕ → List Note
 second_notes good d second =
     if (files_begin d == PAST_SECOND) || good then copy_note good ∷ differing_from d second 0 78 else []
 
--- that of an image, where it is long enough
+-- the notes for the second copy of an image, if the image is long enough
 unfoldable pub copies_notes : List ℕ → List Note
 copies_notes image =
     if nat_lt (length image) SECOND_END then []
@@ -106,7 +106,7 @@ copies_notes image =
 
 -- ---- the image
 
--- its other forms; and where it has a directory, that and its second copy
+-- the notes for the other formats of an image, and for its directory and its second copy if it has a directory
 unfoldable pub image_notes : List ℕ → List Note
 image_notes image =
     form_notes image

@@ -1,4 +1,4 @@
--- What is said of each entry.
+-- The lines of a salvage.
 use Rattle.std.specs.Prelude.{ℕ, ◌+◌, nat_lt, List, [], ◌∷◌, ◌++◌, codes, Option, None, Some}
 use Rattle.std.specs.Prelude.{if◌then◌else◌}
 use Rattle.std.specs.Fmt.{decimal}
@@ -8,11 +8,12 @@ use Rattle.pm_check.specs.declared.believing.Taken.{Taken}
 use Rattle.pm_check.specs.declared.report.Doubt.{Doubt}
 use Rattle.pm_check.specs.declared.report.Doubt.TheVariants.{Sure, Shares, Behind}
 
--- an entry that is left out, and why
+-- the line of an entry that is left out, and the reason
 unfoldable pub left_line : Left → List ℕ
 left_line left = codes "slot " ++ (decimal left.slot ++ (codes " left out, " ++ (slot_text left.finding ++ 10 ∷ [])))
 
--- why a file is doubted: it has a block in common with another one, or its slot is behind those that the header counts
+-- the reason why a file is suspect: it has a block in common with another file, or the header states fewer files than
+-- its slot
 abbrev pub doubt_of : ℕ → ℕ → Option Taken → Doubt
 doubt_of count slot (Some other) = Shares other.slot
 doubt_of count slot None = if nat_lt count slot then Behind else Sure
@@ -22,18 +23,18 @@ doubt_text Sure = []
 doubt_text (Shares slot) = codes ", doubted, shares blocks with slot " ++ decimal slot
 doubt_text Behind = codes ", doubted, behind the files of the header"
 
--- a file that is taken, and under which name
+-- the line of a file that is copied under this name
 unfoldable pub taken_line : ℕ → List ℕ → Doubt → List ℕ
 taken_line slot name doubt =
     codes "slot " ++ (decimal slot ++ (codes " taken as " ++ (name ++ (doubt_text doubt ++ 10 ∷ []))))
 
--- how many files are taken, left out and doubted
+-- the numbers of files copied, of entries left out and of suspect files
 unfoldable pub last_line : ℕ → ℕ → ℕ → List ℕ
 last_line files left doubted =
     codes "files " ++ (decimal files ++ (codes " left out " ++ (decimal left ++ (codes " doubted "
     ++ (decimal doubted ++ 10 ∷ [])))))
 
--- how many are doubted with one more
+-- the number of suspect files after one more file
 abbrev pub counted : ℕ → Doubt → ℕ
 counted doubted Sure = doubted
 counted doubted (Shares slot) = doubted + 1

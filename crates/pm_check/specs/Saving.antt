@@ -1,4 +1,4 @@
--- The volume that is saved of an image.
+-- The volume that is salvaged from an image.
 use Rattle.std.specs.Prelude.{◌≡◌, ℕ, ◌+◌, ◌/◌, Bool, nat_lt, List, [], ◌∷◌, ◌++◌, length, max, min, Option, None, Some}
 use Rattle.std.specs.Prelude.{Result, Ok, Err, if◌then◌else◌, unwrap_or}
 use Rattle.std.specs.List.{flat_map}
@@ -21,22 +21,22 @@ use Rattle.pm_check.specs.declared.believing.Taken.{Taken}
 
 -- ---- the files
 
--- the bytes of a file of an image
+-- the bytes of a file of an image, or no bytes if they are not in the image
 unfoldable pub bytes_of : List ℕ → Entry → List ℕ
 bytes_of image e = unwrap_or (file_bytes image e) []
 
--- a volume with the file of an entry: its kind, its bytes and its date, under a name that no file there has
+-- a volume with the file of an entry, with its kind, bytes and date, under a name that no file of the volume has
 unfoldable pub saved_one : List ℕ → List ℕ → Entry → Result (List ℕ) VolumeFault
 saved_one image volume e =
     added volume (free_name volume (characters_of e.name)) e.kind (bytes_of image e) e.date
 
--- a volume, what is said, and how many files are doubted
+-- a volume, the text, and the number of suspect files
 pub record Saved : Type 0 where
   pub volume : List ℕ
   pub text : List ℕ
   pub doubted : ℕ
 
--- what comes behind a volume, or why there is none
+-- the next step after a volume, or the fault that prevents the volume
 abbrev pub behind : Result (List ℕ) VolumeFault → (List ℕ → Result Saved VolumeFault) → Result Saved VolumeFault
 behind (Ok volume) next = next volume
 behind (Err fault) next = Err fault
@@ -55,11 +55,11 @@ saved_from image all count (t ∷ ts) s =
 
 -- ---- the volume
 
--- the new volume's number of blocks: as many as the image has, and more where the files need more
+-- the number of blocks of the new volume: as many as the image has, or more if the files need more
 unfoldable pub room_for : ℕ → List Taken → ℕ
 room_for blocks taken = min (max blocks (PAST_DIRECTORY + blocks_of taken)) 65535
 
--- a new volume, or why there is none
+-- a new volume, or the fault that prevents it
 abbrev pub blank : Option VolumeFault → List ℕ → ℕ → Result (List ℕ) VolumeFault
 blank None name blocks = Ok (blank_image name blocks)
 blank (Some fault) name blocks = Err fault
@@ -67,7 +67,7 @@ blank (Some fault) name blocks = Err fault
 abbrev pub new_volume : List ℕ → ℕ → Result (List ℕ) VolumeFault
 new_volume name blocks = blank (blank_fault name blocks) name blocks
 
--- with the last line
+-- the result with the last line
 abbrev pub finished : ℕ → ℕ → Result Saved VolumeFault → Result Saved VolumeFault
 finished files left (Ok s) = Ok (record {
   volume = s.volume;
@@ -76,24 +76,24 @@ finished files left (Ok s) = Ok (record {
 })
 finished files left (Err fault) = Err fault
 
--- of these entries of an image
+-- the volume for these entries of an image
 unfoldable pub saved : List ℕ → List ℕ → ℕ → ℕ → List Taken → List Left → Result Saved VolumeFault
 saved image name blocks count taken left =
     finished (length taken) (length left) (behind (new_volume name (room_for blocks taken)) (λ volume.
     saved_from image taken count taken
     (record { volume = volume; text = flat_map left_line left; doubted = 0 })))
 
--- by a directory of an image of so many blocks, whose files begin at a block or later
+-- the volume by a directory of an image of `blocks` blocks, whose files begin at block `lowest` or later
 unfoldable pub saved_by : List ℕ → List ℕ → ℕ → ℕ → Result Saved VolumeFault
 saved_by image d lowest blocks =
     saved image (volume_name (header_name d)) blocks (file_count d) (taken_from d lowest blocks 1 77 [])
     (left_from d lowest blocks 1 77)
 
--- the whole blocks of an image, at most 65,535
+-- the number of whole blocks of an image, at most 65,535
 abbrev pub image_blocks : List ℕ → ℕ
 image_blocks image = min (length image / BLOCK) 65535
 
--- by the first copy of the directory, or the second; an image that has none is too short
+-- the volume by the first or the second copy of the directory; an image without that copy is too short
 unfoldable pub salvaged : List ℕ → Bool → Result Saved VolumeFault
 salvaged image second =
     if second then (if nat_lt (length image) SECOND_END then Err TooShort
@@ -101,7 +101,7 @@ salvaged image second =
     else (if nat_lt (length image) DIRECTORY_END then Err TooShort
     else saved_by image (directory_of image) PAST_DIRECTORY (image_blocks image))
 
--- an image and a text are those of a saved volume
+-- an image and a text are those of a salvaged volume
 abbrev pub IsSaved : List ℕ → List ℕ → Result Saved VolumeFault → Type 0
 IsSaved image text (Ok s) = (image ≡ s.volume) × (text ≡ s.text)
 IsSaved image text (Err fault) = ⊥

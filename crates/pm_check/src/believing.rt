@@ -1,4 +1,4 @@
-//! Which entries of a directory make sense, each by itself.
+//! The valid entries of a directory. Each entry is checked by itself.
 ghost use Rattle.std.specs.Prelude.{◌≡◌, ◌+◌, ◌≤◌, ◌++◌, IfOk, OnOk, [], length};
 ghost use Rattle.pm_volume.specs.declared.fields.TheConstants.{DIRECTORY_SIZE, MOST_FILES};
 ghost use Rattle.pm_check.specs.Believing.{is_empty, left_from, left_of, placed, sharing, taken_from, taken_with};
@@ -10,32 +10,33 @@ use crate::rules::has_wrong_last;
 use pm_volume::{Entry, entry_at};
 use std::alloc::{AllocError, Global};
 
-/// An entry that is left out.
+/// An entry that is not copied to the new volume.
 #[derive(Clone, Copy)]
 pub struct Left {
-    /// Its slot.
+    /// The slot of the entry.
     pub slot: u16,
-    /// The first rule that it breaks by itself.
+    /// The first rule that the entry breaks by itself.
     pub finding: SlotFinding,
 }
 
-/// A file that is taken.
+/// A file that is copied to the new volume.
 #[derive(Clone, Copy)]
 pub struct Taken {
-    /// Its slot.
+    /// The slot of the entry.
     pub slot: u16,
-    /// Its entry.
+    /// The entry.
     pub entry: Entry,
 }
 
-// Whether a slot holds no entry.
+// Whether a slot contains no entry.
 fn is_empty(entry: &Entry) -> bool
     ensures value { result ≡ is_empty entry.now }
 {
     entry.name[0] == 0 && entry.first == 0 && entry.end == 0
 }
 
-// The first rule that an entry breaks by itself.
+// Returns the first rule that an entry breaks by itself, in an image of `blocks` blocks whose files begin at block
+// `lowest` or later.
 #[tactic(auto, unfolding(crate::specs::Believing::why_left))]
 fn why_left(lowest: u16, blocks: u16, entry: &Entry) -> Option<SlotFinding>
     ensures finding { result ≡ why_left lowest blocks entry.now }
@@ -56,7 +57,7 @@ fn why_left(lowest: u16, blocks: u16, entry: &Entry) -> Option<SlotFinding>
     }
 }
 
-// Adds the entry in a slot where it is left out.
+// Appends the entry in slot `slot` if it breaks the rule `why` and the slot is not empty.
 fn push_left(
     left: &mut Vec<Left>,
     slot: u16,
@@ -71,7 +72,7 @@ fn push_left(
     }
 }
 
-// Puts a file in its place among others in the order of their first blocks.
+// Inserts a file before the first file that has a higher first block.
 fn place(taken: &mut Vec<Taken>, file: Taken) -> Result<(), AllocError>
     ensures placed { OnOk result (taken.new.items ≡ placed file taken.old.items) }
 {
@@ -84,7 +85,7 @@ fn place(taken: &mut Vec<Taken>, file: Taken) -> Result<(), AllocError>
     Ok(taken.push(file)?)
 }
 
-// Adds the entry in a slot where it is taken.
+// Inserts the entry in slot `slot` if it breaks no rule.
 fn push_taken(
     taken: &mut Vec<Taken>,
     slot: u16,
@@ -99,7 +100,11 @@ fn push_taken(
     }
 }
 
-/// The files that are taken, in the order of their first blocks, and the entries that are left out, by their slots.
+/// Returns the files to copy and the entries to leave out. The files are in the order of their first blocks, the
+/// entries in the order of their slots.
+///
+/// `directory` is a directory of 2,048 bytes in an image of `blocks` blocks whose files begin at block `lowest` or
+/// later.
 pub fn taken_and_left(
     alloc: Global,
     directory: &[u8],
@@ -122,7 +127,7 @@ pub fn taken_and_left(
     Ok((taken, left))
 }
 
-/// The first of these files that has a block of another one in common with it.
+/// Returns the first file of `taken` that is in another slot than `file` and has a block in common with it.
 #[tactic(auto, unfolding(crate::specs::Believing::sharing))]
 pub fn sharing(file: &Taken, taken: &[Taken]) -> Option<Taken>
     ensures first { result ≡ sharing file.now taken.now }

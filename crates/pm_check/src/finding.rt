@@ -1,4 +1,4 @@
-//! Rules of a directory that an image breaks, and how each is said.
+//! The rules of a volume that an image breaks, and their texts.
 ghost use Rattle.std.specs.Prelude.{Some};
 ghost use Rattle.pm_check.specs.Findings.{finding_text, slot_text};
 
@@ -7,19 +7,19 @@ use std::fmt;
 /// A rule that an image breaks.
 #[derive(Clone, Copy)]
 pub enum Finding {
-    /// It has so many bytes, which are no whole blocks.
+    /// The number of bytes of the image is this one, not a multiple of 512.
     NotBlocks(usize),
-    /// It has so many bytes, fewer than 6 blocks.
+    /// The number of bytes of the image is this one, below the 6 blocks of the shortest volume.
     TooShort(usize),
-    /// The volume's name has so many characters.
+    /// The name of the volume has this number of characters.
     VolumeName(u8),
-    /// Files begin at this block.
+    /// The directory states that files begin at this block.
     FilesBegin(u16),
-    /// The volume has so many blocks, and files begin at this one.
+    /// The volume has the first number of blocks, and files begin at the second.
     FewBlocks(u16, u16),
-    /// The volume has so many blocks, and the image so many.
+    /// The directory states the first number of blocks, and the image has the second.
     PastImage(u16, usize),
-    /// There are so many files.
+    /// The directory states this number of files.
     ManyFiles(u16),
     /// The entry in this slot breaks a rule.
     Slot(u16, SlotFinding),
@@ -28,17 +28,17 @@ pub enum Finding {
 /// A rule that an entry breaks.
 #[derive(Clone, Copy)]
 pub enum SlotFinding {
-    /// Its name has so many characters.
+    /// The name has this number of characters.
     Name(u8),
-    /// It begins at this block, and files begin at that.
+    /// The entry begins at the first block, and files begin at the second.
     First(u16, u16),
-    /// It ends before this block, and begins at that.
+    /// The entry ends before the first block, and begins at the second.
     End(u16, u16),
-    /// It ends before this block, and the volume before that.
+    /// The entry ends before the first block, and the volume before the second.
     PastVolume(u16, u16),
-    /// Its last block has so many bytes.
+    /// The last block has this number of bytes.
     LastBytes(u16),
-    /// It begins at this block, and the entry before it ends before that.
+    /// The entry begins at the first block, and the entry in the slot before ends before the second.
     Order(u16, u16),
 }
 

@@ -1,4 +1,5 @@
-//! Other forms of images: a form is told where the directory's header stands at the place where that form has it.
+//! Other formats of images. A format is recognized by a valid directory header at the offset that the format has for
+//! it.
 ghost use Rattle.std.specs.Prelude.{◌≡◌, ◌+◌, ◌≤◌, ◌<◌, ◌++◌, OnOk, length};
 ghost use Rattle.std.specs.Bool.{OnTrue};
 ghost use Rattle.pm_volume.specs.declared.fields.TheConstants.{SLOT};
@@ -14,14 +15,13 @@ use pm_volume::fields::{
 };
 use std::alloc::AllocError;
 
-/// How many bytes a disk of 280 blocks has.
+/// The number of bytes of a disk of 280 blocks.
 const SECTORS: usize = 143360;
 
-/// Where the header of a directory stands on a disk in the order of DOS: in the sector that is the first half of block
-/// 2.
+/// The offset of the directory header on a disk in DOS sector order: the sector that is the first half of block 2.
 const SECTORS_HEADING: usize = 2816;
 
-/// Adds a note where something holds.
+/// Appends `note` if `holds` is true.
 pub fn push_note(notes: &mut Vec<Note>, holds: bool, note: Note) -> Result<(), AllocError>
     ensures more { OnOk result (notes.new.items ≡ notes.old.items ++ note_if holds note) }
 {
@@ -31,7 +31,7 @@ pub fn push_note(notes: &mut Vec<Note>, holds: bool, note: Note) -> Result<(), A
     Ok(())
 }
 
-// A word of a header, whose bytes may be exchanged.
+// Returns the word of a header at offset `place`. `is_swapped` states whether the bytes of each word are exchanged.
 #[tactic(auto, unfolding(crate::specs::Forms::heading_word))]
 fn heading_word(header: &[u8], place: usize, is_swapped: bool) -> u16
     requires room { place + 2 ≤ length header.now }
@@ -45,7 +45,7 @@ fn heading_word(header: &[u8], place: usize, is_swapped: bool) -> u16
     }
 }
 
-// How many characters the volume's name has.
+// Returns the length of the name of the volume in characters.
 fn heading_length(header: &[u8], is_swapped: bool) -> u8
     requires size { length header.now ≡ SLOT }
     ensures length { result ≡ heading_length is_swapped header.now }
@@ -53,7 +53,7 @@ fn heading_length(header: &[u8], is_swapped: bool) -> u8
     if is_swapped { header[7] } else { header[6] }
 }
 
-// Whether 26 bytes are the header of a volume for an image of so many blocks.
+// Whether 26 bytes are the header of a volume in an image of `blocks` blocks.
 #[tactic(auto, unfolding(crate::specs::Forms::is_heading))]
 fn is_heading(header: &[u8], blocks: usize, is_swapped: bool) -> bool
     requires size { length header.now ≡ SLOT }
@@ -71,7 +71,7 @@ fn is_heading(header: &[u8], blocks: usize, is_swapped: bool) -> bool
         && files <= MOST_FILES
 }
 
-// Whether an image has one at a place.
+// Whether an image has such a header at offset `place`.
 #[tactic(auto, unfolding(crate::specs::Forms::has_heading))]
 fn has_heading(image: &[u8], place: usize, blocks: usize, is_swapped: bool) -> bool
     requires place { place ≤ 4294970111 }
@@ -83,7 +83,7 @@ fn has_heading(image: &[u8], place: usize, blocks: usize, is_swapped: bool) -> b
     is_heading(&image[place..place + SLOT], blocks, is_swapped)
 }
 
-// Whether so many bytes from a place on are blocks in their order.
+// Whether the `size` bytes of an image from offset `begin` are blocks in order.
 fn is_in_blocks(image: &[u8], begin: usize, size: usize) -> bool
     requires place { begin < 4294967296 }
     ensures value { result ≡ is_in_blocks image.now begin size }
@@ -91,7 +91,7 @@ fn is_in_blocks(image: &[u8], begin: usize, size: usize) -> bool
     has_heading(image, begin + DIRECTORY, size / BLOCK, false)
 }
 
-// Whether they are blocks with the bytes of each word exchanged.
+// Whether these bytes are blocks with the bytes of each word exchanged.
 fn is_swapped(image: &[u8], begin: usize, size: usize) -> bool
     requires place { begin < 4294967296 }
     ensures value { result ≡ is_swapped image.now begin size }
@@ -99,7 +99,7 @@ fn is_swapped(image: &[u8], begin: usize, size: usize) -> bool
     has_heading(image, begin + DIRECTORY, size / BLOCK, true)
 }
 
-// Whether they are a disk in the order of DOS.
+// Whether these bytes are a disk in DOS sector order.
 fn is_in_sectors(image: &[u8], begin: usize, size: usize) -> bool
     requires place { begin < 4294967296 }
     ensures value { result ≡ is_in_sectors image.now begin size }
@@ -107,7 +107,7 @@ fn is_in_sectors(image: &[u8], begin: usize, size: usize) -> bool
     size == SECTORS && has_heading(image, begin + SECTORS_HEADING, 280, false)
 }
 
-/// Four bytes, the low one first.
+/// Returns the number in the four bytes at offset `place`, low byte first.
 #[tactic(auto, unfolding(crate::specs::Forms::long_in))]
 pub(crate) fn long(image: &[u8], place: usize) -> usize
     requires room { place + 4 ≤ length image.now }
@@ -117,7 +117,7 @@ pub(crate) fn long(image: &[u8], place: usize) -> usize
     usize::from(word(image, place)) + 65536 * usize::from(word(image, place + 2))
 }
 
-/// How many bytes the blocks behind a header of an image's file have.
+/// Returns the number of bytes of the blocks, as the header of a .2mg file states it.
 #[tactic(auto, unfolding(crate::specs::Forms::front_size))]
 pub(crate) fn front_size(image: &[u8]) -> usize
     requires room { 32 ≤ length image.now }
@@ -132,7 +132,7 @@ pub(crate) fn front_size(image: &[u8]) -> usize
     }
 }
 
-// Whether an image begins with a header of an image's file.
+// Whether an image begins with the header of a .2mg file.
 #[tactic(auto, unfolding(crate::specs::Forms::has_front))]
 fn has_front(image: &[u8]) -> bool
     ensures value { result ≡ has_front image.now }
@@ -146,7 +146,7 @@ fn has_front(image: &[u8]) -> bool
     &image[..4] == b"2IMG".as_slice() && 52 <= begin && 0 < size && begin + size <= image.len()
 }
 
-// Adds the forms behind a header of an image's file.
+// Appends the formats after the header of a .2mg file.
 #[tactic(auto, unfolding(crate::specs::Forms::front_notes))]
 fn push_front(notes: &mut Vec<Note>, image: &[u8]) -> Result<(), AllocError>
     requires room { 64 ≤ length image.now }
@@ -162,7 +162,7 @@ fn push_front(notes: &mut Vec<Note>, image: &[u8]) -> Result<(), AllocError>
     push_note(notes, is_turned, Note::Form(Form::FrontSwapped))
 }
 
-/// Adds the other forms that an image may have.
+/// Appends the other formats that an image may have.
 #[tactic(auto, unfolding(crate::specs::Forms::form_notes))]
 pub fn push_forms(notes: &mut Vec<Note>, image: &[u8]) -> Result<(), AllocError>
     ensures more { OnOk result (notes.new.items ≡ notes.old.items ++ form_notes image.now) }
@@ -177,7 +177,7 @@ pub fn push_forms(notes: &mut Vec<Note>, image: &[u8]) -> Result<(), AllocError>
     Ok(())
 }
 
-// The first form behind a header of an image's file that fits.
+// Returns the first matching format after the header of a .2mg file.
 #[tactic(auto, unfolding(crate::specs::Forms::front_form))]
 fn front_form(image: &[u8]) -> Option<Form>
     requires room { 64 ≤ length image.now }
@@ -196,8 +196,8 @@ fn front_form(image: &[u8]) -> Option<Form>
     }
 }
 
-/// The form in which an image has the header of a directory, if it is another than blocks in their order: the first
-/// that `check` notes.
+/// Returns the first other format in which an image has a directory header. It is the first format that `check` notes.
+/// Returns None if there is no such format. Blocks in order from the first byte are not another format.
 #[tactic(auto, unfolding(crate::specs::Forms::form_seen))]
 pub fn form_seen(image: &[u8]) -> Option<Form>
     ensures form { result ≡ form_seen image.now }

@@ -1,5 +1,5 @@
-//! Files of kind .2mg: a header that says where the blocks begin, how many bytes they have and in which order they
-//! stand.
+//! Files of kind .2mg. Their header states where the blocks begin, how many bytes they have and in which order they
+//! are.
 ghost use Rattle.std.specs.Prelude.{◌≡◌, ◌+◌, ◌≤◌, ◌<◌, IfOk, IfSome, length};
 ghost use Rattle.pm_bytes.specs.Words.{written};
 ghost use Rattle.pm_check.specs.Headed.{Lies, filed, fits, long_bytes, new_file, order_of, span_fitting, span_of};
@@ -10,27 +10,27 @@ use crate::order::Order;
 use pm_bytes::{BLOCK, set_bytes};
 use std::alloc::{AllocError, Global};
 
-/// How many bytes a header has.
+/// The size of a header in bytes.
 const HEADER: usize = 64;
 
-/// The first bytes of a new header: its letters and those of who made it, how many bytes it has, version 1, blocks in
-/// their order, and no flags.
+/// The first bytes of a new header: the letters of the format, the letters of the program, the size of the header,
+/// version 1, blocks in order, and no flags.
 const FRONT: [u8; 20] = [
     50, 73, 77, 71, 80, 77, 67, 72, 64, 0, 1, 0, 1, 0, 0, 0, 0, 0, 0, 0,
 ];
 
-/// What a header says of the blocks behind it.
+/// The position of the blocks, as a header states it.
 #[derive(Clone, Copy)]
 pub struct Span {
-    /// Where they begin.
+    /// The offset of the blocks in bytes.
     pub begin: usize,
-    /// How many bytes they have.
+    /// The number of bytes of the blocks.
     pub size: usize,
-    /// The order in which they stand.
+    /// The order of the blocks.
     pub order: Order,
 }
 
-/// The order of a number.
+/// Returns the order with this number.
 fn order_of(number: usize) -> Option<Order>
     ensures value { result ≡ order_of number }
 {
@@ -41,7 +41,7 @@ fn order_of(number: usize) -> Option<Order>
     }
 }
 
-/// Whether 32 bytes are the front of a header that fits a file of so many bytes.
+/// Whether 32 bytes begin a header that fits a file of `count` bytes.
 #[tactic(auto, unfolding(crate::specs::Headed::fits))]
 fn fits(header: &[u8], count: usize) -> bool
     requires room { length header.now ≡ 32 }
@@ -52,7 +52,7 @@ fn fits(header: &[u8], count: usize) -> bool
     &header[..4] == b"2IMG".as_slice() && 52 <= begin && 0 < size && begin + size <= count
 }
 
-/// What a header says whose first 32 bytes these are, if it fits a file of so many bytes.
+/// Returns the position of the blocks if these 32 bytes begin a header that fits a file of `count` bytes.
 fn span_from(header: &[u8], count: usize) -> Option<Span>
     requires room { length header.now ≡ 32 }
     ensures value { result ≡ span_fitting header.now count }
@@ -68,7 +68,7 @@ fn span_from(header: &[u8], count: usize) -> Option<Span>
     })
 }
 
-/// What the header of a file says, if it has one that fits.
+/// Returns the position of the blocks if a file has a header that fits.
 #[tactic(auto, unfolding(crate::specs::Headed::span_of), using(crate::proofs::HeadedLaws::span_lies, crate::proofs::HeadedLaws::front_of_32))]
 fn span_of(file: &[u8]) -> Option<Span>
     ensures value { result ≡ span_of file.now }
@@ -80,8 +80,12 @@ fn span_of(file: &[u8]) -> Option<Span>
     span_from(&file[..32], file.len())
 }
 
-/// The volume in a file, its blocks in their order. No bytes where the file has no such header. An error is want of
-/// memory.
+/// Returns the volume in a file of kind .2mg, with its blocks in order. The volume has no bytes if the file has no such
+/// header.
+///
+/// # Errors
+///
+/// `AllocError`: memory was refused.
 #[tactic(auto, unfolding(crate::specs::Headed::volume_in))]
 pub fn volume_in(alloc: Global, file: &[u8]) -> Result<Vec<u8>, AllocError>
     ensures volume { IfOk result (λ made. made.items ≡ volume_in file.now) }
@@ -94,7 +98,7 @@ pub fn volume_in(alloc: Global, file: &[u8]) -> Result<Vec<u8>, AllocError>
     }
 }
 
-/// The four bytes of a number, the low one first.
+/// Returns the four bytes of a number, low byte first.
 fn long_bytes(number: usize) -> [u8; 4]
     ensures bytes { result ≡ long_bytes number }
 {
@@ -106,7 +110,7 @@ fn long_bytes(number: usize) -> [u8; 4]
     ]
 }
 
-/// A new file for a volume.
+/// Creates a new file for a volume.
 #[tactic(auto, unfolding(crate::specs::Headed::new_file, crate::specs::Headed::plain_header))]
 fn new_file(alloc: Global, volume: &[u8]) -> Result<Vec<u8>, AllocError>
     ensures file { IfOk result (λ file. file.items ≡ new_file volume.now) }
@@ -121,7 +125,7 @@ fn new_file(alloc: Global, volume: &[u8]) -> Result<Vec<u8>, AllocError>
     Ok(file)
 }
 
-/// A file with other blocks: what stands around them stays.
+/// Returns a copy of a file with other blocks at offset `begin`. All other bytes are unchanged.
 fn exchanged(alloc: Global, file: &[u8], begin: usize, blocks: &[u8]) -> Result<Vec<u8>, AllocError>
     requires room { begin + length blocks.now ≤ length file.now }
     ensures file { IfOk result (λ made. made.items ≡ written file.now begin blocks.now) }
@@ -132,8 +136,14 @@ fn exchanged(alloc: Global, file: &[u8], begin: usize, blocks: &[u8]) -> Result<
     Ok(made)
 }
 
-/// The file of a volume, in the place of an old one: header and all else that stands around the blocks of that one stay
-/// where they have as many bytes. Else the volume has a new header. An error is want of memory.
+/// Returns the file of kind .2mg for a volume that replaces the file `old`.
+///
+/// If the blocks of `old` have as many bytes as `volume`, the header and all other bytes around them are unchanged.
+/// Otherwise the file gets a new header. The result contains `volume` if it has fewer than 4,294,967,296 bytes.
+///
+/// # Errors
+///
+/// `AllocError`: memory was refused.
 #[tactic(auto, unfolding(crate::specs::Headed::filed), using(crate::proofs::OrderLaws::turned_size, crate::proofs::HeadedLaws::filed_back))]
 pub fn filed(alloc: Global, old: &[u8], volume: &[u8]) -> Result<Vec<u8>, AllocError>
     ensures file { IfOk result (λ file. file.items ≡ filed old.now volume.now) }

@@ -1,5 +1,7 @@
-//! What is wrong with the image of a volume, line by line, and in which other form it may be one; and the files of one
-//! whose directory is damaged, saved into a new volume: each whose entry makes sense by itself.
+//! Checks of images of volumes.
+//!
+//! `check` reports what is wrong with an image, and in which other format it may be a volume. `salvage` copies the
+//! files of a damaged image to a new volume. It copies each file whose entry is valid by itself.
 #![tactic(auto)]
 
 mod believing;

@@ -1,11 +1,11 @@
-//! The names of saved files.
+//! The names of salvaged files.
 ghost use Rattle.std.specs.Prelude.{◌≡◌, ◌++◌, IfOk, OnOk, string_bytes};
 ghost use Rattle.pm_check.specs.Naming.{free_name, good_character, good_name, numbered, volume_name};
 
 use pm_volume::Volume;
 use std::alloc::{AllocError, Global};
 
-// A character made good.
+// Returns a character in upper case, or `-` if a new name cannot contain it.
 fn good_character(byte: u8) -> u8
     ensures value { result ≡ good_character byte }
 {
@@ -16,7 +16,7 @@ fn good_character(byte: u8) -> u8
     }
 }
 
-// Adds the characters of a name, made good.
+// Appends the characters of a name, each converted by `good_character`.
 fn push_good(text: &mut String, name: &[u8]) -> Result<(), AllocError>
     ensures text { OnOk result (string_bytes text.new ≡ string_bytes text.old ++ good_name name.now) }
 {
@@ -26,7 +26,7 @@ fn push_good(text: &mut String, name: &[u8]) -> Result<(), AllocError>
     Ok(())
 }
 
-// A name with a number behind it; number 0 is the name itself.
+// Returns a name that ends with the number `n`. Number 0 is the name itself.
 #[tactic(auto, unfolding(crate::specs::Naming::numbered), using(crate::proofs::Names::padded_two))]
 fn numbered(alloc: Global, name: &[u8], n: u16) -> Result<String, AllocError>
     ensures name { IfOk result (λ text. string_bytes text ≡ numbered name.now n) }
@@ -41,7 +41,8 @@ fn numbered(alloc: Global, name: &[u8], n: u16) -> Result<String, AllocError>
     Ok(text)
 }
 
-/// The first name with a number, from 0 on, that no file of a volume has.
+/// Returns the first of the names with the numbers 0 to 76 that no file of the volume has. Returns the name with number
+/// 77 if there is none.
 pub fn free_name(alloc: Global, volume: &Volume, name: &[u8]) -> Result<String, AllocError>
     ensures name { IfOk result (λ text. string_bytes text ≡ free_name volume.now name.now) }
 {
@@ -54,7 +55,7 @@ pub fn free_name(alloc: Global, volume: &Volume, name: &[u8]) -> Result<String, 
     numbered(alloc, name, 77)
 }
 
-/// The name of the new volume.
+/// Returns the name of the new volume: `name` in valid characters, or `SALVAGE` if `name` is empty.
 #[tactic(auto, unfolding(crate::specs::Naming::volume_name))]
 pub fn volume_name(alloc: Global, name: &[u8]) -> Result<String, AllocError>
     ensures name { IfOk result (λ text. string_bytes text ≡ volume_name name.now) }

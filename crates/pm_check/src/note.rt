@@ -1,44 +1,44 @@
-//! What may be of use to know of an image beside the rules that it breaks, and how each is said.
+//! Facts about an image that break no rule, and their texts.
 ghost use Rattle.std.specs.Prelude.{Some};
 ghost use Rattle.pm_check.specs.NoteTexts.{form_text, note_text};
 
 use std::fmt;
 
-/// A form of images of which the blocks do not stand in their order from the first byte on.
+/// A format of images whose blocks are not in order from the first byte.
 #[derive(Clone, Copy, Debug, PartialEq, Eq)]
 pub enum Form {
-    /// The sectors of a disk of 140 KB in the order of DOS.
+    /// The sectors of a disk of 140 KB in DOS sector order.
     Dos,
     /// The two bytes of each word exchanged.
     Swapped,
-    /// Blocks in their order behind a header of an image's file.
+    /// Blocks in order after the header of a .2mg file.
     FrontBlocks,
-    /// The sectors in the order of DOS behind such a header.
+    /// Sectors in DOS sector order after such a header.
     FrontDos,
-    /// The two bytes of each word exchanged behind such a header.
+    /// The two bytes of each word exchanged after such a header.
     FrontSwapped,
 }
 
-/// What breaks no rule.
+/// A fact that breaks no rule.
 #[derive(Clone, Copy)]
 pub enum Note {
-    /// In this form it has the header of a directory.
+    /// The image has a directory header in this format.
     Form(Form),
-    /// The volume's name has a byte that no new name may have.
+    /// The name of the volume has a byte that a new name cannot have.
     VolumeName,
-    /// The name in this slot has one.
+    /// The name in this slot has such a byte.
     Name(u16),
-    /// The file in this slot has a block of the file in that one, which is before it.
+    /// The file in the first slot has a block in common with the file in the second slot, which is before it.
     Shares(u16, u16),
-    /// The file in this slot has the name of the file in that one, which is before it.
+    /// The file in the first slot has the name of the file in the second slot, which is before it.
     SameName(u16, u16),
     /// The second copy of the directory breaks no rule.
     SecondGood,
-    /// It breaks one.
+    /// The second copy of the directory breaks a rule, or does not state that it is one.
     SecondDamaged,
     /// The headers of the two copies differ.
     HeadersDiffer,
-    /// This slot of them differs.
+    /// This slot of the two copies differs.
     SlotsDiffer(u16),
 }
 

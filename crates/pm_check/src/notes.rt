@@ -1,4 +1,4 @@
-//! What may be of use to know of an image beside the rules that it breaks.
+//! Facts about an image that break no rule.
 ghost use Rattle.std.specs.Prelude.{◌≡◌, ◌-◌, ◌≤◌, ◌++◌, IfOk, OnOk, length};
 ghost use Rattle.pm_volume.specs.Directory.{entry_in};
 ghost use Rattle.pm_volume.specs.declared.fields.TheConstants.{DIRECTORY_END, DIRECTORY_SIZE, MOST_FILES, SECOND_END};
@@ -18,7 +18,7 @@ use pm_volume::fields::{
 use pm_volume::{Entry, entry_at, is_same_name};
 use std::alloc::{AllocError, Global};
 
-// Whether each byte of a name is one of 33 to 126.
+// Whether each byte of a name is from 33 to 126.
 #[tactic(auto, unfolding(crate::specs::Notes::is_plain))]
 fn is_plain(name: &[u8]) -> bool
     ensures value { result ≡ is_plain name.now }
@@ -26,7 +26,7 @@ fn is_plain(name: &[u8]) -> bool
     name.iter().all(|c| 33 <= *c && *c <= 126)
 }
 
-/// The characters of the volume's name that a directory of 2,048 bytes has, at most 7.
+/// Returns the characters of the name of the volume, at most 7. `directory` has 2,048 bytes.
 #[tactic(auto, unfolding(crate::specs::Notes::header_name))]
 pub fn header_name(directory: &[u8]) -> &[u8]
     requires whole { length directory.now ≡ DIRECTORY_SIZE }
@@ -43,7 +43,7 @@ pub fn shares(a: &Entry, b: &Entry) -> bool
     a.first < a.end && b.first < b.end && a.first < b.end && b.first < a.end
 }
 
-// Adds what the files in two slots have in common.
+// Appends the notes for what the files in slots `n` and `k` have in common.
 #[tactic(auto, unfolding(crate::specs::Notes::pair_notes))]
 fn push_pair(notes: &mut Vec<Note>, directory: &[u8], n: u16, k: u16) -> Result<(), AllocError>
     requires whole { length directory.now ≡ DIRECTORY_SIZE }
@@ -59,7 +59,7 @@ fn push_pair(notes: &mut Vec<Note>, directory: &[u8], n: u16, k: u16) -> Result<
     push_note(notes, has_name, Note::SameName(n, k))
 }
 
-// Adds what the file in a slot has in common with those before it.
+// Appends the notes for what the file in slot `n` has in common with the files before it.
 fn push_pairs(notes: &mut Vec<Note>, directory: &[u8], n: u16) -> Result<(), AllocError>
     requires whole { length directory.now ≡ DIRECTORY_SIZE }
     requires from { 1 ≤ n }
@@ -72,7 +72,7 @@ fn push_pairs(notes: &mut Vec<Note>, directory: &[u8], n: u16) -> Result<(), All
     Ok(())
 }
 
-// Adds the notes of the file in a slot.
+// Appends the notes for the file in slot `n`.
 #[tactic(auto, unfolding(crate::specs::Notes::slot_notes))]
 fn push_slot(notes: &mut Vec<Note>, directory: &[u8], n: u16) -> Result<(), AllocError>
     requires whole { length directory.now ≡ DIRECTORY_SIZE }
@@ -85,7 +85,7 @@ fn push_slot(notes: &mut Vec<Note>, directory: &[u8], n: u16) -> Result<(), Allo
     push_pairs(notes, directory, n)
 }
 
-// Adds the notes of the files.
+// Appends the notes for the files.
 fn push_slots(notes: &mut Vec<Note>, directory: &[u8]) -> Result<(), AllocError>
     requires whole { length directory.now ≡ DIRECTORY_SIZE }
     ensures more { OnOk result
@@ -98,7 +98,7 @@ fn push_slots(notes: &mut Vec<Note>, directory: &[u8]) -> Result<(), AllocError>
     Ok(())
 }
 
-// Adds the notes of a directory.
+// Appends the notes for a directory.
 #[tactic(auto, unfolding(crate::specs::Notes::directory_notes))]
 fn push_directory_notes(notes: &mut Vec<Note>, directory: &[u8]) -> Result<(), AllocError>
     requires whole { length directory.now ≡ DIRECTORY_SIZE }
@@ -108,7 +108,7 @@ fn push_directory_notes(notes: &mut Vec<Note>, directory: &[u8]) -> Result<(), A
     push_slots(notes, directory)
 }
 
-// Whether a slot differs in two directories.
+// Whether slot `n` differs in two directories.
 #[tactic(auto, unfolding(crate::specs::Notes::differs))]
 fn differs(directory: &[u8], other: &[u8], n: u16) -> bool
     requires whole { length directory.now ≡ DIRECTORY_SIZE }
@@ -120,7 +120,7 @@ fn differs(directory: &[u8], other: &[u8], n: u16) -> bool
     directory[at..at + SLOT] != other[at..at + SLOT]
 }
 
-// The note of a slot that differs.
+// Returns the note for slot `n` if it differs.
 fn differing(n: u16) -> Note
     ensures note { result ≡ differing n }
 {
@@ -131,7 +131,7 @@ fn differing(n: u16) -> Note
     }
 }
 
-// Adds the slots that differ.
+// Appends the notes for the slots that differ.
 fn push_differing(notes: &mut Vec<Note>, directory: &[u8], other: &[u8]) -> Result<(), AllocError>
     requires whole { length directory.now ≡ DIRECTORY_SIZE }
     requires other_whole { length other.now ≡ DIRECTORY_SIZE }
@@ -144,7 +144,7 @@ fn push_differing(notes: &mut Vec<Note>, directory: &[u8], other: &[u8]) -> Resu
     Ok(())
 }
 
-// How a second copy is.
+// Returns the note for the state of a second copy.
 fn copy_note(is_good: bool) -> Note
     ensures note { result ≡ copy_note is_good }
 {
@@ -155,7 +155,8 @@ fn copy_note(is_good: bool) -> Note
     }
 }
 
-// Adds how a second copy is, and in which slots it differs, where there is one.
+// Appends the note for the state of a second copy and the notes for the slots that differ. Appends nothing if no second
+// copy exists.
 #[tactic(auto, unfolding(crate::specs::Notes::second_notes))]
 fn push_second(
     notes: &mut Vec<Note>,
@@ -174,7 +175,7 @@ fn push_second(
     push_differing(notes, directory, second)
 }
 
-// Whether a second copy breaks no rule in an image of so many blocks, and says itself that it is one.
+// Whether a second copy breaks no rule in an image of `blocks` blocks and states that it is one.
 #[tactic(auto, unfolding(crate::specs::Notes::is_good_second))]
 fn is_good_second(alloc: Global, second: &[u8], blocks: usize) -> Result<bool, AllocError>
     requires whole { length second.now ≡ DIRECTORY_SIZE }
@@ -185,7 +186,7 @@ fn is_good_second(alloc: Global, second: &[u8], blocks: usize) -> Result<bool, A
     Ok(word(second, HEADER_FILES_BEGIN) == PAST_SECOND && found.len() == 0)
 }
 
-// Adds the notes of an image's second copy.
+// Appends the notes for the second copy of an image.
 #[tactic(auto, unfolding(crate::specs::Notes::copies_notes))]
 fn push_copies(alloc: Global, notes: &mut Vec<Note>, image: &[u8]) -> Result<(), AllocError>
     requires long { DIRECTORY_END ≤ length image.now }
@@ -199,8 +200,10 @@ fn push_copies(alloc: Global, notes: &mut Vec<Note>, image: &[u8]) -> Result<(),
     push_second(notes, &image[DIRECTORY..DIRECTORY_END], second, is_good)
 }
 
-/// What may be of use to know of an image beside the rules that it breaks: its other forms; and where it has a
-/// directory, the names and blocks of files, and the second copy.
+/// Returns the facts about an image that break no rule.
+///
+/// They are its other formats and, if the image has a directory, notes on the names and blocks of files and on the
+/// second copy.
 #[tactic(auto, unfolding(crate::specs::Notes::image_notes))]
 pub fn image_notes(alloc: Global, image: &[u8]) -> Result<Vec<Note>, AllocError>
     ensures notes { IfOk result (λ notes. notes.items ≡ image_notes image.now) }

@@ -1,27 +1,27 @@
-//! The orders in which the bytes of an image stand.
+//! The orders of the bytes of an image.
 ghost use Rattle.std.specs.Prelude.{◌≡◌, ◌<◌, IfOk, length};
 ghost use Rattle.pm_check.specs.Orders.{other_sector, place_in, turned};
 
 use std::alloc::{AllocError, Global};
 
-/// How many bytes a sector has.
+/// The size of a sector in bytes.
 const SECTOR: usize = 256;
 
-/// How many bytes a track of sixteen sectors has.
+/// The size of a track of sixteen sectors in bytes.
 const TRACK: usize = 4096;
 
-/// The order in which the bytes of an image stand in its file. Each is its own inverse.
+/// The order of the bytes of an image in its file. Each order is its own inverse.
 #[derive(Clone, Copy)]
 pub enum Order {
-    /// Blocks in their order.
+    /// Blocks in order.
     Blocks,
-    /// The sectors of each track in the order of DOS 3.3. Bytes behind the last whole track stay.
+    /// The sectors of each track in the order of DOS 3.3. Bytes after the last whole track are unchanged.
     Dos,
-    /// The two bytes of each word exchanged. A last byte alone stays.
+    /// The two bytes of each word exchanged. A single last byte is unchanged.
     Swapped,
 }
 
-/// The sector of a track that stands in the place of this one.
+/// Returns the sector of a track that is exchanged with this one.
 #[tactic(auto, unfolding(crate::specs::Orders::other_sector))]
 fn other_sector(sector: usize) -> usize
     requires inside { sector < 16 }
@@ -35,7 +35,8 @@ fn other_sector(sector: usize) -> usize
     }
 }
 
-/// Where a byte of an image of so many bytes stands before its sectors are turned.
+/// Returns the offset before the conversion of the byte at offset `place`, if sectors are exchanged in an image of
+/// `size` bytes.
 fn place_in_sectors(size: usize, place: usize) -> usize
     requires inside { place < size }
     ensures value { result ≡ place_in Order.Dos size place }
@@ -48,7 +49,8 @@ fn place_in_sectors(size: usize, place: usize) -> usize
     }
 }
 
-/// Where a byte of an image of so many bytes stands before its words are turned.
+/// Returns the offset before the conversion of the byte at offset `place`, if the bytes of words are exchanged in an
+/// image of `size` bytes.
 fn place_in_words(size: usize, place: usize) -> usize
     requires inside { place < size }
     ensures value { result ≡ place_in Order.Swapped size place }
@@ -62,7 +64,7 @@ fn place_in_words(size: usize, place: usize) -> usize
 }
 
 impl Order {
-    /// Where the byte that stands at a place of the turned image stands in the image.
+    /// Returns the offset before the conversion of the byte at offset `place` of a converted image of `size` bytes.
     fn place_in(self, size: usize, place: usize) -> usize
         requires inside { place < size }
         ensures value { result ≡ place_in self size place }
@@ -75,8 +77,11 @@ impl Order {
         }
     }
 
-    /// The image whose bytes stand in this order, with its blocks in their order; or the other way round. An error is
-    /// want of memory.
+    /// Converts an image in this order to blocks in order, or blocks in order to this order.
+    ///
+    /// # Errors
+    ///
+    /// `AllocError`: memory was refused.
     #[tactic(auto, unfolding(crate::specs::Orders::turned), using(crate::proofs::OrderLaws::front_none, crate::proofs::OrderLaws::front_more))]
     pub fn turned(self, alloc: Global, image: &[u8]) -> Result<Vec<u8>, AllocError>
         ensures image { IfOk result (λ made. made.items ≡ turned self image.now) }

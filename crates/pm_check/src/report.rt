@@ -1,4 +1,4 @@
-//! What is said of each entry.
+//! The lines of a salvage.
 ghost use Rattle.std.specs.Prelude.{◌≡◌, ◌≤◌, ◌++◌, OnOk, Some, string_bytes};
 ghost use Rattle.std.specs.List.{flat_map};
 ghost use Rattle.pm_check.specs.Report.{counted, doubt_of, doubt_text, last_line, left_line, taken_line};
@@ -7,14 +7,14 @@ use crate::believing::{Left, Taken};
 use std::alloc::AllocError;
 use std::fmt;
 
-/// Why a file is doubted.
+/// The reason why a file is suspect.
 #[derive(Clone, Copy)]
 pub enum Doubt {
-    /// It is not.
+    /// The file is not suspect.
     Sure,
-    /// It has a block in common with the file in this slot.
+    /// The file has a block in common with the file in this slot.
     Shares(u16),
-    /// Its slot is behind those that the header counts.
+    /// The slot is after the number of files that the header states.
     Behind,
 }
 
@@ -30,7 +30,8 @@ impl fmt::Display for Doubt {
     }
 }
 
-/// Why a file is doubted, which shares blocks with this one.
+/// Returns the reason why the file in slot `slot` is suspect. The header states `count` files, and `other` is a file
+/// with a block in common.
 pub fn doubt_of(count: u16, slot: u16, other: Option<Taken>) -> Doubt
     ensures doubt { result ≡ doubt_of count slot other }
 {
@@ -41,7 +42,7 @@ pub fn doubt_of(count: u16, slot: u16, other: Option<Taken>) -> Doubt
     }
 }
 
-/// How many files are doubted with one more.
+/// Returns the number of suspect files after one more file.
 pub fn counted(doubted: usize, doubt: Doubt) -> usize
     requires few { doubted ≤ 77 }
     ensures count { result ≡ counted doubted doubt }
@@ -52,7 +53,7 @@ pub fn counted(doubted: usize, doubt: Doubt) -> usize
     }
 }
 
-// Adds the line of an entry that is left out.
+// Appends the line of an entry that is left out.
 #[tactic(auto, unfolding(crate::specs::Report::left_line))]
 fn push_left(text: &mut String, left: Left) -> Result<(), AllocError>
     ensures text { OnOk result (string_bytes text.new ≡ string_bytes text.old ++ left_line left) }
@@ -62,7 +63,7 @@ fn push_left(text: &mut String, left: Left) -> Result<(), AllocError>
     Ok(())
 }
 
-/// Adds the lines of the entries that are left out.
+/// Appends the lines of the entries that are left out.
 pub fn push_all_left(text: &mut String, all: &[Left]) -> Result<(), AllocError>
     ensures text { OnOk result (string_bytes text.new ≡ string_bytes text.old ++ flat_map left_line all.now) }
 {
@@ -72,7 +73,7 @@ pub fn push_all_left(text: &mut String, all: &[Left]) -> Result<(), AllocError>
     Ok(())
 }
 
-/// Adds the line of a file that is taken.
+/// Appends the line of a file that is copied as `name`.
 #[tactic(auto, unfolding(crate::specs::Report::taken_line))]
 pub fn push_taken(text: &mut String, slot: u16, name: &str, doubt: Doubt) -> Result<(), AllocError>
     ensures text { OnOk result (string_bytes text.new ≡ string_bytes text.old ++ taken_line slot name.now doubt) }
@@ -81,7 +82,7 @@ pub fn push_taken(text: &mut String, slot: u16, name: &str, doubt: Doubt) -> Res
     Ok(())
 }
 
-/// Adds the last line.
+/// Appends the last line, with the numbers of files copied, of entries left out and of suspect files.
 #[tactic(auto, unfolding(crate::specs::Report::last_line))]
 pub fn push_last(
     text: &mut String,

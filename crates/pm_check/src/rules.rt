@@ -1,4 +1,4 @@
-//! The rules of a volume that an image breaks, each looked at by itself.
+//! The rules of a volume that an image breaks. Each rule is checked by itself.
 ghost use Rattle.std.specs.Prelude.{◌≡◌, ◌≤◌, ◌++◌, IfOk, OnOk, length};
 ghost use Rattle.pm_volume.specs.declared.fields.TheConstants.{DIRECTORY_SIZE, MOST_FILES};
 ghost use Rattle.pm_check.specs.Rules.{directory_findings, findings_from, found_if, has_wrong_last, header_findings};
@@ -13,7 +13,7 @@ use pm_volume::fields::{
 use pm_volume::{Entry, entry_at};
 use std::alloc::{AllocError, Global};
 
-// Adds a finding where a rule is broken.
+// Appends `finding` if `is_broken` is true.
 fn push_if(found: &mut Vec<Finding>, is_broken: bool, finding: Finding) -> Result<(), AllocError>
     ensures more { OnOk result (found.new.items ≡ found.old.items ++ found_if is_broken finding) }
 {
@@ -23,7 +23,7 @@ fn push_if(found: &mut Vec<Finding>, is_broken: bool, finding: Finding) -> Resul
     Ok(())
 }
 
-// Adds a finding of a slot where a rule is broken.
+// Appends the finding for slot `slot` if `is_broken` is true.
 fn push_of(
     found: &mut Vec<Finding>,
     slot: u16,
@@ -36,7 +36,7 @@ fn push_of(
     push_if(found, is_broken, Finding::Slot(slot, finding))
 }
 
-// Adds the findings of the header.
+// Appends the findings for the header.
 #[tactic(auto, unfolding(crate::specs::Rules::header_findings))]
 fn push_header(found: &mut Vec<Finding>, directory: &[u8], blocks: usize) -> Result<(), AllocError>
     requires whole { length directory.now ≡ DIRECTORY_SIZE }
@@ -61,21 +61,23 @@ fn push_header(found: &mut Vec<Finding>, directory: &[u8], blocks: usize) -> Res
     push_if(found, MOST_FILES < files, Finding::ManyFiles(files))
 }
 
-/// Whether the last block of an entry has a wrong number of bytes: where it has blocks, none of 1 to 512.
+/// Whether the last block of an entry has a wrong number of bytes. The number is from 1 to 512 if the file has blocks.
+/// Otherwise any number is correct.
 pub fn has_wrong_last(entry: &Entry) -> bool
     ensures value { result ≡ has_wrong_last entry.now }
 {
     entry.first < entry.end && (entry.last_bytes < 1 || 512 < entry.last_bytes)
 }
 
-// Whether a first block stands before the end of the entry in the slot before, where there is one.
+// Whether the entry in slot `n` begins before the end of the entry in the slot before. The entry in slot 1 has none
+// before it.
 fn is_out_of_order(n: u16, first: u16, before: u16) -> bool
     ensures value { result ≡ is_out_of_order n first before }
 {
     1 < n && first < before
 }
 
-// Adds the findings of the entry in a slot.
+// Appends the findings for the entry in slot `n`.
 #[tactic(auto, unfolding(crate::specs::Rules::slot_findings))]
 fn push_slot(found: &mut Vec<Finding>, directory: &[u8], n: u16) -> Result<(), AllocError>
     requires whole { length directory.now ≡ DIRECTORY_SIZE }
@@ -109,7 +111,7 @@ fn push_slot(found: &mut Vec<Finding>, directory: &[u8], n: u16) -> Result<(), A
     push_of(found, n, is_out_of_order(n, first, before), order)
 }
 
-// Adds the findings of the entries.
+// Appends the findings for the entries.
 fn push_slots(found: &mut Vec<Finding>, directory: &[u8]) -> Result<(), AllocError>
     requires whole { length directory.now ≡ DIRECTORY_SIZE }
     ensures more { OnOk result
@@ -122,7 +124,7 @@ fn push_slots(found: &mut Vec<Finding>, directory: &[u8]) -> Result<(), AllocErr
     Ok(())
 }
 
-/// Adds the findings of a directory in an image of so many blocks.
+/// Appends the findings for a directory of 2,048 bytes in an image of `blocks` blocks.
 #[tactic(auto, unfolding(crate::specs::Rules::directory_findings))]
 pub fn push_directory(
     found: &mut Vec<Finding>,
@@ -136,7 +138,7 @@ pub fn push_directory(
     push_slots(found, directory)
 }
 
-/// The rules that an image breaks: its length, and the directory where it has one.
+/// Returns the rules that an image breaks: those of its length, and those of the directory if it has one.
 #[tactic(auto, unfolding(crate::specs::Rules::image_findings))]
 pub fn image_findings(alloc: Global, image: &[u8]) -> Result<Vec<Finding>, AllocError>
     ensures findings { IfOk result (λ found. found.items ≡ image_findings image.now) }

@@ -1,4 +1,4 @@
-//! The volume that is saved of an image.
+//! The volume that is salvaged from an image.
 ghost use Rattle.std.specs.List.Sorted.{IsPermutation};
 ghost use Rattle.std.specs.Prelude.{◌≡◌, ◌≢◌, ◌∷◌, ◌++◌, ◌≤◌, Ok, Err, IfOk, IfErr, OnOk, length, string_bytes};
 ghost use Rattle.pm_volume.specs.declared.fault.VolumeFault.{VolumeFault};
@@ -23,16 +23,16 @@ use pm_volume::fields::{
 use pm_volume::{Entry, Volume, VolumeFault};
 use std::alloc::Global;
 
-/// What is saved of an image.
+/// The result of a salvage.
 #[derive(Drop)]
 pub struct Salvaged {
     /// The image of the new volume.
     pub image: Vec<u8>,
-    /// What is said of each entry: a line, and a last line.
+    /// A line for each entry, and a last line.
     pub text: String,
 }
 
-// The bytes of a file of an image.
+// Returns the bytes of a file of an image, or no bytes if they are not in the image.
 #[tactic(auto, unfolding(crate::specs::Saving::bytes_of, pm_volume::specs::Files::file_bytes))]
 fn bytes_of<'a>(image: &'a [u8], entry: &Entry) -> &'a [u8]
     ensures bytes { result.now ≡ bytes_of image.now entry.now }
@@ -45,7 +45,7 @@ fn bytes_of<'a>(image: &'a [u8], entry: &Entry) -> &'a [u8]
     image.get(begin..end).unwrap_or(&[])
 }
 
-// Adds the file of an entry to a volume, and its line.
+// Adds the file of an entry to a volume, and its line to the text.
 #[tactic(auto, unfolding(crate::specs::Saving::saved_one))]
 fn save(
     alloc: Global,
@@ -79,7 +79,7 @@ fn save(
     }
 }
 
-// Adds the files that are taken, and their lines. How many of them are doubted.
+// Adds the files and their lines. Returns the number of suspect files.
 fn save_all(
     alloc: Global,
     image: &[u8],
@@ -107,7 +107,7 @@ fn save_all(
     Ok(doubted)
 }
 
-// The number of blocks of a new volume for these files, beside the blocks of the image.
+// Returns the number of blocks of the new volume: `blocks`, or more if these files need more, but at most 65,535.
 #[tactic(auto, unfolding(crate::specs::Saving::room_for))]
 fn room_for(blocks: u16, taken: &[Taken]) -> u16
     requires few { length taken.now ≤ 77 }
@@ -121,7 +121,7 @@ fn room_for(blocks: u16, taken: &[Taken]) -> u16
     room as u16
 }
 
-// The volume of these entries of an image.
+// Salvages these entries of an image.
 #[tactic(auto, unfolding(crate::specs::Saving::saved, crate::specs::Contents::HasFilesOf))]
 fn save_entries(
     alloc: Global,
@@ -152,7 +152,7 @@ fn save_entries(
     Ok(Salvaged { image, text })
 }
 
-// The volume that is saved by a directory of an image of so many blocks, whose files begin at a block or later.
+// Salvages an image of `blocks` blocks by one of its directories. Its files begin at block `lowest` or later.
 #[tactic(auto, unfolding(crate::specs::Saving::saved_by))]
 fn save_by(
     alloc: Global,
@@ -178,17 +178,24 @@ fn save_by(
     save_entries(alloc, image, name.as_str(), blocks, count, &taken, &left)
 }
 
-// The whole blocks of an image, at most 65,535.
+// Returns the number of whole blocks of an image, at most 65,535.
 fn image_blocks(image: &[u8]) -> u16
     ensures blocks { result ≡ image_blocks image.now }
 {
     (image.len() / BLOCK).min(65535) as u16
 }
 
-/// A new volume with the files of an image, of any bytes, whose entries in the directory make sense by themselves, by
-/// the first copy of the directory or by the second; and a line for each entry, and a last line. An image that is too
-/// short to have that copy is `TooShort`. The other refusals are those of `Volume::blank` and `Volume::add`: `NoRoom`
-/// where the files need more than 65,535 blocks, and `NoMemory`.
+/// Returns a new volume with the files of an image whose directory entries are valid by themselves, and a report.
+///
+/// The image may have any bytes. `second` selects the second copy of the directory instead of the first. The report has
+/// a line for each entry, and a last line.
+///
+/// # Errors
+///
+/// Checked in this order:
+/// - `TooShort`: the image is too short to have that copy of the directory.
+/// - The faults of `Volume::blank` and `Volume::add`: `NoRoom` if the files need more than 65,535 blocks, and
+///   `NoMemory`.
 #[tactic(auto, unfolding(crate::specs::Saving::salvaged, crate::specs::Contents::believed_of))]
 pub fn salvage(alloc: Global, image: &[u8], second: bool) -> Result<Salvaged, VolumeFault>
     ensures saved { IfOk result (λ s. IsSaved s.image.items (string_bytes s.text) (salvaged image.now second)) }

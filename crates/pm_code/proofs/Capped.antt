@@ -1,4 +1,4 @@
--- What digits are worth, cut off at a million.
+-- The value of digits, at most 1,000,000.
 use Rattle.std.proofs.Common.{◌≡◌, ◌≤◌, ℕ, ◌+◌, ◌*◌, min, Bool, true, false, nat_le, List, [], ◌∷◌, length, arith, refl}
 use Rattle.std.specs.Char.{digit_value}
 use Rattle.std.specs.Str.Parse.{digits_value}
@@ -17,7 +17,7 @@ capped r v d h = go (nat_le v 1000000) refl
 digit_small : (c : ℕ) → digit_value c ≤ 36
 digit_small c = grind (arith, nat_tests)
 
--- so few digits are never cut off
+-- four digits are never limited
 pub four_digits : (ds : List ℕ) → length ds ≤ 4 → min 1000000 (digits_value 16 ds) ≡ digits_value 16 ds
 four_digits [] h = omega (arith)
 four_digits (a ∷ []) h = omega (arith, digit_small a)

@@ -1,4 +1,4 @@
--- The listing is computed.
+-- The worked example, computed.
 use Rattle.std.proofs.Common.{refl}
 use Rattle.std.specs.Fmt.{digits}
 use Rattle.pm_opcode.specs.Table.{form_of, groups, implied, mnemonic_of}

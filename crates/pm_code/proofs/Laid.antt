@@ -1,4 +1,4 @@
--- Where the procedures of a segment and its dictionary stand.
+-- The offsets of the procedures of a segment and of its dictionary.
 use Rattle.std.proofs.Common.{◌≡◌, ◌<◌, ◌≤◌, ℕ, ◌+◌, ◌-◌, ◌*◌, List, [], ◌∷◌, ◌++◌, length, map, reverse, refl, sym, ap, ◌∙◌, subst, arith, length-append}
 use Rattle.std.specs.List.{AllByRecursion}
 use Rattle.std.proofs.lemmas.List.{length-reverse, map-append, reverse-append}
@@ -32,7 +32,7 @@ length-procedures at number (p ∷ ps) h =
       length-procedures (jtab_of p + 2) (number + 1) ps h.1,
     )
 
--- the dictionary is laid out as a jump table
+-- the dictionary has the layout of a jump table
 pub dictionary_entries : (at : ℕ) (ps : List Procedure) → dictionary_bytes at ps ≡ entry_bytes at (map jtab_of ps)
 dictionary_entries at [] = refl
 dictionary_entries at (p ∷ ps) = ap (λ bs. back_to at (jtab_of p) ++ bs) (dictionary_entries (at + 2) ps)
@@ -52,7 +52,7 @@ map-reverse (p ∷ ps) =
 pub dictionary_reversed : (at : ℕ) (ps : List Procedure) → dictionary_bytes at (reverse ps) ≡ entry_bytes at (reverse (map jtab_of ps))
 dictionary_reversed at ps = dictionary_entries at (reverse ps) ∙ ap (entry_bytes at) (map-reverse ps)
 
--- a procedure's table ends before the procedures do
+-- the table of a procedure ends before the procedures do
 pub ends_later : (at : ℕ) (ps : List Procedure) → FollowFrom at ps → AllByRecursion IsProcedure ps → at ≤ procedures_end at ps
 ends_later at [] h k = omega arith
 ends_later at (p ∷ ps) h k = omega (arith, h.0, length-code p.start p.items, ends_later (jtab_of p + 2) ps h.1 k.1)
@@ -83,7 +83,7 @@ are_procedures_bytes number end (p ∷ ps) h n e b =
     join_bytes (procedure_bytes number p) (procedures_bytes (number + 1) ps) (are_procedure_bytes number p h.0 (omega (arith, n)) (omega (arith, b.0, e)))
     (are_procedures_bytes (number + 1) end ps h.1 (omega (arith, n)) e b.1)
 
--- how long a segment is whose procedures follow one another
+-- the size of a segment whose procedures follow one another
 pub length-followed : (s : Segment) → FollowFrom 0 s.procedures
     → length (segment_bytes s) ≡ procedures_end 0 s.procedures + 2 * length s.procedures + 2
 length-followed s h =
@@ -101,7 +101,7 @@ length-followed s h =
       length-procedures 0 1 s.procedures h,
     )
 
--- where the dictionary begins, and how long a segment is
+-- the offset of the dictionary, and the size of a segment
 pub length-segment : (s : Segment) → IsSegment s → length (segment_bytes s) ≡ procedures_end 0 s.procedures + 2 * length s.procedures + 2
 length-segment s h = length-followed s h.follow
 

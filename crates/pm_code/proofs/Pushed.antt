@@ -1,4 +1,4 @@
--- Bytes that are added one after another: those so far, with what the rest gives, are the whole.
+-- Bytes that are appended one after the other: those so far, followed by the rest, are the whole.
 use Rattle.std.proofs.Common.{◌≡◌, ◌≤◌, ℕ, ◌+◌, ◌-◌, ◌*◌, List, [], ◌∷◌, ◌++◌, length, map, reverse, sym, ap, subst, ◌∙◌, arith, append_assoc, length-append}
 use Rattle.std.specs.List.{AllByRecursion}
 use Rattle.std.proofs.lemmas.List.{length-reverse}
@@ -10,7 +10,7 @@ use Rattle.pm_code.proofs.Laid.{dictionary_reversed, ends_later, length-jtabs, l
 use Rattle.pm_code.proofs.Sizes.{length-code, length-item}
 use Rattle.pm_code.proofs.Stored.{length-entry_bytes}
 
--- one item more
+-- one more item
 pub item_long : (before after : List ℕ) (item : Item ℕ) → after ≡ before ++ item_bytes (length before) item
     → length after ≡ length before + size (length before) item
 item_long before after item e =
@@ -28,7 +28,7 @@ pub item_good : (before after : List ℕ) (item : Item ℕ) (rest : List (Item �
     → AreItems (length before) (item ∷ rest) → AreItems (length after) rest
 item_good before after item rest e h = subst (λ n. AreItems n rest) (sym (item_long before after item e)) h.1
 
--- the attributes, where their table stands
+-- the attributes, at the offset of the table
 pub attributes_pushed : (before : List ℕ) (number : ℕ) (p : Procedure) → jtab_of p ≡ length before + 8
     → spelled_word p.locals ++ (spelled_word p.parameters ++ (back_to (length before + 4) p.exit
     ++ (back_to (length before + 6) p.start ++ number ∷ p.level ∷ []))) ≡ attribute_bytes number p
@@ -40,7 +40,7 @@ attributes_pushed before number p e =
     ∙ ap (λ n. spelled_word p.locals ++ (spelled_word p.parameters ++ (back_to (jtab_of p - 4) p.exit
     ++ (back_to n p.start ++ number ∷ p.level ∷ [])))) upper
 
--- The code of a procedure is added where it begins.
+-- The code of a procedure is appended at its offset.
 pub record Coded (before code : List ℕ) (p : Procedure) : Type 0 where
   pub start : p.start ≡ length before
   pub bytes : code ≡ before ++ code_bytes (length before) p.items
@@ -80,7 +80,7 @@ procedure_pushed before code tables after number p h e =
     ∙ append_assoc (before ++ code_of p) entries last
     ∙ append_assoc before (code_of p) (entries ++ last)
 
--- one procedure more
+-- one more procedure
 pub procedure_long : (before after : List ℕ) (number : ℕ) (p : Procedure) → p.start ≡ length before → after ≡ before ++ procedure_bytes number p
     → length after ≡ jtab_of p + 2
 procedure_long before after number p s e =
@@ -106,7 +106,7 @@ procedure_short at p ps f h short = omega (arith, short, ends_later (jtab_of p +
 pub segment_ends : (s : Segment) → IsSegment s → length (segment_bytes s) ≤ 65534 → procedures_end 0 s.procedures ≤ 65534
 segment_ends s h short = omega (arith, short, length-segment s h)
 
--- what stands before the dictionary
+-- the bytes before the dictionary
 pub record Headed (s : Segment) (bytes tables : List ℕ) : Type 0 where
   pub first : bytes ≡ procedures_bytes 1 s.procedures
   pub places : tables ≡ map jtab_of s.procedures
@@ -122,7 +122,7 @@ pub headed_room : (s : Segment) (bytes tables : List ℕ) → IsSegment s → le
 headed_room s bytes tables h short f =
     omega (arith, headed_end s bytes tables h f, headed_count s bytes tables f, short, length-segment s h)
 
--- the dictionary that is added is the segment's
+-- the appended dictionary is that of the segment
 pub dictionary_pushed : (s : Segment) (bytes tables : List ℕ) → IsSegment s → Headed s bytes tables
     → entry_bytes (length bytes) (reverse tables) ++ s.number ∷ length tables ∷ []
     ≡ dictionary_bytes (procedures_end 0 s.procedures) (reverse s.procedures) ++ s.number ∷ length s.procedures ∷ []

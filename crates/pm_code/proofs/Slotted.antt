@@ -11,7 +11,7 @@ use Rattle.pm_code.specs.Program.{segment_numbered}
 use Rattle.pm_code.specs.Program as program
 use Rattle.pm_code.specs.Image.{bytes_of_segment, joined_bytes, slots_of}
 
--- what all segments are, that of a number is
+-- a property of all segments is a property of the segment with a number
 pub numbered_all : (P : program.Segment → Type 0) (n : ℕ) (ts : List program.Segment) (t : program.Segment) → segment_numbered n ts ≡ Some t
     → AllByRecursion P ts → P t
 numbered_all P n [] t e h = absurd (cc)
@@ -49,7 +49,7 @@ mapped_more f n ts =
     ap (map f) (slots_more 0 n ts ∙ ap (λ m. slots_of 0 n ts ++ segment_numbered m ts ∷ []) same)
     ∙ map-append f (slots_of 0 n ts) (segment_numbered n ts ∷ [])
 
--- the lengths are those of what is joined
+-- the lengths are those of the joined bytes
 pub lengths_joined : (os : List (Option program.Segment)) → sum (map (λ o. length (bytes_of_segment o)) os) ≡ length (joined_bytes os)
 lengths_joined [] = refl
 lengths_joined (o ∷ os) =

@@ -1,4 +1,4 @@
--- Instructions that have a spelling.
+-- Instructions that have an encoding.
 use Rattle.std.proofs.Common.{◌≡◌, ◌+◌, ℕ, true, List, length, refl, inl, inr, arith}
 use Rattle.std.specs.Prelude.{nat_le}
 use Rattle.std.proofs.lemmas.Bool.{cases_Bool}
@@ -8,7 +8,7 @@ use Rattle.pm_opcode.specs.Table.{form_of}
 use Rattle.pm_opcode.specs.Spelling.{has_spelling, names_bytes}
 use Rattle.pm_code.specs.Item.{IsPlain}
 
--- An instruction that names no place is in range, and the bytes that it names are there.
+-- An instruction that does not jump is in range, and has its bytes.
 pub plain_spelled : (i : Instr) (named : List ℕ) → IsPlain i named → has_spelling i (length named) ≡ true
 plain_spelled i named h =
     let there : nat_le (i.start + i.count) (length named) ≡ true = grind (arith, nat_tests, h.count, h.nowhere.0) in

@@ -1,4 +1,4 @@
--- Words as they are written one after the other.
+-- Words that are written one after the other.
 use Rattle.std.proofs.Common.{◌≡◌, ◌<◌, ◌≤◌, ℕ, zero, suc, ◌+◌, ◌-◌, ◌*◌, ◌/◌, ◌%◌, List, [], ◌∷◌, ◌++◌, length, map, drop}
 use Rattle.std.proofs.Common.{get_or, refl, sym, ap, ◌∙◌, arith, add-one, append-nil, append_assoc, drop-cons, length-drop}
 use Rattle.std.specs.Prelude.{codes}
@@ -6,12 +6,12 @@ use Rattle.std.specs.Fmt.{decimal}
 use Rattle.pm_code.specs.Text.{operands_text, more_operands}
 use Rattle.pm_words.specs.Words.{words_of}
 
--- operands behind k others
+-- operands after `k` others
 abbrev pub rest_text : ℕ → List (List ℕ) → List ℕ
 rest_text zero ts = operands_text ts
 rest_text (suc k) ts = more_operands ts
 
--- what stands before operand k
+-- the text before operand `k`
 abbrev pub lead_text : ℕ → List ℕ
 lead_text zero = codes " "
 lead_text (suc k) = codes ", "

@@ -1,4 +1,4 @@
--- The items of a procedure's code, and their bytes.
+-- The items of the code of a procedure, and their bytes.
 use Rattle.std.specs.Prelude.{◌≡◌, ℕ, ◌+◌, ◌-◌, ◌*◌, ◌%◌, ◌<◌, ◌≤◌, Bool, true, false, List, [], ◌∷◌, ◌++◌, length}
 use Rattle.std.specs.List.{AllByRecursion}
 use Rattle.pm_opcode.specs.declared.operand_form.Form.{Form}
@@ -8,45 +8,45 @@ use Rattle.pm_opcode.specs.Table.{form_of}
 use Rattle.pm_opcode.specs.Spelling.{spelled_word, pad_byte, flip, is_odd, spelling, jump_count, in_range}
 use Rattle.pm_opcode.specs.Standing.{clear}
 
--- Where a jump leads. P is how a place is told: by a label in a text, by its offset in the segment in a program.
+-- The target of a jump. P is a label in a source text, and an offset in the segment in a program.
 pub data Target (P : Type 0) : Type 0 where
   To : P → Target P
-  -- by an entry of the jump table
+  -- an entry of the jump table
   Through : ℕ → Target P
 
--- A part of a procedure's code: an instruction, or a byte that is none.
+-- A part of the code of a procedure: an instruction, or a byte that is not part of one.
 pub data Item (P : Type 0) : Type 0 where
-  -- an instruction that names no place, with the bytes that it names
+  -- an instruction that does not jump, with the bytes that belong to it
   Plain : Instr → List ℕ → Item P
   -- a short jump, by its opcode
   Jump : ℕ → Target P → Item P
-  -- XJP: the bounds as words, where the jump out of bounds leads, and the places of the table
+  -- XJP: the bounds as words, the target out of bounds, and the targets in the table
   Case : ℕ → ℕ → Target P → List P → Item P
   OneByte : ℕ → Item P
 
--- the opcodes of XJP and of the jump that stands in it
+-- the opcodes of XJP and of the jump inside it
 abbrev pub case_opcode : ℕ
 case_opcode = 172
 
 abbrev pub jump_opcode : ℕ
 jump_opcode = 185
 
--- The byte of a short jump: how far the place is from the next instruction; or entry k, by how far its word lies from
--- JTAB, as a signed byte.
+-- The operand byte of a short jump. It is the distance from the next instruction to the target. For entry k it is the
+-- distance from JTAB to the word of the entry, as a signed byte.
 abbrev pub jump_byte : ℕ → Target ℕ → ℕ
 jump_byte next (To place) = place - next
 jump_byte next (Through k) = 246 - 2 * k
 
--- where the table of an XJP begins: behind the opcode, the padding and three words
+-- the offset of the table of an XJP: after the opcode, the padding and three words
 abbrev pub table_place : ℕ → ℕ
 table_place at = at + 7 + length (pad_byte (flip (is_odd at)) 0)
 
--- the words of a table that begins at an offset: each is how far its place lies below it, modulo 65,536
+-- the words of a table that begins at offset `at`; each is the distance from itself down to its target, modulo 65,536
 abbrev pub table_words : ℕ → List ℕ → List ℕ
 table_words at [] = []
 table_words at (place ∷ places) = spelled_word ((at + 65536 - place) % 65536) ++ table_words (at + 2) places
 
--- the bytes of an item that begins at an offset of the segment
+-- the bytes of an item that begins at offset `at` of the segment
 abbrev pub item_bytes : ℕ → Item ℕ → List ℕ
 item_bytes at (Plain i named) = spelling (is_odd at) 0 i named
 item_bytes at (Jump op target) = op ∷ jump_byte (at + 2) target ∷ []
@@ -56,7 +56,7 @@ item_bytes at (Case low high otherwise places) =
     ∷ table_words (table_place at) places)))
 item_bytes at (OneByte b) = b ∷ []
 
--- how many bytes an item has that begins at an offset, wherever its jumps lead
+-- the size in bytes of an item that begins at offset `at`; it does not depend on the targets
 abbrev pub size : {P : Type 0} → ℕ → Item P → ℕ
 size at (Plain i named) = length (spelling (is_odd at) 0 i named)
 size at (Jump op target) = 2
@@ -66,18 +66,18 @@ size at (OneByte b) = 1
 abbrev pub IsByte : ℕ → Type 0
 IsByte b = b < 256
 
--- a short jump reaches 127 bytes forward
+-- the target is at most 127 bytes after the next instruction, or the entry is below 60
 abbrev pub IsNear : ℕ → Target ℕ → Type 0
 IsNear next (To place) = (next ≤ place) × (place ≤ next + 127)
 IsNear next (Through k) = k < 60
 
--- whether a form has a place as an operand
+-- whether a form has a target as an operand
 abbrev pub names_place : Form → Bool
 names_place forms.Sb = true
 names_place forms.Jumps = true
 names_place _ = false
 
--- An instruction that names no place, by the fields of its form alone: the others are 0.
+-- An instruction that does not jump. Fields that its form does not use are 0.
 pub record IsPlain (i : Instr) (named : List ℕ) : Type 0 where
   pub opcode : i.op < 256
   pub form : names_place (form_of i.op) ≡ false
@@ -88,7 +88,7 @@ pub record IsPlain (i : Instr) (named : List ℕ) : Type 0 where
   pub count : length named ≡ i.count
   pub bytes : AllByRecursion IsByte named
 
--- A case jump that can stand at an offset.
+-- A case jump that can be at offset `at`.
 pub record IsCase (at low high : ℕ) (otherwise : Target ℕ) (places : List ℕ) : Type 0 where
   pub least : low < 65536
   pub greatest : high < 65536
@@ -96,7 +96,7 @@ pub record IsCase (at low high : ℕ) (otherwise : Target ℕ) (places : List �
   pub within : AllByRecursion (λ place. place < 65536) places
   pub count : length places ≡ jump_count low high
 
--- an item that can stand at an offset
+-- an item that can be at offset `at`
 abbrev pub IsItem : ℕ → Item ℕ → Type 0
 IsItem at (Plain i named) = IsPlain i named
 IsItem at (Jump op target) = (form_of op ≡ forms.Sb) × (op < 256) × IsNear (at + 2) target

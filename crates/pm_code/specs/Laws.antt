@@ -1,4 +1,4 @@
--- A program in its code file.
+-- A program and its code file.
 use Rattle.std.specs.Prelude.{◌≡◌, ℕ, ◌-◌, ◌<◌, List, [], ◌∷◌, ◌++◌, length, replicate, Option, Some, None, option_map}
 use Rattle.std.specs.List.{AllByRecursion}
 use Rattle.pm_codefile.specs.declared.file.Slot.{Slot}
@@ -7,27 +7,27 @@ use Rattle.pm_code.specs.Program.{AreInstructions, FitSlots, IsProgram, Procedur
 use Rattle.pm_code.specs.Program.{segment_numbered}
 use Rattle.pm_code.specs.Image.{file_of}
 
--- the name in a slot
+-- the name of a slot
 abbrev pub name_of : Option Slot → List ℕ
 name_of None = []
 name_of (Some slot) = slot.name
 
--- A code file holds a program: a slot has the bytes of the segment of its number, and its name with spaces at the end,
+-- A code file contains a program. A slot has the bytes of the segment with its number, and its name padded with spaces,
 -- or no segment.
 pub record Holds (file : List ℕ) (ss : List Segment) : Type 0 where
   pub segments : (n : ℕ) → n < 16 → segment_in file n ≡ option_map segment_bytes (segment_numbered n ss)
   pub names : (n : ℕ) (s : Segment) → segment_numbered n ss ≡ Some s
       → name_of (slot_in file n) ≡ s.name ++ replicate (8 - length s.name) 32
 
--- Segments of one number and name with the same bytes; and the same segments, where the items of the first are all
--- instructions.
+-- The segments have the same number, name and bytes. If all items of the first are instructions, the segments are
+-- equal.
 pub record IsSameSegment (s t : Segment) : Type 0 where
   pub number : t.number ≡ s.number
   pub name : t.name ≡ s.name
   pub bytes : segment_bytes t ≡ segment_bytes s
   pub same : AllByRecursion (λ (p : Procedure). AreInstructions p.items) s.procedures → t ≡ s
 
--- The code file of a program holds it: the segment of each number in its slot, with its name.
+-- The code file of a program contains it: each segment is in the slot with its number, with its name.
 abbrev pub FileHoldsProgram : Type 0
 FileHoldsProgram = (ss : List Segment) → IsProgram ss → FitSlots ss → Holds (file_of ss) ss
 

@@ -1,5 +1,5 @@
--- Programs, with each place as an offset in its segment, and their bytes. A label is only a spelling of a place, so a
--- program has none.
+-- Programs and their bytes. Positions are offsets in a segment. A label is only a spelling of an offset, so a program
+-- has no labels.
 use Rattle.std.specs.Prelude.{◌≡◌, ℕ, ◌+◌, ◌-◌, ◌*◌, ◌%◌, ◌<◌, ◌≤◌, Bool, true, not, List, [], ◌∷◌, ◌++◌, length}
 use Rattle.std.specs.Prelude.{reverse, max, nat_le, ◌==◌, ◌&&◌, ◌||◌, Option, Some, None, if◌then◌else◌}
 use Rattle.std.specs.List.{AllByRecursion, list_any, list_all}
@@ -8,8 +8,8 @@ use Rattle.pm_code.specs.Item.{Item, Target, item_bytes, size, IsItem, is_instru
 use Rattle.pm_code.specs.Item.Item.{Jump, Case}
 use Rattle.pm_code.specs.Item.Target.{To, Through}
 
--- A procedure. Its code begins at start, and its exit code at exit; an entry of its jump table is a place in its code.
--- Sizes are in bytes, the level is a byte in two's complement.
+-- A procedure. Its code begins at `start`, and its exit code at `exit`. An entry of its jump table is an offset in its
+-- code. Sizes are in bytes. The level is a byte in two's complement.
 pub record Procedure : Type 0 where
   pub level : ℕ
   pub parameters : ℕ
@@ -25,17 +25,17 @@ pub record Segment : Type 0 where
   pub name : List ℕ
   pub procedures : List Procedure
 
--- the bytes of items that stand one behind another
+-- the bytes of consecutive items
 abbrev pub code_bytes : ℕ → List (Item ℕ) → List ℕ
 code_bytes at [] = []
 code_bytes at (item ∷ items) = item_bytes at item ++ code_bytes (at + size at item) items
 
--- where items end that begin at an offset
+-- the offset where items end that begin at offset `at`
 abbrev pub end_of : {P : Type 0} → ℕ → List (Item P) → ℕ
 end_of at [] = at
 end_of at (item ∷ items) = end_of (at + size at item) items
 
--- where each item begins, and where the last one ends
+-- the offset where each item begins, and the offset where the last one ends
 abbrev pub boundaries : ℕ → List (Item ℕ) → List ℕ
 boundaries at [] = at ∷ []
 boundaries at (item ∷ items) = at ∷ boundaries (at + size at item) items
@@ -44,7 +44,7 @@ abbrev pub AreItems : ℕ → List (Item ℕ) → Type 0
 AreItems at [] = Unit {0}
 AreItems at (item ∷ items) = IsItem at item × AreItems (at + size at item) items
 
--- how many entries the jump table has to have for a jump
+-- the number of jump table entries that a jump needs
 abbrev pub entries_for : {P : Type 0} → Target P → ℕ
 entries_for (To place) = 0
 entries_for (Through k) = k + 1
@@ -54,7 +54,7 @@ entries_used (Jump op target) = entries_for target
 entries_used (Case low high otherwise places) = entries_for otherwise
 entries_used _ = 0
 
--- how many it has to have for all: 1 + the greatest entry that a jump takes, 0 if none does
+-- the number that all items need: 1 + the highest entry that a jump uses, or 0 if no jump uses one
 abbrev pub entries_needed : {P : Type 0} → List (Item P) → ℕ
 entries_needed [] = 0
 entries_needed (item ∷ items) = max (entries_used item) (entries_needed items)
@@ -65,7 +65,7 @@ is_among places place = list_any (λ p. p == place) places
 abbrev pub IsIn : List ℕ → ℕ → Type 0
 IsIn places place = is_among places place ≡ true
 
--- the places that an item names
+-- the targets of an item
 abbrev pub target_places : Target ℕ → List ℕ
 target_places (To place) = place ∷ []
 target_places (Through k) = []
@@ -75,7 +75,7 @@ item_places (Jump op target) = target_places target
 item_places (Case low high otherwise places) = target_places otherwise ++ places
 item_places _ = []
 
--- Each place that an item names is one of these.
+-- Each target of the item is one of `places`.
 abbrev pub NamesWithin : List ℕ → Item ℕ → Type 0
 NamesWithin places item = AllByRecursion (IsIn places) (item_places item)
 
@@ -85,12 +85,12 @@ code_of p = code_bytes p.start p.items
 abbrev pub places_of : Procedure → List ℕ
 places_of p = boundaries p.start p.items
 
--- where the code of a procedure ends
+-- the offset where the code of a procedure ends
 abbrev pub code_end : Procedure → ℕ
 code_end p = end_of p.start p.items
 
--- What a procedure of a program is: its jumps, its exit code and its entries lead to boundaries of its items, it has
--- entries up to the greatest that a jump takes and no more, and its code begins and ends at an even offset.
+-- A procedure of a program. Its jumps, its exit code and its entries lead to boundaries of its items. It has entries up
+-- to the highest one that a jump uses, and no more. Its code begins and ends at an even offset.
 pub record IsProcedure (p : Procedure) : Type 0 where
   pub level : p.level < 256
   pub parameters : (p.parameters < 65536) × (p.parameters % 2 ≡ 0)
@@ -103,27 +103,27 @@ pub record IsProcedure (p : Procedure) : Type 0 where
   pub begins : p.start % 2 ≡ 0
   pub ends : code_end p % 2 ≡ 0
 
--- a word at an offset that says how far a place lies below it
+-- a word at offset `at` with the distance from itself down to offset `place`
 abbrev pub back_to : ℕ → ℕ → List ℕ
 back_to at place = spelled_word (at - place)
 
--- a jump table from its lowest word upward, which is its last entry
+-- a jump table from its lowest word upward; the lowest word is the last entry
 abbrev pub entry_bytes : ℕ → List ℕ → List ℕ
 entry_bytes at [] = []
 entry_bytes at (place ∷ places) = back_to at place ++ entry_bytes (at + 2) places
 
--- where the highest word of a procedure's table stands
+-- the offset of the highest word of the table of a procedure
 abbrev pub jtab_of : Procedure → ℕ
 jtab_of p = code_end p + 2 * length p.entries + 8
 
--- the ten bytes of a procedure's table: sizes of locals and parameters, exit code, code, number and level
+-- the ten bytes of the table of a procedure: sizes of locals and parameters, exit code, code, number and level
 abbrev pub attribute_bytes : ℕ → Procedure → List ℕ
 attribute_bytes number p =
     let jtab = jtab_of p in
     spelled_word p.locals ++ (spelled_word p.parameters
     ++ (back_to (jtab - 4) p.exit ++ (back_to (jtab - 2) p.start ++ number ∷ p.level ∷ [])))
 
--- a procedure: its code, its jump table with entry 0 the highest, and its attributes
+-- a procedure: its code, its jump table with entry 0 as the highest, and its attributes
 abbrev pub procedure_bytes : ℕ → Procedure → List ℕ
 procedure_bytes number p = code_of p ++ (entry_bytes (code_end p) (reverse p.entries) ++ attribute_bytes number p)
 
@@ -131,7 +131,7 @@ abbrev pub procedures_bytes : ℕ → List Procedure → List ℕ
 procedures_bytes number [] = []
 procedures_bytes number (p ∷ ps) = procedure_bytes number p ++ procedures_bytes (number + 1) ps
 
--- where procedures end, of which the first begins at an offset
+-- the offset where procedures end if the first one begins at offset `at`
 abbrev pub procedures_end : ℕ → List Procedure → ℕ
 procedures_end at [] = at
 procedures_end at (p ∷ ps) = procedures_end (jtab_of p + 2) ps
@@ -141,7 +141,7 @@ abbrev pub dictionary_bytes : ℕ → List Procedure → List ℕ
 dictionary_bytes at [] = []
 dictionary_bytes at (p ∷ ps) = back_to at (jtab_of p) ++ dictionary_bytes (at + 2) ps
 
--- a segment: its procedures, the dictionary, and the highest word with its number and the count of procedures
+-- a segment: its procedures, the dictionary, and the highest word with its number and the number of its procedures
 abbrev pub segment_bytes : Segment → List ℕ
 segment_bytes s =
     procedures_bytes 1 s.procedures ++ (dictionary_bytes (procedures_end 0 s.procedures) (reverse s.procedures)
@@ -152,7 +152,7 @@ abbrev pub FollowFrom : ℕ → List Procedure → Type 0
 FollowFrom at [] = Unit {0}
 FollowFrom at (p ∷ ps) = (p.start ≡ at) × FollowFrom (jtab_of p + 2) ps
 
--- 33 to 126 but the semicolon, the comma and the quote
+-- 33 to 126, except the semicolon, the comma and the quote
 abbrev pub is_name_character : ℕ → Bool
 is_name_character c = nat_le 33 c && nat_le c 126 && not ((c == 59) || (c == 44) || (c == 34))
 
@@ -160,7 +160,7 @@ is_name_character c = nat_le 33 c && nat_le c 126 && not ((c == 59) || (c == 44)
 abbrev pub is_segment_name : List ℕ → Bool
 is_segment_name name = nat_le 1 (length name) && nat_le (length name) 8 && list_all is_name_character name
 
--- What a segment of a program is.
+-- A segment of a program.
 pub record IsSegment (s : Segment) : Type 0 where
   pub number : s.number < 16
   pub name : is_segment_name s.name ≡ true
@@ -168,25 +168,25 @@ pub record IsSegment (s : Segment) : Type 0 where
   pub few : length s.procedures < 256
   pub follow : FollowFrom 0 s.procedures
 
--- the segments stand by ascending number, each at least this
+-- the segments are in ascending order of their numbers, and each number is at least `least`
 abbrev pub AscendFrom : ℕ → List Segment → Type 0
 AscendFrom least [] = Unit {0}
 AscendFrom least (s ∷ ss) = (least ≤ s.number) × AscendFrom (s.number + 1) ss
 
--- What a program is.
+-- A program.
 pub record IsProgram (ss : List Segment) : Type 0 where
   pub segments : AllByRecursion IsSegment ss
   pub ascend : AscendFrom 0 ss
 
--- no segment has more than 65,534 bytes, the most that a slot of a code file holds
+-- no segment has more than 65,534 bytes, the most that a slot of a code file can contain
 abbrev pub FitSlots : List Segment → Type 0
 FitSlots ss = AllByRecursion (λ s. length (segment_bytes s) ≤ 65534) ss
 
--- no item is a byte that is no instruction
+-- each item is an instruction
 abbrev pub AreInstructions : List (Item ℕ) → Type 0
 AreInstructions items = AllByRecursion (λ item. is_instruction item ≡ true) items
 
--- the segment of a number
+-- the segment with this number
 abbrev pub segment_numbered : ℕ → List Segment → Option Segment
 segment_numbered n [] = None
 segment_numbered n (s ∷ ss) = if s.number == n then Some s else segment_numbered n ss

@@ -1,4 +1,4 @@
--- Programs as text.
+-- The text of programs.
 use Rattle.std.specs.Prelude.{ℕ, ◌+◌, ◌-◌, Bool, List, [], ◌∷◌, ◌++◌, map, nat_lt, ◌==◌, if◌then◌else◌, codes}
 use Rattle.std.specs.Fmt.{decimal}
 unfoldable pub use Rattle.pm_bytes.specs.Decimals.{padded}
@@ -9,28 +9,28 @@ use Rattle.pm_code.specs.Item.Item.{Plain, Jump, Case, OneByte}
 use Rattle.pm_code.specs.Item.Target.{To, Through}
 use Rattle.pm_code.specs.Program.{Procedure, Segment, is_among, item_places}
 
--- words behind a word, each behind a space
+-- words after a word, each after a space
 abbrev pub words_text : List (List ℕ) → List ℕ
 words_text [] = []
 words_text (t ∷ ts) = 32 ∷ t ++ words_text ts
 
--- a label: `L` and its place in five digits
+-- a label: `L` and its offset in at least five digits
 abbrev pub label_text : ℕ → List ℕ
 label_text place = 76 ∷ padded 5 place
 
--- where a jump leads: a label, or `^` and the entry
+-- the target of a jump: a label, or `^` and the entry
 abbrev pub target_text : Target ℕ → List ℕ
 target_text (To place) = label_text place
 target_text (Through k) = 94 ∷ decimal k
 
--- the word at the front of an item
+-- the first word of an item
 abbrev pub front_text : Item ℕ → List ℕ
 front_text (Plain i named) = mnemonic_of i.op
 front_text (Jump op target) = mnemonic_of op
 front_text (Case low high otherwise places) = mnemonic_of case_opcode
 front_text (OneByte b) = codes ".BYTE"
 
--- the operands behind it, each as a text
+-- the text of each operand of an item
 abbrev pub item_operands : Item ℕ → List (List ℕ)
 item_operands (Plain i named) = operand_texts (form_of i.op) i named
 item_operands (Jump op target) = target_text target ∷ []
@@ -42,7 +42,7 @@ item_operands (OneByte b) = decimal b ∷ []
 unfoldable pub shown_item : Item ℕ → List ℕ
 shown_item item = front_text item ++ operands_text (item_operands item)
 
--- the places that items name
+-- the targets of items
 abbrev pub named_places : List (Item ℕ) → List ℕ
 named_places [] = []
 named_places (item ∷ items) = item_places item ++ named_places items
@@ -50,26 +50,26 @@ named_places (item ∷ items) = item_places item ++ named_places items
 abbrev pub put_if : {A : Type 0} → Bool → A → List A → List A
 put_if b x xs = if b then x ∷ xs else xs
 
--- the label of a place if it is used, and the exit code if it is there, and what follows
+-- the label of an offset if it is used, `.EXIT` if the exit code is at the offset, and the rest
 abbrev pub lines_at : List ℕ → ℕ → ℕ → List (List ℕ) → List (List ℕ)
 lines_at used exit at rest =
     put_if (is_among used at) (label_text at ++ 58 ∷ []) (put_if (exit == at) (codes ".EXIT") rest)
 
--- the lines of items that begin at an offset
+-- the lines of items that begin at offset `at`
 abbrev pub code_lines : List ℕ → ℕ → ℕ → List (Item ℕ) → List (List ℕ)
 code_lines used exit at [] = lines_at used exit at []
 code_lines used exit at (item ∷ items) =
     lines_at used exit at ((32 ∷ 32 ∷ shown_item item) ∷ code_lines used exit (at + size at item) items)
 
--- a level, a byte, as a signed number
+-- a level, which is a byte, as a signed number
 abbrev pub level_text : ℕ → List ℕ
 level_text level = if nat_lt level 128 then decimal level else 45 ∷ decimal (256 - level)
 
 abbrev pub entry_line : ℕ → List ℕ
 entry_line place = codes ".JUMP" ++ words_text (label_text place ∷ [])
 
--- A procedure: its number, level and sizes, its code with the labels that a jump or an entry names, its entries from
--- the first on.
+-- A procedure: its number, level and sizes; its code with the labels that a jump or an entry uses; its entries from the
+-- first.
 abbrev pub procedure_lines : ℕ → Procedure → List (List ℕ)
 procedure_lines number p =
     (codes ".PROC" ++ words_text (decimal number ∷ level_text p.level ∷ decimal p.parameters ∷ decimal p.locals ∷ []))

@@ -14,26 +14,26 @@ use Rattle.pm_words.specs.Words.{words_of}
 abbrev pub signed_text : ℕ → List ℕ
 signed_text word = if nat_lt word 32768 then decimal word else 45 ∷ decimal (65536 - word)
 
--- a number of one or two bytes, marked where it has two and needs one
+-- a number of one or two bytes, with a mark if it has two and needs one
 abbrev pub number_text : ℕ → Bool → List ℕ
 number_text n long = decimal n ++ (if long && nat_lt n 128 then codes "!" else [])
 
--- 32..126 but the quote and the backslash stand for themselves between quotes
+-- whether a byte is unchanged inside quotes: 32 to 126, except the quote and the backslash
 abbrev pub is_plain : ℕ → Bool
 is_plain byte = if (byte == 34) || (byte == 92) then false else nat_le 32 byte && nat_le byte 126
 
--- a hexadecimal digit, in lower case
+-- a lowercase hexadecimal digit
 abbrev pub hex_digit : ℕ → ℕ
 hex_digit d = if nat_lt d 10 then 48 + d else 87 + d
 
--- a byte between quotes: itself, or a backslash and two digits
+-- a byte inside quotes: unchanged, or a backslash and two digits
 abbrev pub escaped : ℕ → List ℕ
 escaped byte = if is_plain byte then byte ∷ [] else 92 ∷ hex_digit (byte / 16) ∷ hex_digit (byte % 16) ∷ []
 
 abbrev pub quoted : List ℕ → List ℕ
 quoted bytes = 34 ∷ flat_map escaped bytes ++ 34 ∷ []
 
--- the type of the operands of a comparison, with their size where it has one
+-- the type of the operands of a comparison, with their size if it has one
 abbrev pub type_text : ℕ → ℕ → Bool → List ℕ
 type_text type size long =
     if type == 2 then codes "REAL"
@@ -48,7 +48,7 @@ abbrev pub implied_texts : Option ℕ → List (List ℕ)
 implied_texts None = []
 implied_texts (Some n) = decimal n ∷ []
 
--- The operands of an instruction that names these bytes, each as a text.
+-- The text of each operand of an instruction with the bytes `named`.
 abbrev pub operand_texts : Form → Instr → List ℕ → List (List ℕ)
 operand_texts Plain i named = implied_texts (implied i.op)
 operand_texts Ub i named = decimal i.a ∷ []
@@ -65,16 +65,16 @@ operand_texts Jumps i named = signed_text i.a ∷ signed_text i.b ∷ decimal i.
 operand_texts Typed i named = type_text i.a i.b i.long ∷ []
 operand_texts Unassigned i named = []
 
--- further operands, each behind a comma and a space
+-- further operands, each after a comma and a space
 abbrev pub more_operands : List (List ℕ) → List ℕ
 more_operands [] = []
 more_operands (t ∷ ts) = 44 ∷ 32 ∷ t ++ more_operands ts
 
--- operands behind a mnemonic: a space before the first
+-- operands after a mnemonic, with a space before the first
 abbrev pub operands_text : List (List ℕ) → List ℕ
 operands_text [] = []
 operands_text (t ∷ ts) = 32 ∷ t ++ more_operands ts
 
--- An instruction that names these bytes.
+-- The text of an instruction with the bytes `named`.
 unfoldable pub item_text : Instr → List ℕ → List ℕ
 item_text i named = mnemonic_of i.op ++ operands_text (operand_texts (form_of i.op) i named)

@@ -1,4 +1,4 @@
--- What the values of the code stand for.
+-- The models of the values of the code.
 use Rattle.std.specs.Prelude.{ℕ, List, map}
 use Rattle.pm_code.specs.declared.item.Target.{Target}
 use Rattle.pm_code.specs.declared.item.Target.TheVariants as targets
@@ -11,7 +11,7 @@ use Rattle.pm_code.specs.Item.Item.{Plain, Jump, Case, OneByte}
 use Rattle.pm_code.specs.Item.Target.{To, Through}
 use Rattle.pm_code.specs.Program as program
 
--- A target and an item, each place by what it stands for.
+-- A target and an item, with `f` applied to each position.
 abbrev pub target_seen : {A B : Type 0} → (A → B) → Target A → model.Target B
 target_seen f (targets.To place) = To (f place)
 target_seen f (targets.Through k) = Through k
@@ -22,7 +22,7 @@ item_seen f (items.Jump op target) = Jump op (target_seen f target)
 item_seen f (items.Case low high otherwise places) = Case low high (target_seen f otherwise) (map f places.items)
 item_seen f (items.OneByte b) = OneByte b
 
--- Those of a program, whose places are offsets.
+-- A target and an item of a program, whose positions are offsets.
 abbrev pub placed_target : Target ℕ → model.Target ℕ
 placed_target target = target_seen (λ p. p) target
 
@@ -43,6 +43,6 @@ procedure_seen p = record {
 abbrev pub segment_seen : Segment → program.Segment
 segment_seen s = record { number = s.number; name = s.name.items; procedures = map procedure_seen s.procedures.items }
 
--- What segments of the code stand for.
+-- The model of the segments of a program.
 abbrev pub program_seen : List Segment → List program.Segment
 program_seen segments = map segment_seen segments

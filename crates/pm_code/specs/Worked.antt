@@ -1,4 +1,4 @@
--- A listing computed: what the definition gives for a segment, worked out by hand.
+-- A worked example of a listing: the value of the definition for a segment, worked out by hand.
 use Rattle.std.specs.Prelude.{◌≡◌, ℕ, false, List, [], ◌∷◌, ◌++◌, codes}
 use Rattle.pm_opcode.specs.declared.instr.Instr.{Instr}
 use Rattle.pm_code.specs.Image.{listing}
@@ -14,7 +14,7 @@ characters_of (line ∷ lines) = line ++ 10 ∷ characters_of lines
 abbrev pub return_instruction : Instr
 return_instruction = record { op = 193; a = 0; b = 0; c = 0; long = false; start = 0; count = 0; len = 0 }
 
--- a segment of one procedure with one instruction, RBP 0, at its exit code
+-- a segment with one procedure of one instruction, RBP 0, at its exit code
 abbrev pub least_segment : Segment
 least_segment = record {
   number = 1;
@@ -30,7 +30,7 @@ least_segment = record {
   } ∷ [];
 }
 
--- A listing, each byte worked out from the format of a segment.
+-- The listing of the segment. Each byte is worked out from the format of a segment.
 pub record WorkedListing : Type 0 where
   pub lines : listing (least_segment ∷ []) ≡ characters_of (
       codes "01 001 00000 C1 00  RBP 0"

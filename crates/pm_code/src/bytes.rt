@@ -1,4 +1,5 @@
-//! The bytes of code. Each function adds to the bytes of a segment so far, whose count is the offset of what it adds.
+//! The bytes of code. Each function appends to the bytes of a segment so far. Their number is the offset of the
+//! appended bytes.
 
 ghost use Rattle.std.specs.Prelude.{◌≡◌, ◌<◌, ◌≤◌, ◌+◌, ◌*◌, ◌++◌, ◌∷◌, [], length, map, reverse, IfOk, OnOk};
 ghost use Rattle.std.specs.List.{AllByRecursion};
@@ -16,7 +17,7 @@ use crate::program::{Procedure, Segment};
 use pm_opcode::{Encode, Instr, encode};
 use std::alloc::{AllocError, Global};
 
-/// Adds a word, its low byte first.
+/// Appends a word, low byte first.
 fn push_word(out: &mut Vec<u8>, value: u16) -> Result<(), AllocError>
     ensures bytes { OnOk result (out.new.items ≡ out.old.items ++ spelled_word value) }
 {
@@ -25,7 +26,7 @@ fn push_word(out: &mut Vec<u8>, value: u16) -> Result<(), AllocError>
     Ok(())
 }
 
-/// Adds the padding of a case jump whose opcode stands at an offset.
+/// Appends the padding of a case jump whose opcode is at offset `at`.
 fn push_padding(out: &mut Vec<u8>, at: usize) -> Result<(), AllocError>
     ensures bytes { OnOk result (out.new.items ≡ out.old.items ++ pad_byte (flip (is_odd at)) 0) }
 {
@@ -35,7 +36,7 @@ fn push_padding(out: &mut Vec<u8>, at: usize) -> Result<(), AllocError>
     Ok(())
 }
 
-/// The byte of a short jump that counts from an offset.
+/// Returns the operand byte of a short jump. Its distance is counted from offset `next`.
 fn jump_byte(next: usize, target: Target<usize>) -> u8
     requires near { IsNear next (placed_target target) }
     ensures byte { result ≡ jump_byte next (placed_target target) }
@@ -46,7 +47,8 @@ fn jump_byte(next: usize, target: Target<usize>) -> u8
     }
 }
 
-/// Adds the table of a case jump: each word says how far its place lies below it, modulo 65,536.
+/// Appends the table of a case jump. Each word is the distance from itself down to one of the offsets `places`, modulo
+/// 65,536.
 fn push_table(out: &mut Vec<u8>, places: &[usize]) -> Result<(), AllocError>
     requires within { AllByRecursion (λ place. place < 65536) places.now }
     ensures bytes { OnOk result (out.new.items ≡ out.old.items ++ table_words (length out.old.items) places.now) }
@@ -58,7 +60,7 @@ fn push_table(out: &mut Vec<u8>, places: &[usize]) -> Result<(), AllocError>
     Ok(())
 }
 
-/// Adds a case jump with its bounds, its jump out of them and its table.
+/// Appends a case jump with its bounds, its jump out of bounds and its table.
 fn push_case(
     out: &mut Vec<u8>,
     bounds: (u16, u16),
@@ -80,7 +82,7 @@ fn push_case(
     push_table(out, places)
 }
 
-/// Adds an instruction that names no place. It has a spelling, so that nothing but want of memory stops it.
+/// Appends an instruction that does not jump. It has an encoding, so that only refused memory can be an error.
 #[tactic(auto, using(crate::proofs::Spelled::plain_spelled))]
 fn push_plain(out: &mut Vec<u8>, instr: &Instr, named: &[u8]) -> Result<(), AllocError>
     requires plain { IsPlain instr.now named.now }
@@ -95,7 +97,7 @@ fn push_plain(out: &mut Vec<u8>, instr: &Instr, named: &[u8]) -> Result<(), Allo
     }
 }
 
-/// Adds an item.
+/// Appends an item.
 pub(crate) fn push_item(out: &mut Vec<u8>, item: &Item<usize>) -> Result<(), AllocError>
     requires item { IsItem (length out.old.items) (placed_item item.now) }
     ensures bytes { OnOk result (out.new.items ≡ out.old.items
@@ -120,7 +122,7 @@ pub(crate) fn push_item(out: &mut Vec<u8>, item: &Item<usize>) -> Result<(), All
     }
 }
 
-/// Adds code.
+/// Appends code.
 fn push_code(out: &mut Vec<u8>, items: &[Item<usize>]) -> Result<(), AllocError>
     requires items { AreItems (length out.old.items) (map placed_item items.now) }
     ensures bytes { OnOk result (out.new.items ≡ out.old.items
@@ -132,7 +134,7 @@ fn push_code(out: &mut Vec<u8>, items: &[Item<usize>]) -> Result<(), AllocError>
     Ok(())
 }
 
-/// Adds a word that says how far a place lies below it.
+/// Appends a word with the distance from itself down to offset `place`.
 pub(crate) fn push_distance(out: &mut Vec<u8>, place: usize) -> Result<(), AllocError>
     requires short { length out.old.items < 65536 }
     ensures bytes { OnOk result (out.new.items ≡ out.old.items ++ back_to (length out.old.items) place) }
@@ -141,7 +143,7 @@ pub(crate) fn push_distance(out: &mut Vec<u8>, place: usize) -> Result<(), Alloc
     push_word(out, distance as u16)
 }
 
-/// Adds words that say how far places lie below them, that of the last place first.
+/// Appends words with the distances down to the offsets `places`. The last offset comes first.
 pub(crate) fn push_distances(out: &mut Vec<u8>, places: &[usize]) -> Result<(), AllocError>
     requires short { length out.old.items + 2 * length places.now ≤ 65536 }
     ensures bytes { OnOk result (out.new.items ≡ out.old.items
@@ -154,7 +156,7 @@ pub(crate) fn push_distances(out: &mut Vec<u8>, places: &[usize]) -> Result<(), 
     Ok(())
 }
 
-/// Adds the ten bytes of a procedure's attributes.
+/// Appends the ten bytes of the attributes of a procedure.
 #[tactic(auto, using(crate::proofs::Pushed::attributes_pushed))]
 pub(crate) fn push_attributes(
     out: &mut Vec<u8>,
@@ -175,7 +177,7 @@ pub(crate) fn push_attributes(
     Ok(())
 }
 
-/// Adds a procedure: its code, its jump table and its attributes.
+/// Appends a procedure: its code, its jump table and its attributes.
 fn push_procedure(out: &mut Vec<u8>, number: u8, procedure: &Procedure) -> Result<(), AllocError>
     requires procedure { IsProcedure (procedure_seen procedure.now) }
     requires start { procedure.now.start ≡ length out.old.items }
@@ -188,7 +190,7 @@ fn push_procedure(out: &mut Vec<u8>, number: u8, procedure: &Procedure) -> Resul
     push_attributes(out, number, procedure)
 }
 
-/// Adds procedures that are numbered from 1, and answers where their tables stand.
+/// Appends procedures, numbered from 1. Returns the offsets of their tables.
 fn push_procedures(
     alloc: Global,
     out: &mut Vec<u8>,
@@ -210,8 +212,8 @@ fn push_procedures(
     Ok(tables)
 }
 
-/// Adds the dictionary of a segment whose tables stand at these places, and the word with its number and the count of
-/// its procedures.
+/// Appends the dictionary of a segment whose tables are at these offsets, and its last word. The last word has the
+/// number of the segment and the number of its procedures.
 pub(crate) fn push_dictionary(
     out: &mut Vec<u8>,
     number: u8,
@@ -228,8 +230,8 @@ pub(crate) fn push_dictionary(
     Ok(())
 }
 
-/// The bytes of a segment: its procedures, its dictionary, and the word with its number and the count of its
-/// procedures.
+/// Returns the bytes of a segment: its procedures, its dictionary, and its last word. The last word has the number of
+/// the segment and the number of its procedures.
 pub(crate) fn segment_bytes(alloc: Global, segment: &Segment) -> Result<Vec<u8>, AllocError>
     requires segment { IsSegment (segment_seen segment.now) }
     requires short { length (segment_bytes (segment_seen segment.now)) ≤ 65534 }

@@ -1,4 +1,4 @@
-//! How many entries of the jump table code takes.
+//! The number of jump table entries that code needs.
 
 ghost use Rattle.std.specs.Prelude.{◌≡◌, map};
 ghost use Rattle.pm_code.specs.Program.{entries_for, entries_needed, entries_used};
@@ -7,7 +7,7 @@ ghost use Rattle.pm_code.specs.Views.{item_seen, target_seen};
 use crate::item::{Item, Target};
 
 impl<P> Target<P> {
-    /// How many entries the jump table has to have for it.
+    /// Returns the number of jump table entries that this target needs.
     fn entries(&self) -> usize
         ensures entries { result ≡ entries_for (target_seen (λ p. p) self.now) }
     {
@@ -19,7 +19,7 @@ impl<P> Target<P> {
 }
 
 impl<P> Item<P> {
-    /// How many entries the jump table has to have for it.
+    /// Returns the number of jump table entries that this item needs.
     fn entries(&self) -> usize
         ensures entries { result ≡ entries_used (item_seen (λ p. p) self.now) }
     {
@@ -31,8 +31,8 @@ impl<P> Item<P> {
     }
 }
 
-/// How many entries the jump table has to have for items: one more than the greatest that a jump takes, none where no
-/// jump takes one.
+/// Returns the number of jump table entries that items need. It is one more than the highest entry that a jump uses, or
+/// 0 if no jump uses one.
 pub fn entries_needed<P>(items: &[Item<P>]) -> usize
     ensures entries { result ≡ entries_needed (map (item_seen (λ p. p)) items.now) }
 {

@@ -10,7 +10,7 @@ use crate::program::Segment;
 use pm_codefile::write;
 use std::alloc::{AllocError, Global};
 
-/// The segment of a number.
+/// Returns the segment with this number.
 fn segment_numbered(program: &[Segment], number: u8) -> Option<&Segment>
     ensures segment { option_map (λ s. segment_seen s.now) result ≡ segment_numbered number (program_seen program.now) }
 {
@@ -22,7 +22,7 @@ fn segment_numbered(program: &[Segment], number: u8) -> Option<&Segment>
     None
 }
 
-/// A name with spaces at its end.
+/// Returns a name padded with spaces to 8 bytes.
 fn padded_name(name: &[u8]) -> [u8; 8]
     requires short { length name.now ≤ 8 }
     ensures padded { result ≡ name.now ++ replicate (8 - length name.now) 32 }
@@ -32,16 +32,16 @@ fn padded_name(name: &[u8]) -> [u8; 8]
     padded
 }
 
-/// What a slot of a code file holds.
+/// The contents of a slot of a code file.
 #[derive(Drop)]
 struct Slot {
-    /// The name of its segment, spaces if there is none.
+    /// The name of the segment, or spaces if there is none.
     name: [u8; 8],
-    /// The bytes of its segment, none if there is none.
+    /// The bytes of the segment, or no bytes if there is none.
     bytes: Vec<u8>,
 }
 
-/// What the slot of a number holds.
+/// Returns the contents of the slot with this number.
 fn slot_of(alloc: Global, program: &[Segment], number: u8) -> Result<Slot, AllocError>
     requires program { IsProgram (program_seen program.now) }
     requires fit { FitSlots (program_seen program.now) }
@@ -62,8 +62,12 @@ fn slot_of(alloc: Global, program: &[Segment], number: u8) -> Result<Slot, Alloc
     Ok(Slot { name, bytes })
 }
 
-/// The code file of a program, of which no segment has more than 65,534 bytes: each segment in the slot of its number,
-/// in the canonical layout. Its only error is that memory could not grow.
+/// Returns the code file of a program in the canonical layout. Each segment is in the slot with its number. No segment
+/// may have more than 65,534 bytes.
+///
+/// # Errors
+///
+/// `AllocError`: memory was refused.
 #[tactic(auto, unfolding(crate::specs::Image::file_of))]
 pub fn code_file(alloc: Global, program: &[Segment]) -> Result<Vec<u8>, AllocError>
     requires program { IsProgram (program_seen program.now) }

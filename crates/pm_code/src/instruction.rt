@@ -1,4 +1,4 @@
-//! Instructions as text.
+//! The text of instructions.
 
 ghost use Rattle.std.specs.Prelude.{Some};
 ghost use Rattle.pm_code.specs.Text.{item_text};
@@ -7,12 +7,12 @@ use crate::operands::{Implied, Number, OperandType, Quoted, Signed, Words};
 use pm_opcode::{Form, Instr, form_at, row_at};
 use std::fmt;
 
-/// An instruction with the bytes that it names, shown as its mnemonic and its operands.
+/// An instruction with the bytes that belong to it, shown as its mnemonic and its operands.
 #[derive(Clone, Copy)]
 pub struct Instruction<'a> {
     /// The instruction.
     pub instr: &'a Instr,
-    /// The characters of LSA and LPA, or the bytes of LDC's words. Other instructions show none.
+    /// The characters of LSA and LPA, or the bytes of the words of LDC. Other instructions show none.
     pub named: &'a [u8],
 }
 

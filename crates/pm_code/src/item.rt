@@ -2,34 +2,34 @@
 
 use pm_opcode::Instr;
 
-/// Where a jump leads. `P` is how a place is told: by its offset in the segment, or by a label of a text.
+/// The target of a jump. `P` is an offset in the segment, or a label of a source text.
 #[derive(Clone, Copy, Drop)]
 pub enum Target<P> {
-    /// A place of the segment.
+    /// A position in the segment.
     To(P),
-    /// The place that an entry of the jump table names.
+    /// The position to which this entry of the jump table leads.
     Through(u8),
 }
 
-/// A part of a procedure's code: an instruction, or a byte that is none. `Item<usize>` names offsets of a segment, an
-/// item of a text its labels.
+/// A part of the code of a procedure: an instruction, or a byte that is not part of one. `Item<usize>` has offsets in
+/// the segment. An item of a source text has labels.
 #[derive(Drop)]
 pub enum Item<P> {
-    /// An instruction that names no place, with the bytes that it names.
+    /// An instruction that does not jump, with the bytes that belong to it.
     Plain(Instr, Vec<u8>),
     /// A short jump, by its opcode.
     Jump(u8, Target<P>),
     /// A case jump.
     Case {
-        /// Its low bound, as a word.
+        /// The low bound, as a word.
         low: u16,
-        /// Its high bound, as a word.
+        /// The high bound, as a word.
         high: u16,
-        /// Where it leads out of bounds.
+        /// The target of the jump out of bounds.
         otherwise: Target<P>,
-        /// The places of its table.
+        /// The targets in the table.
         places: Vec<P>,
     },
-    /// A byte that stands for itself.
+    /// A byte that is not part of an instruction.
     OneByte(u8),
 }

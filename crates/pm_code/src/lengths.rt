@@ -1,4 +1,4 @@
-//! How many bytes code has. Each answer is `None` only where it would pass `usize::MAX`: memory cannot hold such code.
+//! The sizes of code in bytes. A size is `None` only if it exceeds `usize::MAX`. Memory cannot contain such code.
 
 ghost use Rattle.std.specs.Prelude.{◌≡◌, ◌<◌, ◌+◌, None, IfSome, length, map};
 ghost use Rattle.pm_opcode.specs.Spelling.{is_odd, is_sized, spelled_number, pad_byte, spelling};
@@ -10,28 +10,28 @@ use crate::item::Item;
 use crate::program::{Procedure, Segment};
 use pm_opcode::{Form, Instr, form_at};
 
-/// How many bytes a number has.
+/// Returns the size of a number in bytes.
 fn number_size(value: u16, long: bool) -> usize
     ensures size { result ≡ length (spelled_number value long) }
 {
     if long || value >= 128 { 2 } else { 1 }
 }
 
-/// How many bytes the padding before an odd address has.
+/// Returns the size of the padding before an odd address.
 fn padding_size(odd: bool) -> usize
     ensures size { result ≡ length (pad_byte odd 0) }
 {
     if odd { 1 } else { 0 }
 }
 
-/// Whether the operands of a comparison of this type have a size.
+/// Whether the operands of a comparison with this type have a size.
 fn has_size(operand_type: u16) -> bool
     ensures sized { result ≡ is_sized operand_type }
 {
     operand_type == 10 || operand_type == 12
 }
 
-/// How many bytes an instruction has at an offset, with the bytes that it names.
+/// Returns the size in bytes of an instruction at offset `at`, with the bytes that belong to it.
 fn spelling_size(at: usize, instr: &Instr, named: &[u8]) -> Option<usize>
     ensures size { IfSome result (λ n. n ≡ length (spelling (is_odd at) 0 instr.now named.now)) }
     ensures too_long { result ≡ None → 18446744073709551615 < length (spelling (is_odd at) 0 instr.now named.now) }
@@ -52,8 +52,8 @@ fn spelling_size(at: usize, instr: &Instr, named: &[u8]) -> Option<usize>
 }
 
 impl<P> Item<P> {
-    /// How many bytes it has where it begins at an offset of its segment, wherever its jumps lead; an even or an odd
-    /// offset decides the padding. `None` only where it would pass `usize::MAX`.
+    /// Returns the size of the item in bytes if it begins at offset `at` of its segment. The size does not depend on
+    /// the targets of its jumps. It depends on `at` only by the padding. `None` only if the size exceeds `usize::MAX`.
     pub fn size(&self, at: usize) -> Option<usize>
         ensures size { IfSome result (λ n. n ≡ size at (item_seen (λ p. p) self.now)) }
         ensures too_long { result ≡ None → 18446744073709551615 < size at (item_seen (λ p. p) self.now) }
@@ -70,7 +70,8 @@ impl<P> Item<P> {
     }
 }
 
-/// Where items end that begin at an offset of their segment. `None` only where it would pass `usize::MAX`.
+/// Returns the offset where items end that begin at offset `at` of their segment. `None` only if the end exceeds
+/// `usize::MAX`.
 pub fn items_end<P>(at: usize, items: &[Item<P>]) -> Option<usize>
     ensures end { IfSome result (λ n. n ≡ end_of at (map (item_seen (λ p. p)) items.now)) }
     ensures too_long { result ≡ None → 18446744073709551615 < end_of at (map (item_seen (λ p. p)) items.now) }
@@ -82,8 +83,8 @@ pub fn items_end<P>(at: usize, items: &[Item<P>]) -> Option<usize>
     Some(end)
 }
 
-/// The offset where a procedure ends: behind its code, two bytes for each entry of its jump table, and ten bytes of
-/// attributes.
+/// Returns the offset where a procedure ends: after its code, two bytes for each entry of its jump table, and ten bytes
+/// of attributes.
 fn procedure_end(procedure: &Procedure) -> Option<usize>
     ensures end { IfSome result (λ n. n ≡ jtab_of (procedure_seen procedure.now) + 2) }
     ensures too_long { result ≡ None → 18446744073709551615 < jtab_of (procedure_seen procedure.now) + 2 }
@@ -94,7 +95,7 @@ fn procedure_end(procedure: &Procedure) -> Option<usize>
     Some(end)
 }
 
-/// Where the procedures of a segment end, of which each begins where the one before ends.
+/// Returns the offset where the procedures of a segment end. Each procedure must begin where the one before ends.
 fn procedures_end(procedures: &[Procedure]) -> Option<usize>
     requires follow { FollowFrom 0 (map procedure_seen procedures.now) }
     ensures end { IfSome result (λ end. end ≡ procedures_end 0 (map procedure_seen procedures.now)) }
@@ -107,8 +108,8 @@ fn procedures_end(procedures: &[Procedure]) -> Option<usize>
     Some(end)
 }
 
-/// How many bytes a segment has: its procedures, of which each begins where the one before ends, a word for each, and
-/// one more. `None` only where it would pass `usize::MAX`.
+/// Returns the size of a segment in bytes: its procedures, a word for each, and one more word. Each procedure must
+/// begin where the one before ends. `None` only if the size exceeds `usize::MAX`.
 pub fn segment_length(segment: &Segment) -> Option<usize>
     requires follow { FollowFrom 0 (segment_seen segment.now).procedures }
     ensures size { IfSome result (λ n. n ≡ length (segment_bytes (segment_seen segment.now))) }

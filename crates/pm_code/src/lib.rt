@@ -1,4 +1,4 @@
-//! Programs: items of code, procedures, segments; their bytes, their text, their listing and their code file.
+//! Programs: items of code, procedures and segments. Their bytes, their text, their listing and their code file.
 #![tactic(auto)]
 
 mod bytes;

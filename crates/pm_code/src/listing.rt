@@ -1,5 +1,5 @@
-//! The listing of a program. Each function adds the bytes of what it lists to those of the segment so far, and to the
-//! text their lines.
+//! The listing of a program. Each function appends the bytes of what it lists to the bytes of the segment, and its
+//! lines to the text.
 
 ghost use Rattle.std.specs.Prelude.{◌≡◌, ◌<◌, ◌≤◌, ◌+◌, ◌*◌, ◌++◌, ◌∷◌, [], List, ℕ, Some, codes};
 ghost use Rattle.std.specs.Prelude.{length, map, reverse, string_bytes, IfOk, OnOk};
@@ -22,7 +22,7 @@ use crate::shown::Label;
 use std::alloc::{AllocError, Global};
 use std::fmt::{self, Write};
 
-/// What a line of a listing speaks of: a number of a segment, and one of a procedure.
+/// The numbers at the start of a line of a listing.
 #[derive(Clone, Copy)]
 struct Place {
     /// The number of the segment.
@@ -31,7 +31,7 @@ struct Place {
     procedure: u8,
 }
 
-/// A segment's number in two digits.
+/// The number of a segment, shown in two digits.
 #[derive(Clone, Copy)]
 struct SegmentNumber(u8);
 
@@ -45,7 +45,7 @@ impl fmt::Display for SegmentNumber {
     }
 }
 
-/// A hexadecimal digit.
+/// Returns the hexadecimal digit of a value below 16.
 fn upper_digit(value: u8) -> u8
     requires digit { value < 16 }
     ensures digit { result ≡ upper_digit value }
@@ -54,7 +54,7 @@ fn upper_digit(value: u8) -> u8
     if value < 10 { 48 + value } else { 55 + value }
 }
 
-/// Adds a byte as two digits, behind a space.
+/// Appends a byte as a space and two digits.
 fn push_pair(text: &mut String, byte: u8) -> Result<(), AllocError>
     ensures text { OnOk result (string_bytes text.new ≡ string_bytes text.old ++ pairs_text (byte ∷ [])) }
 {
@@ -64,7 +64,7 @@ fn push_pair(text: &mut String, byte: u8) -> Result<(), AllocError>
     Ok(())
 }
 
-/// Adds bytes as pairs of digits, each behind a space.
+/// Appends bytes, each as a space and two digits.
 fn push_pairs(text: &mut String, bytes: &[u8]) -> Result<(), AllocError>
     ensures text { OnOk result (string_bytes text.new ≡ string_bytes text.old ++ pairs_text bytes.now) }
 {
@@ -74,7 +74,7 @@ fn push_pairs(text: &mut String, bytes: &[u8]) -> Result<(), AllocError>
     Ok(())
 }
 
-/// Adds a line up to what its bytes are, which a line feed ends: its place, an offset, and the bytes there.
+/// Appends a line up to its description: the numbers of `place`, the offset, and the bytes.
 fn push_front(
     text: &mut String,
     place: Place,
@@ -98,7 +98,7 @@ fn push_front(
     Ok(())
 }
 
-/// Adds an item and its line.
+/// Appends an item and its line.
 fn list_item(
     text: &mut String,
     bytes: &mut Vec<u8>,
@@ -122,7 +122,7 @@ fn list_item(
     Ok(())
 }
 
-/// Adds code and its lines.
+/// Appends code and its lines.
 fn list_code(
     text: &mut String,
     bytes: &mut Vec<u8>,
@@ -142,7 +142,7 @@ fn list_code(
     Ok(())
 }
 
-/// Adds an entry of a jump table that leads to a place, and its line.
+/// Appends a jump table entry that leads to offset `leads`, and its line.
 fn list_entry(
     text: &mut String,
     bytes: &mut Vec<u8>,
@@ -166,7 +166,7 @@ fn list_entry(
     Ok(())
 }
 
-/// Adds a jump table, the last entry first, and its lines.
+/// Appends a jump table, the last entry first, and its lines.
 fn list_entries(
     text: &mut String,
     bytes: &mut Vec<u8>,
@@ -187,7 +187,7 @@ fn list_entries(
     Ok(())
 }
 
-/// Adds the attributes of a procedure, and their line.
+/// Appends the attributes of a procedure, and their line.
 fn list_attributes(
     text: &mut String,
     bytes: &mut Vec<u8>,
@@ -208,7 +208,7 @@ fn list_attributes(
     Ok(())
 }
 
-/// Adds a procedure and its lines.
+/// Appends a procedure and its lines.
 fn list_procedure(
     text: &mut String,
     bytes: &mut Vec<u8>,
@@ -229,7 +229,7 @@ fn list_procedure(
     list_attributes(text, bytes, place, procedure)
 }
 
-/// Adds procedures that are numbered from 1 and their lines, and answers where their tables stand.
+/// Appends procedures, numbered from 1, and their lines. Returns the offsets of their tables.
 fn list_procedures(
     alloc: Global,
     text: &mut String,
@@ -260,7 +260,7 @@ fn list_procedures(
     Ok(tables)
 }
 
-/// Adds the lines of a segment.
+/// Appends the lines of a segment.
 fn list_segment(alloc: Global, text: &mut String, segment: &Segment) -> Result<(), AllocError>
     requires segment { IsSegment (segment_seen segment.now) }
     requires short { length (segment_bytes (segment_seen segment.now)) ≤ 65534 }
@@ -281,9 +281,12 @@ fn list_segment(alloc: Global, text: &mut String, segment: &Segment) -> Result<(
     Ok(())
 }
 
-/// The listing of a program, of which no segment has more than 65,534 bytes: a line for each item, each entry of a jump
-/// table, the attributes of each procedure, and the dictionary of each segment. Its only error is that memory could not
-/// grow.
+/// Returns the listing of a program. No segment may have more than 65,534 bytes. The listing has a line for each item,
+/// each jump table entry, the attributes of each procedure, and the dictionary of each segment.
+///
+/// # Errors
+///
+/// `AllocError`: memory was refused.
 pub fn listing_of(alloc: Global, program: &[Segment]) -> Result<String, AllocError>
     requires program { IsProgram (program_seen program.now) }
     requires fit { FitSlots (program_seen program.now) }

@@ -1,4 +1,4 @@
-//! Numbers as text with zeros in front, and what the digits of a text are worth.
+//! Numbers with leading zeros, and the values of digits.
 
 ghost use Rattle.std.specs.Prelude.{◌≡◌, ◌≤◌, min, Some};
 ghost use Rattle.std.specs.Char.{digit_value};
@@ -7,10 +7,10 @@ ghost use Rattle.pm_code.specs.Shown.{padded};
 
 use std::fmt;
 
-/// Where magnitudes are cut off: more than any operand can be, and than four hexadecimal digits are.
+/// The maximum of a magnitude. It is higher than any operand and than any four hexadecimal digits.
 const LARGEST: u32 = 1_000_000;
 
-/// A number in three digits or more.
+/// A number, shown in at least three digits.
 #[derive(Clone, Copy)]
 pub struct ThreeDigits(pub usize);
 
@@ -24,7 +24,7 @@ impl fmt::Display for ThreeDigits {
     }
 }
 
-/// A number in five digits or more.
+/// A number, shown in at least five digits.
 #[derive(Clone, Copy)]
 pub struct FiveDigits(pub usize);
 
@@ -50,7 +50,7 @@ fn digit_value(digit: u8) -> u32
     }
 }
 
-/// What digits are worth, cut off at a million.
+/// Returns the value of digits in the base `radix`, at most 1,000,000.
 pub fn magnitude(radix: u32, digits: &[u8]) -> u32
     requires radix { (1 ≤ radix) × (radix ≤ 16) }
     ensures value { result ≡ min 1000000 (digits_value radix digits.now) }

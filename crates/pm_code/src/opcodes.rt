@@ -3,5 +3,5 @@
 /// The opcode of XJP.
 pub const CASE_JUMP: u8 = 172;
 
-/// The opcode of UJP, the jump that stands in an XJP.
+/// The opcode of UJP, the jump inside an XJP.
 pub const JUMP: u8 = 185;

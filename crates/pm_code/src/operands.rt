@@ -1,4 +1,4 @@
-//! The operands of instructions as text.
+//! The text of the operands of instructions.
 
 ghost use Rattle.std.specs.Prelude.{◌≡◌, ◌<◌, map, Some};
 ghost use Rattle.std.specs.Fmt.{decimal};
@@ -10,7 +10,7 @@ ghost use Rattle.pm_words.specs.Words.{words_of};
 use pm_opcode::implied_number;
 use std::fmt;
 
-/// A word as the signed number of Pascal's integers: from -32768 to 32767.
+/// A word, shown as a signed Pascal integer from -32768 to 32767.
 #[derive(Clone, Copy)]
 pub struct Signed(pub u16);
 
@@ -28,11 +28,11 @@ impl fmt::Display for Signed {
     }
 }
 
-/// A number of one or two bytes.
+/// A number with an encoding of one or two bytes.
 #[derive(Clone, Copy)]
 pub(crate) struct Number {
     pub value: u16,
-    /// It has two bytes.
+    /// The encoding has two bytes.
     pub long: bool,
 }
 
@@ -49,7 +49,7 @@ impl fmt::Display for Number {
     }
 }
 
-/// The type of a comparison's operands, with their size where it has one.
+/// The type of the operands of a comparison, with their size if it has one.
 #[derive(Clone, Copy)]
 pub(crate) struct OperandType {
     pub code: u16,
@@ -73,7 +73,7 @@ impl fmt::Display for OperandType {
     }
 }
 
-/// The operand of an opcode that says a number itself, behind a space.
+/// The operand that is part of an opcode, shown after a space.
 #[derive(Clone, Copy)]
 pub(crate) struct Implied(pub u8);
 
@@ -94,7 +94,7 @@ fn is_plain_byte(byte: u8) -> bool
     byte != b'"' && byte != b'\\' && byte >= 32 && byte <= 126
 }
 
-/// A byte between quotes.
+/// A byte inside quotes.
 #[derive(Clone, Copy)]
 struct Escaped(u8);
 
@@ -112,7 +112,7 @@ impl fmt::Display for Escaped {
     }
 }
 
-/// Bytes between quotes, as the assembler takes them.
+/// Bytes in quotes, as the assembler accepts them.
 #[derive(Clone, Copy)]
 pub struct Quoted<'a>(pub &'a [u8]);
 
@@ -129,7 +129,7 @@ impl fmt::Display for Quoted<'_> {
     }
 }
 
-/// Words, the first behind a space and each other behind a comma.
+/// Words, shown after a space and separated by commas.
 #[derive(Clone, Copy)]
 pub(crate) struct Words<'a>(pub &'a [u8]);
 

@@ -1,34 +1,34 @@
-//! Programs: what a code file holds, with each place as an offset in its segment. A program is its segments by
-//! ascending number.
+//! Programs: the contents of a code file. Positions are offsets in a segment. A program is a list of segments in
+//! ascending order of their numbers.
 
 use crate::item::Item;
 
 /// A procedure.
 #[derive(Drop)]
 pub struct Procedure {
-    /// Its level, a byte in two's complement.
+    /// The level, a byte in two's complement.
     pub level: u8,
-    /// The size of its parameters, in bytes.
+    /// The size of the parameters in bytes.
     pub parameters: u16,
-    /// The size of its locals, in bytes.
+    /// The size of the locals in bytes.
     pub locals: u16,
-    /// The offset of its code in the segment.
+    /// The offset of the code in the segment.
     pub start: usize,
-    /// Its code.
+    /// The code.
     pub items: Vec<Item<usize>>,
-    /// The offset of its exit code.
+    /// The offset of the exit code.
     pub exit: usize,
-    /// The places that the entries of its jump table name, from entry 0 on.
+    /// The offsets to which the entries of the jump table lead, from entry 0.
     pub entries: Vec<usize>,
 }
 
-/// A segment with its procedures, which are numbered from 1.
+/// A segment. Its procedures are numbered from 1.
 #[derive(Drop)]
 pub struct Segment {
-    /// Its number, below 16.
+    /// The number, below 16.
     pub number: u8,
-    /// Its name, 1 to 8 bytes.
+    /// The name, 1 to 8 bytes.
     pub name: Vec<u8>,
-    /// Its procedures.
+    /// The procedures.
     pub procedures: Vec<Procedure>,
 }

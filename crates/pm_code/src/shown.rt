@@ -1,4 +1,4 @@
-//! Items of a program as text.
+//! The text of the items of a program.
 
 ghost use Rattle.std.specs.Prelude.{◌≡◌, map, Some};
 ghost use Rattle.pm_code.specs.Shown.{label_text, shown_item, target_text};
@@ -12,7 +12,7 @@ use crate::operands::Signed;
 use pm_opcode::row_at;
 use std::fmt;
 
-/// A place of a segment as a label: `L` and its offset in five digits.
+/// An offset in a segment, shown as a label: `L` and at least five digits.
 #[derive(Clone, Copy)]
 pub struct Label(pub usize);
 
@@ -37,7 +37,7 @@ impl fmt::Display for Target<usize> {
     }
 }
 
-/// Places as labels, each behind a comma.
+/// Offsets, shown as labels. Each follows a comma and a space.
 #[derive(Clone, Copy)]
 struct Places<'a>(&'a [usize]);
 

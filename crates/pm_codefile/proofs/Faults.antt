@@ -1,4 +1,4 @@
--- How the search for a fault goes on.
+-- One step of the search for a fault.
 use Rattle.std.proofs.Common.{◌≡◌, ◌⊎◌, inl, inr, ℕ, suc, ◌+◌, ◌-◌, ◌<◌, ◌≤◌, Bool, true, false, cond, List, length, None, Some, refl, arith}
 use Rattle.pm_codefile.specs.declared.fault.CodeFault.{CodeFault}
 use Rattle.pm_codefile.specs.declared.fault.CodeFault.TheVariants.{SlotPastEnd, OddLength}
@@ -29,7 +29,7 @@ names_slot : (file : List ℕ) (n : ℕ) (fault : CodeFault) → slot_fault file
 unfolding slot_fault
 names_slot file n fault h = one_of _ _ _ _ _ h
 
--- a slot's fault, where no slot before has one, is the first of the file
+-- the fault of a slot is the first of the file if no slot before it has one
 pub first-from_slot : (file : List ℕ) (n : ℕ) (fault : CodeFault) → 512 ≤ length file → n < 16 → ((k : ℕ) → k < n → slot_fault file k ≡ None)
     → slot_fault file n ≡ Some fault → IsFirstCodeFault file fault
 first-from_slot file n fault d l before h = elim (names_slot file n fault h) [

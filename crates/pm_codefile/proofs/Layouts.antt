@@ -1,4 +1,4 @@
--- How the parts of a file go on.
+-- One step of the loops that write the parts of a file.
 use Rattle.std.proofs.Common.{◌≡◌, ℕ, ◌+◌, ◌<◌, List, ◌++◌, length, take, drop, get_or, refl, add-one, drop-cons}
 use Rattle.std.specs.Prelude.{sum}
 use Rattle.std.proofs.lemmas.List.Sums.{sum_by-drop_more}

@@ -1,4 +1,4 @@
--- A written file is read as it was written.
+-- A written file reads as it was written.
 use Rattle.std.proofs.Common.{◌≡◌, ◌<◌, ◌≤◌, ℕ, zero, suc, ◌+◌, ◌*◌, ◌%◌, Bool, ◌&&◌, List, [], ◌++◌, All, None, Some, length, take, replicate, get_or, ◌∙◌}
 use Rattle.std.proofs.Common.{sym, cond, eqb, ltb, true, false, refl, inl, inr, arith, length-append}
 use Rattle.std.specs.Prelude.{slice_range, sum}
@@ -17,7 +17,7 @@ zero-word : (n p : ℕ) → p + 2 ≤ n → word_in (replicate n 0) p ≡ 0
 unfolding word_in
 zero-word n p h = rw (get_or-replicate {A = ℕ} n p 0 0 (omega arith), get_or-replicate {A = ℕ} n (p + 1) 0 0 (omega arith)) refl
 
--- no slot has a fault where each has none
+-- if no slot has a fault, there is no first fault
 none-first : (file : List ℕ) (left n : ℕ) → ((k : ℕ) → k < n + left → slot_fault file k ≡ None) → first_slot_fault file n left ≡ None
 unfolding first_slot_fault
 none-first file zero n none = refl
@@ -141,7 +141,7 @@ module _ (names : List (List ℕ)) (ns segments : List ℕ) (named : length name
             rw (neither (ltb 0 (get_or ns n 0)) (ltb (length (layout names ns segments)) (512 * first_block_of ns n + get_or ns n 0)) none) refl
       ])
 
--- what `write` gives is read as it was written
+-- the result of `write` reads as it was written
 pub layout-reads_back : (names : List (List ℕ)) (ns segments : List ℕ) → length names ≡ 16 → length ns ≡ 16
     → ((k : ℕ) → k < length names → length (get_or names k []) ≡ 8) → ((k : ℕ) → get_or ns k 0 < 65536) → sum ns ≡ length segments
     → All (λ n. n % 2 ≡ 0) ns → ReadsBack names ns segments (layout names ns segments)

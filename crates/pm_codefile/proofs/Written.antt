@@ -1,4 +1,4 @@
--- Words and parts of lists that are joined, and of the parts of a written file.
+-- Words and parts of joined lists, and the parts of a written file.
 use Rattle.std.proofs.Common.{◌≡◌, ◌<◌, ◌≤◌, ℕ, zero, suc, ◌+◌, ◌-◌, ◌*◌, List, [], ◌∷◌, ◌++◌, length, take, drop, get_or, ◌∙◌, cond, eqb, refl, inl, inr}
 use Rattle.std.proofs.Common.{arith, append_assoc, length-append}
 use Rattle.std.specs.Prelude.{slice_range, sum}
@@ -17,7 +17,7 @@ pub word_in-left : (xs ys : List ℕ) (p : ℕ) → p + 2 ≤ length xs → word
 unfolding word_in
 word_in-left xs ys p h = rw (get_or_append_left xs ys 0 p (omega arith), get_or_append_left xs ys 0 (p + 1) (omega arith)) refl
 
--- a word in the second one
+-- a word in the second of two lists
 pub word_in-right : (xs ys : List ℕ) (n p : ℕ) → length xs ≡ n → word_in (xs ++ ys) (n + p) ≡ word_in ys p
 unfolding word_in
 word_in-right xs ys n p h =
@@ -27,7 +27,7 @@ word_in-right xs ys n p h =
     let f : ((n + p) + 1) - n ≡ p + 1 = omega arith in
     rw (low, high, e, f) refl
 
--- a word that begins a list
+-- a word at the start of a list
 pub word_in-start : (w : ℕ) (rest : List ℕ) → w < 65536 → word_in (little_bytes 2 w ++ rest) 0 ≡ w
 unfolding word_in
 word_in-start w rest h = omega (arith, little_number-reads_back 2 w rest h)
@@ -37,13 +37,13 @@ pub slice_range-left : (xs ys : List ℕ) (a b : ℕ) → a ≤ b → b ≤ leng
 slice_range-left xs ys a b l h =
     rw (drop-append-le a xs ys (omega arith)) (take-append-le (b - a) (drop a xs) ys (omega (arith, length-drop a xs)))
 
--- a part of the second one
+-- a part of the second of two lists
 pub slice_range-right : (xs ys : List ℕ) (n a b : ℕ) → length xs ≡ n → slice_range (xs ++ ys) (n + a) (n + b) ≡ slice_range ys a b
 slice_range-right xs ys n a b h =
     let e : (n + b) - (n + a) ≡ b - a = omega arith in
     rw (e, ← drop-drop a n (xs ++ ys), drop_at xs ys n h) refl
 
--- all pairs
+-- the length of all pairs
 pub length-pairs : (ns : List ℕ) (b : ℕ) → length (pairs b ns) ≡ 4 * length ns
 unfolding pairs
 length-pairs [] b = refl
@@ -87,7 +87,7 @@ pairs-block (n ∷ ns) b (suc i) l small =
 length-name : (name : List ℕ) (n : ℕ) → length name ≡ 8 → length (name_for name n) ≡ 8
 length-name name n h = elim (cases_Bool (eqb n 0)) [ inl e ↦ rw e refl | inr e ↦ rw e h ]
 
--- all names
+-- the length of all names
 pub length-names : (names : List (List ℕ)) (ns : List ℕ) → length names ≡ length ns → ((k : ℕ) → k < length names → length (get_or names k []) ≡ 8)
     → length (names_for names ns) ≡ 8 * length ns
 unfolding names_for
@@ -120,7 +120,7 @@ length-filled : (n : ℕ) (segments : List ℕ) → n ≤ length segments → le
 length-filled n segments h =
     omega (arith, length-append (take n segments) (block_padding n), length-take-le n segments h, length-replicate {A = ℕ} (512 * blocks_for n - n) 0)
 
--- all segments
+-- the length of all segments
 pub length-padded : (ns segments : List ℕ) → sum ns ≤ length segments → length (in_blocks ns segments) ≡ 512 * sum_by blocks_for ns
 unfolding in_blocks
 length-padded [] segments h = refl
@@ -134,7 +134,7 @@ length-padded (n ∷ ns) segments h =
       sum_by-cons blocks_for n ns,
     )
 
--- a segment lies among its blocks
+-- a segment lies within its blocks
 pub part-within : (ns : List ℕ) (i : ℕ) → i < length ns → 512 * sum_by blocks_for (take i ns) + get_or ns i 0 ≤ 512 * sum_by blocks_for ns
 part-within [] i l = absurd (omega arith)
 part-within (n ∷ ns) zero l = omega (arith, sum_by-cons blocks_for n ns)

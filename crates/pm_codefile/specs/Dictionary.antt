@@ -1,10 +1,10 @@
--- The dictionary of a code file, its first block, by the place of each byte:
---     0 to 63     16 pairs of words: a slot's block in the file, and its length in bytes
---    64 to 191    16 names of 8 bytes, with spaces at the end
+-- The dictionary of a code file is its first block. Its bytes, by offset:
+--     0 to 63     16 pairs of words: the block and the length in bytes of each slot
+--    64 to 191    16 names of 8 bytes, padded with spaces
 --   192 to 223    16 kinds, each a word
---   224 to 511    nothing that is read
--- Slot n has the n-th pair, name and kind, counted from 0, and holds the segment of number n. A word has its low byte
--- first.
+--   224 to 511    not read
+-- Slot n has the n-th pair, name and kind, counted from 0. It contains the segment with number n. The low byte of a
+-- word comes first.
 use Rattle.std.specs.Prelude.{◌≡◌, ◌==◌, ◌≤◌, ◌<◌, ◌&&◌, not, nat_lt, ℕ, zero, suc, ◌+◌, ◌*◌, ◌%◌, List, length}
 use Rattle.std.specs.Prelude.{slice_range, Option, Some, None, if◌then◌else◌}
 use Rattle.std.specs.Option.{option_or}
@@ -14,16 +14,16 @@ use Rattle.pm_codefile.specs.declared.file.Slot.{Slot}
 use Rattle.pm_bytes.specs.declared.blocks.TheConstants.{BLOCK}
 unfoldable pub use Rattle.pm_bytes.specs.Words.{word_in}
 
--- The block of slot n.
+-- The block of slot `n`.
 abbrev pub block_in : List ℕ → ℕ → ℕ
 block_in file n = word_in file (4 * n)
 
--- The length of slot n.
+-- The length of slot `n` in bytes.
 abbrev pub length_in : List ℕ → ℕ → ℕ
 length_in file n = word_in file (4 * n + 2)
 
--- Why slot n is refused: its length is odd; or it has one, and its segment, which begins at its block, passes the
--- file's end.
+-- The reason to refuse slot `n`: its length is odd, or its length is not 0 and its segment extends past the end of the
+-- file.
 unfoldable pub slot_fault : List ℕ → ℕ → Option CodeFault
 slot_fault file n =
     if not (length_in file n % 2 == 0) then Some (OddLength n)
@@ -31,34 +31,34 @@ slot_fault file n =
     then Some (SlotPastEnd n)
     else None)
 
--- The first fault among so many slots from slot n on.
+-- The first fault in the `left` slots that begin with slot `n`.
 unfoldable pub first_slot_fault : List ℕ → ℕ → ℕ → Option CodeFault
 first_slot_fault file n zero = None
 first_slot_fault file n (suc left) = option_or (slot_fault file n) (first_slot_fault file (n + 1) left)
 
--- Why a file is refused.
+-- The reason to refuse a file.
 unfoldable pub file_fault : List ℕ → Option CodeFault
 file_fault file = if nat_lt (length file) BLOCK then Some NoDictionary else first_slot_fault file 0 16
 
--- No slot below slot n has a fault, and slot n has this one.
+-- Slot `n` has the fault `fault`, and no slot below it has a fault.
 pub record IsFaultOfSlot (file : List ℕ) (n : ℕ) (fault : CodeFault) : Type 0 where
   pub dictionary : BLOCK ≤ length file
   pub slot : n < 16
   pub before : (k : ℕ) → k < n → slot_fault file k ≡ None
   pub there : slot_fault file n ≡ Some fault
 
--- The fault is the first one of the file.
+-- `fault` is the first fault of the file.
 abbrev pub IsFirstCodeFault : List ℕ → CodeFault → Type 0
 IsFirstCodeFault file NoDictionary = length file < BLOCK
 IsFirstCodeFault file (SlotPastEnd n) = IsFaultOfSlot file n (SlotPastEnd n)
 IsFirstCodeFault file (OddLength n) = IsFaultOfSlot file n (OddLength n)
 
--- The bytes of a code file: it has a dictionary, and no slot is refused.
+-- `file` is a code file: it has a dictionary, and no slot has a fault.
 pub record IsCodeFile (file : List ℕ) : Type 0 where
   pub dictionary : BLOCK ≤ length file
   pub sound : (n : ℕ) → n < 16 → slot_fault file n ≡ None
 
--- What slot n says.
+-- The contents of slot `n`.
 unfoldable pub slot_in : List ℕ → ℕ → Option Slot
 slot_in file n =
     if nat_lt 15 n then None
@@ -69,7 +69,8 @@ slot_in file n =
       name = slice_range file (64 + 8 * n) (64 + 8 * n + 8);
     })
 
--- The segment of slot n: as many bytes as its length says, from its block on; none without a length.
+-- The segment of slot `n`: the bytes that begin at its block, as many as its length. A slot with length 0 has no
+-- segment.
 unfoldable pub segment_in : List ℕ → ℕ → Option (List ℕ)
 segment_in file n =
     if nat_lt 15 n then None

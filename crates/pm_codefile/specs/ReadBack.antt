@@ -1,20 +1,20 @@
--- What is read in a written file.
+-- The contents of a written file when it is read.
 use Rattle.std.specs.Prelude.{◌≡◌, ◌==◌, ◌<◌, ℕ, ◌+◌, List, [], slice_index, slice_index_or, slice_range, sum, take}
 use Rattle.std.specs.Prelude.{None, Some, if◌then◌else◌}
 use Rattle.std.specs.List.{sum_by}
 use Rattle.pm_codefile.specs.Dictionary.{file_fault, segment_in, slot_in}
 use Rattle.pm_codefile.specs.Layout.{blocks_for, name_for}
 
--- Where the segment of slot n begins among all segments joined in the order of slots.
+-- The offset of the segment of slot `n` in the joined bytes of all segments.
 abbrev pub begin_of : List ℕ → ℕ → ℕ
 begin_of lengths n = sum (take n lengths)
 
--- The block of slot n: behind the dictionary and the blocks of the slots below it, and 0 without a length.
+-- The block of slot `n`: the one after the dictionary and the blocks of the slots below it. It is 0 if the length is 0.
 abbrev pub first_block_of : List ℕ → ℕ → ℕ
 first_block_of lengths n = if slice_index lengths n == 0 then 0 else 1 + sum_by blocks_for (take n lengths)
 
--- A file is read as it was written: it is accepted, each slot has its length and name and kind 0, and each segment is
--- its part of the joined bytes, none without a length.
+-- `file` is accepted and reads as it was written. Each slot has its length, its name and kind 0. Each segment is its
+-- part of the joined bytes. A slot with length 0 has no segment.
 pub record ReadsBack (names : List (List ℕ)) (lengths segments file : List ℕ) : Type 0 where
   pub accepted : file_fault file ≡ None
   pub slots : (n : ℕ) → n < 16 → slot_in file n ≡ Some (record {

@@ -1,8 +1,8 @@
--- Segments. The last byte is the number of procedures. The word at length - 2 - 2 p says how far below itself the table
--- of procedure p stands. A table goes down from its place j:
+-- Segments. The last byte is the number of procedures. The word at offset length - 2 - 2 p contains the distance from
+-- itself down to the table of procedure p. A table at offset j extends downwards:
 --   j        procedure number (low byte) and lex level (high byte, signed)
---   j - 2    how far below itself the first instruction stands
---   j - 4    how far below itself the exit code stands
+--   j - 2    distance from this word down to the first instruction
+--   j - 4    distance from this word down to the exit code
 --   j - 6    size of the parameters in bytes
 --   j - 8    size of the local variables in bytes
 use Rattle.std.specs.Prelude.{◌==◌, ◌&&◌, Bool, nat_le, ℕ, ◌+◌, ◌-◌, ◌*◌, ◌%◌, List, length, slice_index, Option, Some}
@@ -11,26 +11,26 @@ use Rattle.std.specs.Int.{w8, cast_signed}
 use Rattle.pm_codefile.specs.declared.table.Attributes.{Attributes}
 use Rattle.pm_codefile.specs.Dictionary.{word_in}
 
--- Parts that may be missing, one after another.
+-- The function applied to the value of an option, or None if there is no value.
 infixl 10 ◌>>=◌
 abbrev pub ◌>>=◌ : {A B : Type 0} → Option A → (A → Option B) → Option B
 (Some x) >>= f = f x
 None >>= f = None
 
--- A rule without which there is nothing.
+-- A condition without which the result is None.
 abbrev pub demanded : Bool → Option (Unit {0})
 demanded holds = if holds then Some tt else None
 
--- A difference of whole numbers, which is none below 0.
+-- The difference `a - b`, or None if it is below 0.
 abbrev pub less_or_none : ℕ → ℕ → Option ℕ
 less_or_none a b = if nat_le b a then Some (a - b) else None
 
--- The number of procedures, the last byte of a segment; 0 if there is none.
+-- The number of procedures: the last byte of a segment, or 0 if there is none.
 abbrev pub procedures_in : List ℕ → ℕ
 procedures_in segment = slice_index segment (length segment - 1)
 
--- What the table of procedure p of a segment says: p is one of its procedures; the table, j - 8 to j + 1, lies in the
--- segment, at an even place; and neither code place is above j - 8.
+-- The contents of the table of procedure `p` of a segment. `p` must be one of its procedures. The table, from j - 8 to
+-- j + 1, must lie in the segment at an even offset. The first instruction and the exit code must not be above j - 8.
 unfoldable pub attributes_in : List ℕ → ℕ → Option Attributes
 attributes_in segment p = do
   _ ← demanded (nat_le 1 p && nat_le p (procedures_in segment))

@@ -1,4 +1,4 @@
-//! A code file by its slots.
+//! Code files and their slots.
 
 ghost use Rattle.std.specs.Prelude.{◌≡◌, ◌+◌, ◌*◌, ◌%◌, ◌<◌, ◌≤◌, ◌↔◌, ℕ, length, option_map, slice_range, IfOk};
 ghost use Rattle.std.specs.Prelude.{IfErr, IfSome, IsOk, OnOk, None, Some};
@@ -10,20 +10,20 @@ use crate::fault::CodeFault;
 use pm_bytes::{BLOCK, word};
 use std::marker::Model;
 
-/// A slot of the dictionary.
+/// A slot of the dictionary of a code file.
 #[derive(Clone, Copy, Debug, PartialEq, Eq)]
 pub struct Slot {
     /// The block of the file at which its segment begins.
     pub block: u16,
-    /// How many bytes its segment has. A slot without a length has no segment.
+    /// The number of bytes in its segment. If it is 0, the slot has no segment.
     pub length: u16,
-    /// Its kind. A slot with a length can be loaded whatever its kind.
+    /// Its kind. A slot with a segment can be loaded for any kind.
     pub kind: u16,
-    /// Its name, with spaces at the end.
+    /// Its name of 8 bytes, padded with spaces.
     pub name: [u8; 8],
 }
 
-/// A code file, seen as its bytes: 512 bytes or more, and each slot's segment lies among them.
+/// A code file, borrowed as its bytes. It has at least 512 bytes and contains the segment of each slot.
 #[derive(Drop)]
 pub struct CodeFile<'a> {
     bytes: &'a [u8],
@@ -40,7 +40,7 @@ impl<'a> Model for CodeFile<'a> {
     ghost invariant = { λ f. IsCodeFile f.bytes.now };
 }
 
-// Why slot n is refused.
+// Returns the reason to refuse slot `n`, if there is one.
 #[tactic(auto, unfolding(crate::specs::Dictionary::slot_fault))]
 fn slot_fault(bytes: &[u8], n: u8) -> Option<CodeFault>
     requires dictionary { BLOCK ≤ length bytes.now }
@@ -58,7 +58,7 @@ fn slot_fault(bytes: &[u8], n: u8) -> Option<CodeFault>
     None
 }
 
-// The first fault of a slot.
+// Returns the fault of the first slot that has one.
 fn first_fault(bytes: &[u8]) -> Option<CodeFault>
     requires dictionary { BLOCK ≤ length bytes.now }
     ensures fault { result ≡ first_slot_fault bytes.now 0 16 }
@@ -73,7 +73,7 @@ fn first_fault(bytes: &[u8]) -> Option<CodeFault>
     None
 }
 
-// Why a file is refused.
+// Returns the reason to refuse a file, if there is one.
 #[tactic(auto, unfolding(crate::specs::Dictionary::file_fault))]
 fn file_fault(bytes: &[u8]) -> Option<CodeFault>
     ensures fault { result ≡ file_fault bytes.now }
@@ -86,7 +86,7 @@ fn file_fault(bytes: &[u8]) -> Option<CodeFault>
     first_fault(bytes)
 }
 
-// The 8 bytes at a place.
+// Returns the 8 bytes that begin at offset `place`.
 fn name_at(bytes: &[u8], place: usize) -> [u8; 8]
     requires within { place + 8 ≤ length bytes.now }
     ensures name { result ≡ slice_range bytes.now place (place + 8) }
@@ -97,9 +97,17 @@ fn name_at(bytes: &[u8], place: usize) -> [u8; 8]
 }
 
 impl<'a> CodeFile<'a> {
-    /// The code file that the bytes are, which it borrows. `NoDictionary` under 512 bytes; then, slot by slot from 0
-    /// on, `OddLength` for an odd length, and `SlotPastEnd` where a slot has a length and its block times 512 plus
-    /// its length is more than the bytes are. Block 0 is allowed, slots may overlap, and nothing else is looked at.
+    /// Returns the code file with the given bytes. It borrows them.
+    ///
+    /// Block 0 is allowed as the block of a slot, and segments may overlap. Nothing else is checked.
+    ///
+    /// # Errors
+    ///
+    /// Checked in this order, for the slots from 0 to 15:
+    /// - `NoDictionary`: there are fewer than 512 bytes.
+    /// - `OddLength`: the length of a slot is odd.
+    /// - `SlotPastEnd`: the length of a slot is not 0, and its block times 512 plus its length exceeds the number of
+    ///   bytes.
     pub fn read(bytes: &'a [u8]) -> Result<CodeFile<'a>, CodeFault>
         ensures accepted { IsOk result ↔ (file_fault bytes.now ≡ None) }
         ensures sound { OnOk result (IsCodeFile bytes.now) }
@@ -113,7 +121,7 @@ impl<'a> CodeFile<'a> {
         }
     }
 
-    /// Slot n of the dictionary; None above 15.
+    /// Returns slot `n` of the dictionary, or None if `n` is above 15.
     #[tactic(auto, unfolding(crate::specs::Dictionary::slot_in, crate::specs::Dictionary::slot_fault))]
     pub fn slot(&self, n: u8) -> Option<Slot>
         ensures slot { result ≡ slot_in self.now n }
@@ -132,7 +140,7 @@ impl<'a> CodeFile<'a> {
         })
     }
 
-    /// The bytes of the segment of slot n; None above 15 and for a slot without a length.
+    /// Returns the bytes of the segment of slot `n`. Returns None if `n` is above 15 or the length of the slot is 0.
     #[tactic(auto, unfolding(crate::specs::Dictionary::segment_in, crate::specs::Dictionary::slot_fault))]
     pub fn segment(&self, n: u8) -> Option<&'a [u8]>
         ensures segment { option_map (λ bytes. bytes.now) result ≡ segment_in self.now n }

@@ -13,10 +13,15 @@ use std::alloc::{AllocError, Global};
 
 const BLANK: [u8; 8] = [b' '; 8];
 
-/// The code file whose slots have these names and lengths in bytes, in the canonical layout: the used slots in
-/// ascending order, each from the next block on, padded with zeros to a block; `segments` are their bytes, joined in
-/// the order of slots: as many as the lengths add up to. A name has 8 bytes, with spaces at its end; a slot without a
-/// length gets block 0 and spaces. All kinds are 0. 16 slots without a length give the dictionary alone, 512 bytes.
+/// Returns a code file in the canonical layout. Slot n has `names[n]` as its name and `lengths[n]` as its length in
+/// bytes.
+///
+/// `segments` are the bytes of all segments, joined in the order of the slots. The lengths must add up to the number of
+/// these bytes.
+///
+/// In the file the segments follow the dictionary in ascending order of their slots. Each begins at the next block and
+/// is padded with zeros to whole blocks. A slot with length 0 gets block 0 and spaces as its name. All kinds are 0. If
+/// all 16 lengths are 0, the file is only the dictionary, 512 bytes.
 #[tactic(auto, unfolding(crate::specs::Layout::layout))]
 pub fn write(
     alloc: Global,
@@ -37,7 +42,7 @@ pub fn write(
     Ok(file)
 }
 
-// Adds a word, its low byte first.
+// Appends a word, low byte first.
 fn put_word(file: &mut Vec<u8>, word: u16) -> Result<(), AllocError>
     ensures added { OnOk result (file.new.items ≡ file.old.items ++ little_bytes 2 word) }
 {
@@ -46,7 +51,7 @@ fn put_word(file: &mut Vec<u8>, word: u16) -> Result<(), AllocError>
     file.extend_from_slice(&bytes)
 }
 
-// Adds so many zeros.
+// Appends `count` zeros.
 fn put_zeros(file: &mut Vec<u8>, count: usize) -> Result<(), AllocError>
     ensures added { OnOk result (file.new.items ≡ file.old.items ++ replicate count 0) }
 {
@@ -56,7 +61,7 @@ fn put_zeros(file: &mut Vec<u8>, count: usize) -> Result<(), AllocError>
     Ok(())
 }
 
-// How many blocks hold so many bytes.
+// Returns the number of blocks that `count` bytes need.
 fn blocks_for(count: u16) -> u16
     ensures blocks { result ≡ blocks_for count }
     ensures few { result ≤ 128 }
@@ -64,7 +69,7 @@ fn blocks_for(count: u16) -> u16
     pm_bytes::blocks_for(usize::from(count)) as u16
 }
 
-// Adds the block and the length of a slot.
+// Appends the block and the length of a slot with `count` bytes.
 fn put_pair(file: &mut Vec<u8>, block: u16, count: u16) -> Result<(), AllocError>
     ensures added { OnOk result (file.new.items ≡ file.old.items ++ slot_pair block count) }
 {
@@ -72,7 +77,7 @@ fn put_pair(file: &mut Vec<u8>, block: u16, count: u16) -> Result<(), AllocError
     put_word(file, count)
 }
 
-// Adds the blocks and lengths of slots.
+// Appends the blocks and lengths of the slots.
 fn put_pairs(file: &mut Vec<u8>, lengths: &[u16]) -> Result<(), AllocError>
     requires few { length lengths.now ≤ 16 }
     ensures added { OnOk result (file.new.items ≡ file.old.items ++ pairs 1 lengths.now) }
@@ -85,7 +90,7 @@ fn put_pairs(file: &mut Vec<u8>, lengths: &[u16]) -> Result<(), AllocError>
     Ok(())
 }
 
-// Adds the name of a slot.
+// Appends the name of a slot with `count` bytes.
 fn put_name(file: &mut Vec<u8>, name: &[u8; 8], count: u16) -> Result<(), AllocError>
     ensures added { OnOk result (file.new.items ≡ file.old.items ++ name_for name.now count) }
     ensures eight { OnOk result (length name.now ≡ 8) }
@@ -96,7 +101,7 @@ fn put_name(file: &mut Vec<u8>, name: &[u8; 8], count: u16) -> Result<(), AllocE
     file.extend_from_slice(name)
 }
 
-// Adds the names of slots.
+// Appends the names of the slots.
 fn put_names(file: &mut Vec<u8>, names: &[[u8; 8]], lengths: &[u16]) -> Result<(), AllocError>
     requires each { length names.now ≡ length lengths.now }
     ensures added { OnOk result (file.new.items ≡ file.old.items ++ names_for names.now lengths.now) }
@@ -108,7 +113,7 @@ fn put_names(file: &mut Vec<u8>, names: &[[u8; 8]], lengths: &[u16]) -> Result<(
     Ok(())
 }
 
-// Adds a segment, filled up to a block.
+// Appends a segment, padded with zeros to whole blocks.
 fn put_segment(file: &mut Vec<u8>, segment: &[u8]) -> Result<(), AllocError>
     requires size { length segment.now < 65536 }
     ensures added { OnOk result (file.new.items ≡ file.old.items
@@ -119,7 +124,7 @@ fn put_segment(file: &mut Vec<u8>, segment: &[u8]) -> Result<(), AllocError>
     put_zeros(file, BLOCK * pm_bytes::blocks_for(count) - count)
 }
 
-// Adds segments, each filled up to a block.
+// Appends the segments, each padded with zeros to whole blocks.
 fn put_segments(file: &mut Vec<u8>, lengths: &[u16], segments: &[u8]) -> Result<(), AllocError>
     requires joined { sum lengths.now ≡ length segments.now }
     ensures added { OnOk result (file.new.items ≡ file.old.items ++ in_blocks lengths.now segments.now) }

@@ -1,6 +1,6 @@
-//! Code files: a dictionary of 16 slots in the first block, and the segments' bytes behind it.
+//! Code files: a dictionary of 16 slots in the first block, followed by the bytes of the segments.
 //!
-//! `CodeFile::read` takes a file apart, `attributes` reads a procedure's table in a segment, and `write` makes a file.
+//! `CodeFile::read` reads a file, `attributes` reads the table of a procedure in a segment, and `write` creates a file.
 #![tactic(auto)]
 
 mod fault;

@@ -7,7 +7,7 @@ ghost use Rattle.pm_codefile.specs.Segments.{attributes_in, less_or_none, proced
 use crate::table::Attributes;
 use pm_bytes::word;
 
-/// The number of procedures of a segment, which is its last byte; 0 for no bytes.
+/// Returns the number of procedures of a segment, which is its last byte. Returns 0 if there are no bytes.
 pub fn procedures(segment: &[u8]) -> u8
     ensures count { result ≡ procedures_in segment.now }
 {
@@ -17,7 +17,7 @@ pub fn procedures(segment: &[u8]) -> u8
     }
 }
 
-// The place that a word names by its distance, if it is in the segment.
+// Returns the offset that the self-relative word at offset `place` points to, or None if it is below 0.
 fn self_relative(segment: &[u8], place: u16) -> Option<u16>
     requires within { place + 2 ≤ length segment.now }
     ensures place { result ≡ less_or_none place (word_in segment.now place) }
@@ -25,10 +25,17 @@ fn self_relative(segment: &[u8], place: u16) -> Option<u16>
     place.checked_sub(word(segment, usize::from(place)))
 }
 
-/// The table of procedure `procedure` of a segment. None for number 0 and above the segment's count, and unless the
-/// table lies in the segment at an even offset and both code places at most 8 bytes below it. Places are counted in
-/// whole numbers, so one below the segment's start is none. Nothing else is looked at: not the number in the table,
-/// the sizes or the jump entries. The segment has to have an even number of bytes, at most 65,534.
+/// Returns the table of procedure `procedure` of a segment. The segment must have an even number of bytes, at most
+/// 65,534.
+///
+/// Returns None unless all of these conditions are true:
+///
+/// - `procedure` is from 1 to the procedure count of the segment.
+/// - The table lies in the segment, at an even offset.
+/// - The offsets of the first instruction and of the exit code are at most `jtab` - 8, where `jtab` is the offset of
+///   the table.
+///
+/// An offset below 0 is not in the segment. The number in the table, the sizes and the jump entries are not checked.
 #[tactic(auto, unfolding(crate::specs::Segments::attributes_in))]
 pub fn attributes(segment: &[u8], procedure: u8) -> Option<Attributes>
     requires even { length segment.now % 2 ≡ 0 }

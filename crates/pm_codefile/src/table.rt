@@ -1,20 +1,20 @@
 //! The table of a procedure.
 
-/// What a procedure's table says. Places are offsets in the segment, sizes are in bytes.
+/// The contents of the table of a procedure. Offsets are in bytes from the start of the segment. Sizes are in bytes.
 #[derive(Clone, Copy, Debug, PartialEq, Eq)]
 pub struct Attributes {
-    /// The procedure's number, as its table has it.
+    /// The procedure number in the table.
     pub procedure: u8,
-    /// Its lex level.
+    /// The lex level.
     pub level: i8,
-    /// The place of its first instruction.
+    /// The offset of the first instruction.
     pub enter: u16,
-    /// The place of its exit code.
+    /// The offset of the exit code.
     pub exit: u16,
-    /// The size of its parameters.
+    /// The size of the parameters.
     pub parameters: u16,
-    /// The size of its local variables.
+    /// The size of the local variables.
     pub locals: u16,
-    /// The place of its table: the word with its number and level, from which the table goes down.
+    /// The offset of the word with the number and the level. The rest of the table is below it.
     pub jtab: u16,
 }

@@ -8,7 +8,7 @@ use Rattle.std.proofs.lemmas.Bool.Decides.{nat_tests}
 use Rattle.std.proofs.Math.Utf8.{encode}
 use Rattle.pm_filer.specs.Listing.{shown_byte, printable_name, spaces}
 
--- a byte of the name is written
+-- one more byte of the name
 pub name-more : (text name : List ℕ) (i : ℕ) → i < length name
     → (text ++ shown_byte (get_or name i 0) ∷ []) ++ printable_name (drop (i + 1) name) ≡ text ++ printable_name (drop i name)
 unfolding printable_name
@@ -21,7 +21,7 @@ name-done [] (suc i) h = refl
 name-done (c ∷ name) zero h = absurd (omega arith)
 name-done (c ∷ name) (suc i) h = name-done name i (omega arith)
 
--- a space is written
+-- one more space
 pub spaces-more : (text : List ℕ) (n i : ℕ) → i < n → (text ++ 32 ∷ []) ++ spaces (n - (i + 1)) ≡ text ++ spaces (n - i)
 unfolding spaces
 spaces-more text n i h =

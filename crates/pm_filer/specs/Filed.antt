@@ -1,4 +1,4 @@
--- What a command makes of a volume, and what it answers.
+-- The volume after a command, and the reply.
 use Rattle.std.specs.Prelude.{◌≡◌, ℕ, List, Option, Some, None, Result, Ok, Err, IsOk, ⊤, string_bytes, nat_lt, length}
 use Rattle.std.specs.Prelude.{if◌then◌else◌, zero, suc, slice_get}
 use Rattle.pm_volume.specs.Dates.{date_word, is_date}
@@ -33,14 +33,14 @@ filer_number (faults.Text fault) = 2
 filer_number faults.BadDate = 3
 filer_number faults.NoMemory = 4
 
--- a fault of a text; want of memory is the filer's own
+-- the fault for a fault of a text; `NoMemory` is a fault of the filer
 abbrev pub of_text : TextFault → FilerFault
 of_text NoHeader = faults.Text NoHeader
 of_text text.NoMemory = faults.NoMemory
 of_text (text.LineTooLong line) = faults.Text (text.LineTooLong line)
 of_text (text.BadByte place) = faults.Text (text.BadByte place)
 
--- a command by its numbers and bytes
+-- a command, with its numbers and bytes
 pub data Order : Type 0 where
   ListFiles : Order
   Get : List ℕ → Order
@@ -91,7 +91,7 @@ order_of commands.ListAll = ListAll
 order_of (commands.ListFitting pattern) = ListFitting (string_bytes pattern)
 order_of (commands.RemoveFitting pattern) = RemoveFitting (string_bytes pattern)
 
--- what a command answers, by its bytes
+-- the reply to a command, as bytes
 pub data Answer : Type 0 where
   Lines : List ℕ → Answer
   Bytes : List ℕ → Answer
@@ -102,12 +102,12 @@ answer_of (replies.Lines text) = Lines (string_bytes text)
 answer_of (replies.Bytes bytes) = Bytes bytes.items
 answer_of replies.Done = Done
 
--- the image after a command, and the answer
+-- the image after a command, and the reply
 pub record Filed : Type 0 where
   pub image : List ℕ
   pub answer : Answer
 
--- what a call that changes nothing answers is what it comes to; it may want memory where nothing else is wrong
+-- the result of a call that does not change the volume; memory may be refused only if nothing else is wrong
 abbrev pub Looks : List ℕ → Result Reply FilerFault → Result Filed FilerFault → Type 0
 Looks image (Ok reply) read = read ≡ Ok (record { image = image; answer = answer_of reply })
 Looks image (Err faults.NoMemory) read = IsOk read
@@ -115,7 +115,7 @@ Looks image (Err (faults.Volume fault)) read = read ≡ Err (faults.Volume fault
 Looks image (Err (faults.Text fault)) read = read ≡ Err (faults.Text fault)
 Looks image (Err faults.BadDate) read = read ≡ Err faults.BadDate
 
--- a change that the volume makes or refuses
+-- a change that the volume accepts or refuses
 abbrev pub changed : Result (List ℕ) VolumeFault → Result Filed FilerFault
 changed (Ok image) = Ok (record { image = image; answer = Done })
 changed (Err fault) = Err (faults.Volume fault)
@@ -129,7 +129,7 @@ abbrev pub bytes_of_file : List ℕ → Option Entry → Option (List ℕ)
 bytes_of_file image None = None
 bytes_of_file image (Some entry) = file_bytes image entry
 
--- the file in a slot of the directory; slots count from 1, and none stands in slot 0
+-- the file in a slot of the directory; slots count from 1, and slot 0 has no file
 abbrev pub file_in_slot : List ℕ → ℕ → Option Entry
 file_in_slot image zero = None
 file_in_slot image (suc before) = slice_get (files_of image) before
@@ -141,27 +141,28 @@ text_read image (Some bytes) =
     else Ok (record { image = image; answer = Bytes (text_of_file bytes) })
 text_read image None = Err (faults.Volume NoFile)
 
--- a text that was written as a text file, unless it has a fault, which comes before the volume's
+-- a text added as a text file, or the fault of the text; the fault of the text comes before a fault of the volume
 abbrev pub text_written : List ℕ → List ℕ → List ℕ → Option TextFault → Result Filed FilerFault
 text_written image name text None = changed (added image name TEXT (text_file text) (last_date_of (directory_of image)))
 text_written image name text (Some fault) = Err (faults.Text fault)
 
--- an image with the file of an entry, under this name, with the kind and the date of the entry, if its bytes are there
+-- an image with a copy of the file of an entry, under this name, with the kind and the date of the entry, if its bytes
+-- exist
 abbrev pub copied_bytes : List ℕ → List ℕ → Entry → Option (List ℕ) → Result (List ℕ) VolumeFault
 copied_bytes image name e (Some bytes) = added image name e.kind bytes e.date
 copied_bytes image name e None = Err NoFile
 
--- an image with a file of another image, if there is one
+-- an image with a copy of a file of another image, if there is one
 abbrev pub copied : List ℕ → List ℕ → List ℕ → Option Entry → Result (List ℕ) VolumeFault
 copied image name from (Some e) = copied_bytes image name e (file_bytes from e)
 copied image name from None = Err NoFile
 
--- an image with a file of another image of this fault or none, which comes before what else is wrong
+-- an image with a copy of a file of another image; a fault of that image comes before any other
 abbrev pub copied_from : List ℕ → List ℕ → List ℕ → Option Entry → Option VolumeFault → Result (List ℕ) VolumeFault
 copied_from image name from entry None = copied image name from entry
 copied_from image name from entry (Some fault) = Err fault
 
--- what a command comes to; a refused one leaves the volume
+-- the result of a command; a refused command does not change the volume
 unfoldable pub filed : List ℕ → Order → Result Filed FilerFault
 filed image ListFiles = Ok (record { image = image; answer = Lines (list_text image) })
 filed image (Get name) = lent image (bytes_of_file image (file_named image name))
@@ -190,8 +191,8 @@ filed image ListAll = Ok (record { image = image; answer = Lines (full_list_text
 filed image (ListFitting pattern) = Ok (record { image = image; answer = Lines (fitting_list_text image pattern) })
 filed image (RemoveFitting pattern) = changed (fitting_removed image pattern)
 
--- a command may answer want of memory: one that gives bytes or text, where nothing else is wrong; and one that puts a
--- text, whose file is made before anything is looked at
+-- the outcomes in which memory may be refused: for a command that returns bytes or text, if nothing else is wrong; for
+-- a command that adds a text, always, because its file is created before anything is checked
 abbrev pub MayWantMemory : Order → Result Filed FilerFault → Type 0
 MayWantMemory ListFiles outcome = IsOk outcome
 MayWantMemory (Get name) outcome = IsOk outcome

@@ -1,4 +1,4 @@
--- The list of a volume's files, as text.
+-- The text of the list of files of a volume.
 use Rattle.std.specs.Prelude.{ℕ, ◌+◌, ◌-◌, ◌==◌, ◌&&◌, nat_le, nat_lt, List, [], ◌∷◌, ◌++◌, length, replicate}
 use Rattle.std.specs.Prelude.{map, codes, Option}
 use Rattle.std.specs.Prelude.{Some, None, if◌then◌else◌}
@@ -15,25 +15,25 @@ use Rattle.pm_volume.specs.declared.kinds.TheConstants.{BAD_BLOCKS, CODE, DATA, 
 use Rattle.pm_volume.specs.declared.fields.TheConstants.{LONGEST_NAME}
 use Rattle.pm_filer.specs.Fitting.{fitting_files}
 
--- a byte of a name as it is shown: a question mark for one that does not print
+-- the byte that is shown for a byte of a name: a question mark if it is not printable
 abbrev pub shown_byte : ℕ → ℕ
 shown_byte c = if nat_le 32 c && nat_le c 126 then c else 63
 
 unfoldable pub printable_name : List ℕ → List ℕ
 printable_name name = map shown_byte name
 
--- so many spaces
+-- `n` spaces
 unfoldable pub spaces : ℕ → List ℕ
 spaces n = replicate n 32
 
--- a text at the left or right of a column of so many characters; a longer one pushes the rest to the right
+-- a text, left-aligned in a column of `width` characters; a longer text moves the rest of the line to the right
 abbrev pub at_left : ℕ → List ℕ → List ℕ
 at_left width text = text ++ spaces (width - length text)
 
 unfoldable pub at_right : ℕ → ℕ → List ℕ
 at_right width n = spaces (width - length (decimal n)) ++ decimal n
 
--- the words for kinds of files; kinds from 9 on have none
+-- the words for kinds of files; kinds from 9 have none
 unfoldable pub kind_word : ℕ → Option (List ℕ)
 kind_word kind =
     if kind == UNTYPED then Some (codes "none")
@@ -60,7 +60,7 @@ date_text word =
     let date = date_of word in
     padded 3 date.year ++ (45 ∷ (padded 2 date.month ++ (45 ∷ padded 2 date.day)))
 
--- what the line of a file says behind its name: kind, first block, number of blocks, bytes in the last block, date
+-- the part of the line of a file after the name: kind, first block, number of blocks, bytes in the last block, date
 unfoldable pub entry_details : Entry → List ℕ
 entry_details e =
     kind_text e.kind ++ (32 ∷ (at_right 5 e.first ++ (32 ∷ (at_right 5 (e.end - e.first)
@@ -70,7 +70,7 @@ entry_details e =
 unfoldable pub file_line : Entry → List ℕ
 file_line e = at_left LONGEST_NAME (printable_name (characters_of e.name)) ++ (32 ∷ (entry_details e ++ 10 ∷ []))
 
--- the last line: the number of files, the free blocks, and the largest gap
+-- the last line: the number of files, the number of free blocks, and the size of the largest gap
 unfoldable pub space_line : List ℕ → List ℕ
 space_line image =
     codes "files " ++ (decimal (length (files_of image)) ++ (codes " free " ++ (decimal (free_blocks image)
@@ -81,9 +81,10 @@ unfoldable pub list_text : List ℕ → List ℕ
 list_text image =
     printable_name (volume_name image) ++ (58 ∷ 10 ∷ (flat_map file_line (files_of image) ++ space_line image))
 
--- ---- the list of all that the directory says
+-- ---- the full list
 
--- what such a line says of a file behind its name: as ever, then the number of its kind, and the slot of its entry
+-- the part of the line of a file after the name in the full list: the same as before, then the number of its kind and
+-- its slot
 unfoldable pub full_details : ℕ → Entry → List ℕ
 full_details slot e = entry_details e ++ (32 ∷ (at_right 2 e.kind ++ (32 ∷ at_right 2 slot)))
 
@@ -91,19 +92,21 @@ unfoldable pub full_line : ℕ → Entry → List ℕ
 full_line slot e =
     at_left LONGEST_NAME (printable_name (characters_of e.name)) ++ (32 ∷ (full_details slot e ++ 10 ∷ []))
 
--- the line of free blocks, from one up to another, in the columns of first block and number of blocks; none of no block
+-- the line of the free blocks from `begin` to `end` (exclusive), in the columns of first block and number of blocks; no
+-- line if there are none
 unfoldable pub gap_line : ℕ → ℕ → List ℕ
 gap_line begin end =
     if nat_lt begin end
     then codes "< UNUSED >           " ++ (at_right 5 begin ++ (32 ∷ (at_right 5 (end - begin) ++ 10 ∷ []))) else []
 
--- the lines of files from a slot on, each behind that of the free blocks before it, from a block on and up to the end
+-- the lines of files from slot `slot`, each after the line of the free blocks before it; the free blocks begin at block
+-- `begin` and end before block `end`
 abbrev pub full_lines : ℕ → ℕ → List Entry → ℕ → List ℕ
 full_lines slot begin [] end = gap_line begin end
 full_lines slot begin (e ∷ files) end =
     gap_line begin e.first ++ (full_line slot e ++ full_lines (slot + 1) e.end files end)
 
--- the list with all that the directory says
+-- the full list
 unfoldable pub full_list_text : List ℕ → List ℕ
 full_list_text image =
     let directory = directory_of image in
@@ -112,13 +115,13 @@ full_list_text image =
 
 -- ---- the list of some files
 
--- the last line, for so many files
+-- the last line for `files` files
 unfoldable pub some_space_line : List ℕ → ℕ → List ℕ
 some_space_line image files =
     codes "files " ++ (decimal files ++ (codes " free " ++ (decimal (free_blocks image)
     ++ (codes " largest " ++ (decimal (largest_gap image) ++ 10 ∷ [])))))
 
--- the list as if the files whose names fit were all, with the free blocks that there are
+-- the list of only those files whose names match; the free blocks are those of the volume
 unfoldable pub fitting_list_text : List ℕ → List ℕ → List ℕ
 fitting_list_text image pattern =
     let files = fitting_files image pattern in

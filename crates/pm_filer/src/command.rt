@@ -1,4 +1,4 @@
-//! Commands, and what they answer.
+//! Commands on a volume, and their replies.
 ghost use Rattle.std.specs.Prelude.{◌≡◌, ◌≢◌, Ok, Err, Some, None, IfOk, IfErr, IsErrOf, OnErr, OnOk, false};
 ghost use Rattle.std.specs.Prelude.{true, if◌then◌else◌};
 ghost use Rattle.pm_volume.specs.declared.fault.VolumeFault.TheVariants.{NoFile};
@@ -19,70 +19,71 @@ use pm_volume::kinds::TEXT;
 use pm_volume::{Date, Entry, Volume, VolumeFault};
 use std::alloc::Global;
 
-/// What is to be done with a volume.
+/// A command on a volume.
 #[derive(Drop)]
 pub enum FileCommand {
     /// Lists the files.
     List,
-    /// Gives the bytes of the first file of this name.
+    /// Returns the bytes of the first file with this name.
     Get(String),
-    /// Adds a file of this name, kind (its low four bits) and bytes, with the volume's last date.
+    /// Adds a file with this name, kind (low four bits) and bytes, and the last date of the volume.
     Put(String, u8, Vec<u8>),
-    /// Removes the first file of this name.
+    /// Removes the first file with this name.
     Remove(String),
-    /// Gives the first file of the first name the second name.
+    /// Renames the first file with the first name to the second name.
     Change(String, String),
-    /// Gives the text of the first file of this name, which is a text file.
+    /// Returns the text of the first file with this name, which must be a text file.
     GetText(String),
-    /// Adds a file of this name, the text file of this text, with the volume's last date.
+    /// Adds a file with this name, the text file of this text and the last date of the volume.
     PutText(String, Vec<u8>),
-    /// Moves the files together; bad blocks stay. As many blocks are free as before, in one gap where there are no bad
-    /// blocks.
+    /// Moves the files together. Bad blocks do not move. The number of free blocks is unchanged. They are one gap if
+    /// there are no bad blocks.
     Krunch,
-    /// Sets the volume's last date: year 0 to 127, month 1 to 12, day 1 to 31.
+    /// Sets the last date of the volume: year 0 to 127, month 1 to 12, day 1 to 31.
     Date(u8, u8, u8),
-    /// Forgets all files and gives the volume this name.
+    /// Deletes all files and renames the volume to this name.
     Zero(String),
-    /// Makes a second copy of the directory; a file that begins below block 10 stands in its way.
+    /// Creates a second copy of the directory. Refused if a file begins below block 10.
     Duplicate,
-    /// Drops the second copy of the directory.
+    /// Removes the second copy of the directory.
     Single,
-    /// Gives the bytes of the file in this slot of the directory. Slots count from 1, as the lines of the list do.
+    /// Returns the bytes of the file in this slot of the directory. Slots count from 1, like the lines of the list.
     GetSlot(u16),
-    /// Gives the text of the file in this slot, which is a text file.
+    /// Returns the text of the file in this slot, which must be a text file.
     GetTextSlot(u16),
-    /// Removes the file in this slot; a file of the same name in another slot stays.
+    /// Removes the file in this slot. A file with the same name in another slot is unchanged.
     RemoveSlot(u16),
-    /// Gives the file in this slot this name; a file of its old name in another slot keeps it.
+    /// Renames the file in this slot to this name. A file with the old name in another slot is unchanged.
     ChangeSlot(u16, String),
-    /// Gives the first file of this name this kind (its low four bits).
+    /// Sets the kind of the first file with this name to this kind (low four bits).
     Kind(String, u8),
-    /// Gives the file in this slot this kind; a file of its name in another slot keeps its own.
+    /// Sets the kind of the file in this slot to this kind (low four bits). A file with the same name in another slot
+    /// is unchanged.
     KindSlot(u16, u8),
-    /// Adds the first file of this name that the volume of this image has, with its kind and date.
+    /// Adds a copy of the first file with this name from the volume in this image, with its kind and date.
     Copy(String, Vec<u8>),
-    /// Adds the file in this slot of the volume of this image under this name, with its kind and date.
+    /// Adds a copy of the file in this slot of the volume in this image under this name, with its kind and date.
     CopySlot(u16, String, Vec<u8>),
     /// Lists the files with the numbers of their kinds and their slots, and the free blocks between them.
     ListAll,
-    /// Lists the files whose names fit this pattern.
+    /// Lists the files whose names match this pattern.
     ListFitting(String),
-    /// Removes all files whose names fit this pattern, of which there has to be one.
+    /// Removes all files whose names match this pattern. There must be at least one.
     RemoveFitting(String),
 }
 
-/// What a command answers.
+/// The reply to a command.
 #[derive(Drop)]
 pub enum Reply {
-    /// Lines of text, each with its line feed.
+    /// Lines of text. Each ends with a line feed.
     Lines(String),
-    /// The bytes of a file.
+    /// Bytes of a file, or of its text.
     Bytes(Vec<u8>),
-    /// Nothing: the volume was changed.
+    /// Nothing. The volume was changed.
     Done,
 }
 
-// Where the bytes of a file stand, where there is one.
+// Returns the bytes of a file. Fails with `NoFile` if there is none.
 fn bytes_of_file(volume: &Volume, entry: Option<Entry>) -> Result<&[u8], VolumeFault>
     ensures bytes { IfOk result (λ bytes. bytes_of_file volume.now entry ≡ Some bytes.now) }
     ensures refusal { IfErr result (λ fault. (fault ≡ NoFile) × (bytes_of_file volume.now entry ≡ None)) }
@@ -91,7 +92,7 @@ fn bytes_of_file(volume: &Volume, entry: Option<Entry>) -> Result<&[u8], VolumeF
     volume.file(&entry).ok_or(VolumeFault::NoFile)
 }
 
-// The bytes of a file, where there is one.
+// Returns the bytes of a file as a reply.
 fn get(alloc: Global, volume: &Volume, entry: Option<Entry>) -> Result<Reply, FilerFault>
     ensures looks { Looks volume.now result (lent volume.now (bytes_of_file volume.now entry)) }
 {
@@ -99,7 +100,7 @@ fn get(alloc: Global, volume: &Volume, entry: Option<Entry>) -> Result<Reply, Fi
     Ok(Reply::Bytes(bytes.to_vec(alloc)?))
 }
 
-// The text of a text file, where there is one.
+// Returns the text of a text file as a reply.
 fn get_text(alloc: Global, volume: &Volume, entry: Option<Entry>) -> Result<Reply, FilerFault>
     ensures looks { Looks volume.now result (text_read volume.now (bytes_of_file volume.now entry)) }
 {
@@ -108,7 +109,7 @@ fn get_text(alloc: Global, volume: &Volume, entry: Option<Entry>) -> Result<Repl
     Ok(Reply::Bytes(text))
 }
 
-// The file in a slot of the directory.
+// Returns the file in slot `slot` of the directory.
 fn in_slot(volume: &Volume, slot: u16) -> Option<Entry>
     ensures file { result ≡ file_in_slot volume.now slot }
 {
@@ -132,7 +133,7 @@ fn put_text(alloc: Global, volume: &mut Volume, name: &str, text: Vec<u8>) -> Re
     Ok(())
 }
 
-// Forgets all files.
+// Deletes all files.
 #[tactic(auto, using(crate::proofs::Made::made))]
 fn forget(volume: &mut Volume, name: &str) -> Result<(), VolumeFault>
     ensures done { OnOk result (zeroed volume.old name.now ≡ Ok volume.new) }
@@ -144,7 +145,7 @@ fn forget(volume: &mut Volume, name: &str) -> Result<(), VolumeFault>
     Ok(())
 }
 
-// Adds a file with the volume's last date.
+// Adds a file with the last date of the volume.
 #[tactic(auto, using(crate::proofs::Made::made))]
 fn put(volume: &mut Volume, name: &str, kind: u8, bytes: &[u8]) -> Result<(), VolumeFault>
     ensures done { OnOk result
@@ -159,7 +160,7 @@ fn put(volume: &mut Volume, name: &str, kind: u8, bytes: &[u8]) -> Result<(), Vo
     Ok(())
 }
 
-// Gives a file another name.
+// Renames a file.
 fn change(volume: &mut Volume, old: &str, new: &str) -> Result<(), VolumeFault>
     ensures done { OnOk result (renamed volume.old old.now new.now ≡ Ok volume.new) }
     ensures volume { OnOk result (IsVolume volume.new) }
@@ -170,7 +171,7 @@ fn change(volume: &mut Volume, old: &str, new: &str) -> Result<(), VolumeFault>
     Ok(())
 }
 
-// Gives the file in a slot another name.
+// Renames the file in a slot.
 fn change_slot(volume: &mut Volume, slot: u16, new: &str) -> Result<(), VolumeFault>
     ensures done { OnOk result (slot_renamed volume.old slot new.now ≡ Ok volume.new) }
     ensures volume { OnOk result (IsVolume volume.new) }
@@ -181,7 +182,7 @@ fn change_slot(volume: &mut Volume, slot: u16, new: &str) -> Result<(), VolumeFa
     Ok(())
 }
 
-// Gives a file another kind.
+// Sets the kind of a file.
 #[tactic(auto, using(crate::proofs::Made::made))]
 fn set_kind(volume: &mut Volume, name: &str, kind: u8) -> Result<(), VolumeFault>
     ensures done { OnOk result (kind_set volume.old name.now kind ≡ Ok volume.new) }
@@ -193,7 +194,7 @@ fn set_kind(volume: &mut Volume, name: &str, kind: u8) -> Result<(), VolumeFault
     Ok(())
 }
 
-// Gives the file in a slot another kind.
+// Sets the kind of the file in a slot.
 #[tactic(auto, using(crate::proofs::Made::made))]
 fn set_slot_kind(volume: &mut Volume, slot: u16, kind: u8) -> Result<(), VolumeFault>
     ensures done { OnOk result (slot_kind_set volume.old slot kind ≡ Ok volume.new) }
@@ -205,7 +206,7 @@ fn set_slot_kind(volume: &mut Volume, slot: u16, kind: u8) -> Result<(), VolumeF
     Ok(())
 }
 
-// Adds a file of another volume with its kind and date, where there is one.
+// Adds a copy of a file of another volume, with its kind and date.
 #[tactic(auto, using(crate::proofs::Made::made))]
 fn copy(
     volume: &mut Volume,
@@ -224,7 +225,7 @@ fn copy(
     Ok(())
 }
 
-// The volume that an image is.
+// Opens the volume in an image.
 fn opened(image: Vec<u8>) -> Result<Volume, VolumeFault>
     ensures opened { IfOk result (λ v. v ≡ image.items) }
     ensures sound { OnOk result (image_fault image.items ≡ None) }
@@ -236,7 +237,7 @@ fn opened(image: Vec<u8>) -> Result<Volume, VolumeFault>
     }
 }
 
-// Adds the first file of a name that another image has.
+// Adds a copy of the first file with this name in another image.
 fn copy_named(volume: &mut Volume, name: &str, image: Vec<u8>) -> Result<(), VolumeFault>
     ensures done { OnOk result
         (copied_from volume.old name.now image.items (file_named image.items name.now) (image_fault image.items)
@@ -252,7 +253,7 @@ fn copy_named(volume: &mut Volume, name: &str, image: Vec<u8>) -> Result<(), Vol
     copy(volume, name, &from, entry)
 }
 
-// Adds the file in a slot of another image.
+// Adds a copy of the file in a slot of another image.
 fn copy_slot(volume: &mut Volume, slot: u16, name: &str, image: Vec<u8>) -> Result<(), VolumeFault>
     ensures done { OnOk result
         (copied_from volume.old name.now image.items (file_in_slot image.items slot) (image_fault image.items)
@@ -268,7 +269,7 @@ fn copy_slot(volume: &mut Volume, slot: u16, name: &str, image: Vec<u8>) -> Resu
     copy(volume, name, &from, entry)
 }
 
-// Sets the volume's last date.
+// Sets the last date of the volume.
 fn set_date(volume: &mut Volume, year: u8, month: u8, day: u8) -> Result<(), FilerFault>
     ensures good { OnOk result (is_date year month day ≡ true) }
     ensures dated { OnOk result (volume.new ≡ dated_image volume.old (date_word year month day)) }
@@ -282,7 +283,7 @@ fn set_date(volume: &mut Volume, year: u8, month: u8, day: u8) -> Result<(), Fil
     Ok(())
 }
 
-// The list of the files whose names fit a pattern.
+// Lists the files whose names match a pattern.
 fn list_fitting(alloc: Global, volume: &Volume, pattern: &str) -> Result<Reply, FilerFault>
     ensures lines { IfOk result (λ reply. answer_of reply ≡ Lines (fitting_list_text volume.now pattern.now)) }
     ensures refusal { IfErr result (λ fault. fault ≡ FilerFault.NoMemory) }
@@ -290,16 +291,20 @@ fn list_fitting(alloc: Global, volume: &Volume, pattern: &str) -> Result<Reply, 
     Ok(Reply::Lines(fitting_list_text(alloc, volume, pattern)?))
 }
 
-// The answer to a command that has changed the volume.
+// Returns the reply to a command that has changed the volume.
 fn done(_changed: ()) -> Reply
     ensures done { result ≡ Reply.Done }
 {
     Reply::Done
 }
 
-/// Does a command on a volume. A refused command leaves the volume as it was.
+/// Executes a command on a volume.
 ///
-/// Only a list, the bytes and the text of a file, and a text to be put take memory.
+/// Memory is needed only for a list, for the bytes or the text of a file, and for a text to add.
+///
+/// # Errors
+///
+/// The fault of the command, or `NoMemory` if memory was refused. The volume is unchanged.
 #[tactic(auto, unfolding(crate::specs::Filed::filed), using(crate::proofs::Made::made))]
 pub fn apply(alloc: Global, volume: &mut Volume, command: FileCommand) -> Result<Reply, FilerFault>
     ensures done { IfOk result

@@ -7,16 +7,16 @@ use pm_volume::VolumeFault;
 use std::alloc::AllocError;
 use thiserror::Error;
 
-/// Why a command is refused. The volume has not changed.
+/// Why a command is refused. The volume is unchanged.
 #[derive(Clone, Copy, Debug, Error)]
 pub enum FilerFault {
-    /// The volume refuses it.
+    /// The volume refuses the command.
     #[error("{0}")]
     Volume(VolumeFault),
-    /// The text, or the text file, has a fault.
+    /// The text or the text file has a fault.
     #[error("{0}")]
     Text(TextFault),
-    /// The year is above 127, the month not 1 to 12, or the day not 1 to 31.
+    /// The year is above 127, the month is not 1 to 12, or the day is not 1 to 31.
     #[error("not a date")]
     BadDate,
     /// Memory was refused.
@@ -25,7 +25,7 @@ pub enum FilerFault {
 }
 
 impl FilerFault {
-    /// The number of the fault: 1 for the volume's, 2 for the text's, 3 for a date's, 4 for want of memory.
+    /// The number of the fault: 1 for a fault of the volume, 2 of the text, 3 of a date, 4 if memory was refused.
     pub fn number(self) -> u8
         ensures value { result ≡ filer_number self }
     {

@@ -1,4 +1,4 @@
-//! Commands on the files of a volume, and the segment of a system that is put into the code file of a program there.
+//! Commands on the files of a volume. A system segment can be added to the code file of a program on a volume.
 #![tactic(auto)]
 
 mod command;

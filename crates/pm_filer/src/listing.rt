@@ -1,4 +1,4 @@
-//! The list of a volume's files, as text.
+//! The text of the list of files of a volume.
 ghost use Rattle.std.specs.Prelude.{◌≡◌, ◌++◌, ◌<◌, Some, IfOk, OnOk, length, string_bytes};
 ghost use Rattle.std.specs.Option.{option_map};
 ghost use Rattle.pm_filer.specs.Listing.{at_right, date_text, entry_details, file_line, fitting_list_text};
@@ -16,8 +16,8 @@ use pm_volume::{Copies, Date, Entry, Space, Volume, kinds};
 use std::alloc::{AllocError, Global};
 use std::fmt;
 
-/// The word for a kind of file: `none`, `badb`, `code`, `text`, `info`, `data`, `graf`, `foto` and `secd` for 0 to 8.
-/// Other kinds have none.
+/// Returns the word for a kind of file: `none`, `badb`, `code`, `text`, `info`, `data`, `graf`, `foto` and `secd` for 0
+/// to 8. Returns None for other kinds.
 #[tactic(auto, unfolding(crate::specs::Listing::kind_word))]
 pub fn kind_word(kind: u8) -> Option<&'static str>
     ensures word { option_map (λ word. word.now) result ≡ kind_word kind }
@@ -36,7 +36,7 @@ pub fn kind_word(kind: u8) -> Option<&'static str>
     }
 }
 
-/// A kind in four characters.
+/// A kind, shown in four characters.
 #[derive(Clone, Copy)]
 struct Kind(u8);
 
@@ -53,7 +53,7 @@ impl fmt::Display for Kind {
     }
 }
 
-/// A date by its word, shown as year, month and day.
+/// A date word, shown as year, month and day.
 #[derive(Clone, Copy)]
 pub struct DateWord(pub u16);
 
@@ -67,7 +67,7 @@ impl fmt::Display for DateWord {
     }
 }
 
-/// A number at the right of five characters.
+/// A number, shown right-aligned in five characters.
 #[derive(Clone, Copy)]
 struct Five(u16);
 
@@ -81,7 +81,7 @@ impl fmt::Display for Five {
     }
 }
 
-/// A number at the right of three characters.
+/// A number, shown right-aligned in three characters.
 #[derive(Clone, Copy)]
 struct Three(u16);
 
@@ -95,7 +95,7 @@ impl fmt::Display for Three {
     }
 }
 
-/// A number at the right of two characters.
+/// A number, shown right-aligned in two characters.
 #[derive(Clone, Copy)]
 struct Two(u16);
 
@@ -109,7 +109,7 @@ impl fmt::Display for Two {
     }
 }
 
-/// A byte of a name as it is shown.
+/// Returns the byte that is shown for a byte of a name: `?` if it is not printable.
 fn shown_byte(byte: u8) -> u8
     ensures value { result ≡ shown_byte byte }
 {
@@ -120,7 +120,7 @@ fn shown_byte(byte: u8) -> u8
     }
 }
 
-/// Adds the bytes of a name as they are shown.
+/// Appends the bytes of a name as they are shown.
 fn push_name(text: &mut String, name: &[u8]) -> Result<(), AllocError>
     ensures text { OnOk result (string_bytes text.new ≡ string_bytes text.old ++ printable_name name.now) }
 {
@@ -130,7 +130,7 @@ fn push_name(text: &mut String, name: &[u8]) -> Result<(), AllocError>
     Ok(())
 }
 
-/// Adds so many spaces.
+/// Appends `count` spaces.
 fn push_spaces(text: &mut String, count: usize) -> Result<(), AllocError>
     ensures text { OnOk result (string_bytes text.new ≡ string_bytes text.old ++ spaces count) }
 {
@@ -140,7 +140,7 @@ fn push_spaces(text: &mut String, count: usize) -> Result<(), AllocError>
     Ok(())
 }
 
-/// What the line of a file says behind its name.
+/// The part of the line of a file after the name.
 #[derive(Clone, Copy)]
 struct Details(Entry);
 
@@ -158,7 +158,7 @@ impl fmt::Display for Details {
     }
 }
 
-/// Adds the line of a file.
+/// Appends the line of a file.
 #[tactic(auto, unfolding(crate::specs::Listing::file_line), using(crate::proofs::Columns::shown_length))]
 fn push_entry(text: &mut String, entry: Entry) -> Result<(), AllocError>
     ensures text { OnOk result (string_bytes text.new ≡ string_bytes text.old ++ file_line entry) }
@@ -171,7 +171,7 @@ fn push_entry(text: &mut String, entry: Entry) -> Result<(), AllocError>
     Ok(())
 }
 
-/// Adds the lines of the files.
+/// Appends the lines of the files.
 fn push_files(text: &mut String, volume: &Volume) -> Result<(), AllocError>
     ensures text { OnOk result
         (string_bytes text.new ≡ string_bytes text.old ++ flat_map file_line (files_of volume.now)) }
@@ -183,7 +183,7 @@ fn push_files(text: &mut String, volume: &Volume) -> Result<(), AllocError>
     Ok(())
 }
 
-/// Adds the last line.
+/// Appends the last line.
 #[tactic(auto, unfolding(crate::specs::Listing::space_line))]
 fn push_space(text: &mut String, volume: &Volume) -> Result<(), AllocError>
     ensures text { OnOk result (string_bytes text.new ≡ string_bytes text.old ++ space_line volume.now) }
@@ -194,8 +194,8 @@ fn push_space(text: &mut String, volume: &Volume) -> Result<(), AllocError>
     Ok(())
 }
 
-/// The list of a volume's files: its name and a colon; a line for each file; the number of files, the free blocks and
-/// the largest gap.
+/// Returns the list of files of a volume. It has the name of the volume and a colon, a line for each file, and a last
+/// line. The last line has the number of files, the number of free blocks and the size of the largest gap in blocks.
 #[tactic(auto, unfolding(crate::specs::Listing::list_text))]
 pub(crate) fn list_text(alloc: Global, volume: &Volume) -> Result<String, AllocError>
     ensures text { IfOk result (λ text. string_bytes text ≡ list_text volume.now) }
@@ -208,7 +208,7 @@ pub(crate) fn list_text(alloc: Global, volume: &Volume) -> Result<String, AllocE
     Ok(text)
 }
 
-/// What such a line says of a file behind its name.
+/// The part of the line of a file after the name, in the full list.
 #[derive(Clone, Copy)]
 struct FullDetails(u16, Entry);
 
@@ -224,7 +224,7 @@ impl fmt::Display for FullDetails {
     }
 }
 
-/// Adds the line of a file with the number of its kind, and its slot.
+/// Appends the line of a file with the number of its kind and its slot.
 #[tactic(auto, unfolding(crate::specs::Listing::full_line), using(crate::proofs::Columns::shown_length))]
 fn push_full_entry(text: &mut String, slot: u16, entry: Entry) -> Result<(), AllocError>
     ensures text { OnOk result (string_bytes text.new ≡ string_bytes text.old ++ full_line slot entry) }
@@ -237,7 +237,7 @@ fn push_full_entry(text: &mut String, slot: u16, entry: Entry) -> Result<(), All
     Ok(())
 }
 
-/// Adds the line of free blocks, from one up to another, where there is one.
+/// Appends the line of the free blocks from `begin` to `end` (exclusive). Appends nothing if there are none.
 #[tactic(auto, unfolding(crate::specs::Listing::gap_line))]
 fn push_gap(text: &mut String, begin: u16, end: u16) -> Result<(), AllocError>
     ensures text { OnOk result (string_bytes text.new ≡ string_bytes text.old ++ gap_line begin end) }
@@ -250,7 +250,7 @@ fn push_gap(text: &mut String, begin: u16, end: u16) -> Result<(), AllocError>
     Ok(())
 }
 
-/// The block where files begin.
+/// Returns the first block after the directory or its second copy, where files begin.
 fn first_block(volume: &Volume) -> u16
     ensures block { result ≡ files_begin (directory_of volume.now) }
 {
@@ -260,7 +260,7 @@ fn first_block(volume: &Volume) -> u16
     }
 }
 
-/// Adds the lines of the files, each behind that of the free blocks before it, and that of those behind the last.
+/// Appends the lines of the files. The free blocks before each file and after the last file have a line too.
 fn push_all(text: &mut String, volume: &Volume) -> Result<(), AllocError>
     ensures text { OnOk result (string_bytes text.new ≡ string_bytes text.old
         ++ full_lines 1 (files_begin (directory_of volume.now)) (files_of volume.now)
@@ -278,8 +278,8 @@ fn push_all(text: &mut String, volume: &Volume) -> Result<(), AllocError>
     push_gap(text, begin, volume.blocks())
 }
 
-/// The list with all that the directory says of its files: as `list_text`, but with the number of its kind and its slot
-/// behind the line of each file, and a line for each free area, with its first block and the number of its blocks.
+/// Returns the full list of files. It is the same as `list_text`, with two additions. The line of each file ends with
+/// the number of its kind and its slot. Each gap has a line with its first block and its number of blocks.
 #[tactic(auto, unfolding(crate::specs::Listing::full_list_text))]
 pub(crate) fn full_list_text(alloc: Global, volume: &Volume) -> Result<String, AllocError>
     ensures text { IfOk result (λ text. string_bytes text ≡ full_list_text volume.now) }
@@ -292,7 +292,7 @@ pub(crate) fn full_list_text(alloc: Global, volume: &Volume) -> Result<String, A
     Ok(whole)
 }
 
-/// Adds the lines of the files whose names fit, and says how many they are.
+/// Appends the lines of the files whose names match. Returns the number of these files.
 fn push_fitting(text: &mut String, volume: &Volume, pattern: &str) -> Result<usize, AllocError>
     ensures text { OnOk result (string_bytes text.new ≡ string_bytes text.old
         ++ flat_map file_line (fitting_files volume.now pattern.now)) }
@@ -309,7 +309,8 @@ fn push_fitting(text: &mut String, volume: &Volume, pattern: &str) -> Result<usi
     Ok(count)
 }
 
-/// The list as if the files whose names fit a pattern were all, with the free blocks that there are.
+/// Returns the list of only those files whose names match a pattern. The free blocks in the last line are those of the
+/// volume.
 #[tactic(auto, unfolding(crate::specs::Listing::fitting_list_text, crate::specs::Listing::some_space_line))]
 pub(crate) fn fitting_list_text(
     alloc: Global,

@@ -1,4 +1,4 @@
-//! Code files with the segment of another one.
+//! Code files to which the segment of another code file is added.
 ghost use Rattle.std.specs.Prelude.{◌≡◌, ◌≢◌, ◌≤◌, length, Err, Ok, IfErr, IfOk, IsErrOf, IsOk};
 ghost use Rattle.pm_bytes.specs.declared.blocks.TheConstants.{BLOCK};
 ghost use Rattle.pm_bytes.specs.Blocks.{blocks_for};
@@ -11,7 +11,7 @@ use pm_codefile::{CodeFile, Slot};
 use pm_volume::VolumeFault;
 use std::alloc::{AllocError, Global};
 
-/// Slot 0 of the system's file, and its segment.
+/// Returns slot 0 of the system file and its segment.
 #[tactic(auto, unfolding(crate::specs::SystemSegments::system_slot))]
 pub(crate) fn system_slot(system: &[u8]) -> Result<(Slot, &[u8]), SystemFault>
     ensures found { IfOk result (λ found. system_slot system.now ≡ Ok (found.0, found.1.now)) }
@@ -26,7 +26,8 @@ pub(crate) fn system_slot(system: &[u8]) -> Result<(Slot, &[u8]), SystemFault>
     Ok((slot, segment))
 }
 
-/// A code file of so many blocks with a segment behind its last block, and slot 0 saying so.
+/// Returns a code file with a segment after its last block. Slot 0 of the dictionary describes this segment. The file
+/// has `block` blocks without the segment.
 #[tactic(auto, unfolding(crate::specs::SystemSegments::with_segment))]
 fn with_segment(
     alloc: Global,
@@ -48,7 +49,7 @@ fn with_segment(
     Ok(new)
 }
 
-/// The program's file with a segment in its empty slot 0.
+/// Returns the program file with a segment in its slot 0, which must be empty.
 #[tactic(auto, unfolding(crate::specs::SystemSegments::given))]
 pub(crate) fn given(
     alloc: Global,
@@ -73,10 +74,20 @@ pub(crate) fn given(
     Ok(with_segment(alloc, file, block, slot, segment)?)
 }
 
-/// The code file `file` with the segment that the code file `system` has in slot 0: it is put in behind the last block
-/// of `file`, and slot 0 of the dictionary gets its block, its length and its name. All other bytes stay. The refusals
-/// in their order: `NoCode`, `NoSegment`, `NoProgram`, `Taken` where slot 0 of `file` has a segment, `NoRoom` of a
-/// volume where `file` has more than 65,535 blocks of 512 bytes.
+/// Returns the code file `file` with the segment that the code file `system` has in slot 0.
+///
+/// The segment is added after the last block of `file`. Slot 0 of the dictionary gets its block, its length and its
+/// name. All other bytes are unchanged.
+///
+/// # Errors
+///
+/// Checked in this order:
+/// - `NoCode`: `system` is not a code file.
+/// - `NoSegment`: slot 0 of `system` has no segment.
+/// - `NoProgram`: `file` is not a code file.
+/// - `Taken`: slot 0 of `file` has a segment.
+/// - `NoRoom` of a volume: `file` has more than 65,535 blocks of 512 bytes.
+/// - `NoMemory`: memory was refused.
 pub fn with_system(alloc: Global, file: &[u8], system: &[u8]) -> Result<Vec<u8>, SystemFault>
     ensures done { IfOk result (λ new. with_system file.now system.now ≡ Ok new.items) }
     ensures refusal { IfErr result (λ fault. fault ≢ NoMemory → with_system file.now system.now ≡ Err fault) }

@@ -1,4 +1,4 @@
--- Known bytes that grow by a text but for the page that is held back.
+-- Known bytes to which a text is appended except for the buffered page.
 use Rattle.std.proofs.Common.{◌≡◌, ℕ, List, [], ◌++◌, Option, refl, sym, ap, ◌∙◌, append_assoc, append-nil}
 use Rattle.std.specs.Io.KnownBytes.{Appends}
 use Rattle.std.proofs.KnownBytes.{Appends-trans, Appends-nil}
@@ -13,13 +13,13 @@ pub but_grown : (old new : Option (List ℕ)) (page shown more page' : List ℕ)
     AppendsBut old new page' (shown ++ more)
 but_grown old new page shown more page' b e = (b.0, b.1, ap (λ t. t ++ more) b.2 ∙ append_assoc b.0 page more ∙ ap (λ t. b.0 ++ t) (sym e))
 
--- the front of the page is written
+-- a prefix of the page is written
 pub but_turned : (old mid new : Option (List ℕ)) (page rest shown : List ℕ) → AppendsBut old mid page shown → AppendsBut mid new rest page →
     AppendsBut old new rest shown
 but_turned old mid new page rest shown b t =
     (b.0 ++ t.0, Appends-trans old mid new b.0 t.0 b.1 t.1, b.2 ∙ ap (λ p. b.0 ++ p) t.2 ∙ sym (append_assoc b.0 t.0 rest))
 
--- a front of the page is written, and no more
+-- only a prefix of the page is written
 pub but_front : (old mid new : Option (List ℕ)) (page shown : List ℕ) → AppendsBut old mid page shown → AppendsFront mid new page → AppendsFront old new shown
 but_front old mid new page shown b a =
     (b.0 ++ a.0, Appends-trans old mid new b.0 a.0 b.1 a.1, rw b.2 (front_after b.0 a.0 page a.2))
@@ -28,7 +28,7 @@ but_front old mid new page shown b a =
 pub but_lost : (old new : Option (List ℕ)) (page shown : List ℕ) → AppendsBut old new page shown → AppendsFront old new shown
 but_lost old new page shown b = (b.0, b.1, (page, b.2))
 
--- the page is written to its end
+-- the whole page is written
 pub but_all : (old mid new : Option (List ℕ)) (page shown : List ℕ) → AppendsBut old mid page shown → Appends mid new page → Appends old new shown
 but_all old mid new page shown b a = rw b.2 (Appends-trans old mid new b.0 page b.1 a)
 

@@ -1,4 +1,4 @@
--- What several reads and writes did to known bytes.
+-- The effect of several reads and writes on known bytes.
 use Rattle.std.proofs.Common.{◌≡◌, ◌≤◌, ℕ, List, [], ◌++◌, Option, Bool, false, length, take, drop, inl, inr, refl, sym, ap, ◌∙◌, append_assoc, append-nil}
 use Rattle.std.proofs.Common.{arith}
 use Rattle.std.proofs.lemmas.List.{take-append-drop}
@@ -9,7 +9,7 @@ use Rattle.pm_jobs.specs.declared.fault.Fault.TheVariants as faults
 use Rattle.pm_jobs.specs.declared.source.TheConstants.{INPUT_LIMIT}
 use Rattle.pm_jobs.specs.Streams.{AppendsFront, IsCause, IsFront}
 
--- rest is still to be written, and what stands before it is
+-- `rest` is still to be written, and the bytes before it were written
 pub record Written (old new : Option (List ℕ)) (bytes rest : List ℕ) : Type 0 where
   pub done : List ℕ
   pub appends : Appends old new done
@@ -32,7 +32,7 @@ Written-all old new bytes w = rw (w.whole ∙ append-nil w.done) w.appends
 pub Written-front : (old new : Option (List ℕ)) (bytes rest : List ℕ) → Written old new bytes rest → AppendsFront old new bytes
 Written-front old new bytes rest w = (w.done, w.appends, (rest, w.whole))
 
--- ---- fronts
+-- ---- prefixes
 
 pub front_trans : (a b c : List ℕ) → IsFront a b → IsFront b c → IsFront a c
 front_trans a b c f g = (f.0 ++ g.0, g.1 ∙ ap (λ t. t ++ g.0) f.1 ∙ append_assoc a f.0 g.0)
@@ -42,7 +42,7 @@ front_after a b c f = (f.0, ap (λ t. a ++ t) f.1 ∙ sym (append_assoc a b f.0)
 
 -- ---- causes
 
--- what broke a job off while it read nothing
+-- the reason why a job was aborted that read nothing
 pub cause_longer : (fault : Fault) (sink_failed : Bool) (read : List ℕ) → length read ≤ INPUT_LIMIT → IsCause fault false sink_failed [] →
     IsCause fault false sink_failed read
 cause_longer faults.Read sink_failed read few c = elim c.1 [ inl bad ↦ cc | inr bad ↦ absurd (omega arith) ]

@@ -1,4 +1,4 @@
--- Why jobs are broken off, in words.
+-- The messages for the reasons why jobs are aborted.
 use Rattle.std.specs.Prelude.{ℕ, List, codes}
 use Rattle.pm_jobs.specs.declared.fault.Fault.{Fault}
 use Rattle.pm_jobs.specs.declared.fault.Fault.TheVariants as faults

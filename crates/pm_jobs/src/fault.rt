@@ -1,22 +1,22 @@
-//! Why a job is broken off.
+//! The reasons why a job is aborted.
 ghost use Rattle.std.specs.Prelude.{◌≡◌};
 ghost use Rattle.pm_jobs.specs.Faults.{fault_text};
 
 use std::alloc::AllocError;
 
-/// What breaks a job off before its end.
+/// The reason why a job is aborted.
 #[derive(Clone, Copy)]
 pub enum Fault {
-    /// A read answered an error, or the input is too long.
+    /// A read returned an error, or the input is too long.
     Read,
-    /// A write answered an error, or took no byte.
+    /// A write returned an error or wrote no byte.
     Write,
-    /// Memory was wanted and refused.
+    /// Memory was refused.
     NoMemory,
 }
 
 impl Fault {
-    /// Its message: `read fault`, `write fault` or `no memory`.
+    /// Returns the message: `read fault`, `write fault` or `no memory`.
     pub fn text(self) -> &'static str
         ensures value { result.now ≡ fault_text self }
     {

@@ -1,5 +1,7 @@
-//! What a job is asked for, as words say it: which lines of a trace are shown, which images a run saves, what `asm` and
-//! `dis` write. And its streams: where its input comes from, where its output goes, and why it may be broken off.
+//! The options of jobs and their streams.
+//!
+//! The options select the lines of a trace, the images that a run saves, and the output of `asm` and `dis`. The streams
+//! are the input and the output of a job, with the reasons why it may be aborted.
 #![tactic(auto)]
 
 mod fault;

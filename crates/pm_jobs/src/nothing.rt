@@ -1,10 +1,10 @@
-//! The input of a job that reads none.
+//! The input of a job that reads no input.
 ghost use Rattle.std.specs.Prelude.{[], false, Some};
 
 use crate::source::Source;
 use std::io;
 
-/// A source with nothing in it.
+/// A source without any bytes.
 #[derive(Drop)]
 pub struct Nothing;
 

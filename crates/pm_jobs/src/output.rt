@@ -1,31 +1,31 @@
-//! What the jobs on texts of the assembler and on code files write.
+//! The outputs of the jobs on source texts and on code files.
 
-/// What `asm` writes of a text of the assembler.
+/// The output of `asm` for a source text.
 #[derive(Clone, Copy)]
 pub enum AsmOutput {
-    /// The code file of its program.
+    /// The code file of the program.
     File,
-    /// The listing of its program.
+    /// The listing of the program.
     Listing,
-    /// A line for each of its faults.
+    /// A line for each fault.
     Faults,
-    /// A line for each of its procedures and labels.
+    /// A line for each procedure and each label.
     Symbols,
 }
 
-/// What `dis` writes of a code file.
+/// The output of `dis` for a code file.
 #[derive(Clone, Copy)]
 pub enum DisOutput {
-    /// Its text.
+    /// The source text.
     Text,
-    /// Its text with the names of procedures.
+    /// The source text with the names of procedures.
     Names,
-    /// Its listing by its own bytes and offsets.
+    /// The listing, with the bytes and offsets of the file.
     Listing,
-    /// Its code as statements.
+    /// The code as statements.
     Statements,
-    /// Its code as statements, each behind blanks by how deep it stands.
+    /// The code as statements, indented by their depth.
     Indented,
-    /// Its code as statements in blocks.
+    /// The code as statements in blocks.
     Blocks,
 }

@@ -1,29 +1,29 @@
-//! Which images a run saves.
+//! The images that a run saves.
 ghost use Rattle.std.specs.Prelude.{◌≡◌};
 ghost use Rattle.pm_jobs.specs.Savings.{has_first, has_others};
 
-/// Which images are saved as a program left them.
+/// The images that are saved after a run.
 #[derive(Clone, Copy)]
 pub enum Saving {
-    /// None.
+    /// No image.
     Nothing,
-    /// That of the disk on unit 4.
+    /// The image of the disk on unit 4.
     First,
-    /// Those of the disks on all units.
+    /// The images of the disks on all units.
     All,
-    /// Those of the disks on the units other than 4.
+    /// The images of the disks on the units other than 4.
     Others,
 }
 
 impl Saving {
-    /// Whether the image of unit 4 is saved.
+    /// Whether the image on unit 4 is saved.
     pub fn has_first(self) -> bool
         ensures value { result ≡ has_first self }
     {
         matches!(self, Saving::First | Saving::All)
     }
 
-    /// Whether the images of the other units are saved.
+    /// Whether the images on the other units are saved.
     pub fn has_others(self) -> bool
         ensures value { result ≡ has_others self }
     {

@@ -1,41 +1,41 @@
-//! Which lines of a trace are shown, and what stands in front of them.
+//! The lines of a trace that are shown, and their prefixes.
 
-/// The code in which a step stands.
+/// The code that contains a step.
 #[derive(Clone, Copy)]
 pub enum Code {
-    /// Any, and also a step that stands nowhere, since its SEG or JTAB is odd.
+    /// Any code. It includes a step whose position is unknown because SEG or JTAB is odd.
     Anywhere,
-    /// The segment of this number.
+    /// The segment with this number.
     Segment {
-        /// The segment's number, the low byte of its highest word.
+        /// The number of the segment, the low byte of its highest word.
         segment: u8,
     },
-    /// The procedure of this number in the segment of that one.
+    /// The procedure with this number in this segment.
     Procedure {
-        /// The segment's number, the low byte of its highest word.
+        /// The number of the segment, the low byte of its highest word.
         segment: u8,
-        /// The procedure's number, the low byte of the highest word of its table.
+        /// The number of the procedure, the low byte of the highest word of its table.
         procedure: u8,
     },
 }
 
-/// Which lines of a trace are shown, and what stands in front of each. A line is shown where all of `from`, `code` and
-/// `calls` let it be.
+/// The lines of a trace that are shown, and their prefixes. A line is shown only if `from`, `code` and `calls` all
+/// select it.
 #[derive(Clone, Copy)]
 pub struct Selection {
-    /// How many steps were made before the first that is shown.
+    /// The number of steps before the first one that is shown.
     pub from: u32,
-    /// The code in which the steps stand.
+    /// The code that contains the steps.
     pub code: Code,
-    /// Whether the lines of calls and returns alone are shown, with two blanks in front for each frame on the dynamic
-    /// chain below that of the system.
+    /// Whether only the lines of calls and returns are shown. Each is then indented by two spaces for each frame on the
+    /// dynamic chain below the frame of the system.
     pub calls: bool,
-    /// Whether the place of the step stands in front of its line: segment, procedure and offset.
+    /// Whether each line begins with the position of the step: segment, procedure and offset.
     pub places: bool,
 }
 
 impl Selection {
-    /// Every line, as it is.
+    /// Every line, without prefixes.
     pub const ALL: Selection = Selection {
         from: 0,
         code: Code::Anywhere,

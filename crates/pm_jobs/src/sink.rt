@@ -1,4 +1,4 @@
-//! Where a job's output goes.
+//! The output of a job.
 ghost use Rattle.std.specs.Prelude.{◌≡◌, ⊤, Bool, Option, false, ◌||◌, List, ℕ, is_err, OnOk, IfErr};
 ghost use Rattle.std.specs.Io.{WritesAtMost};
 ghost use Rattle.std.specs.Io.KnownBytes.{WriteAppends, Appends};
@@ -7,32 +7,32 @@ ghost use Rattle.pm_jobs.specs.Streams.{Outgoing, took_nothing, AppendsFront};
 use crate::fault::Fault;
 use std::io;
 
-/// What a job writes its output to.
+/// The output stream of a job.
 pub trait Sink {
-    /// The bytes that were written, where they are known; and whether a write has answered an error or has taken no
+    /// The bytes that were written, if they are known, and whether a write has returned an error or has written no
     /// byte.
     ghost seen: { Self → Outgoing };
 
-    /// Writes some bytes of the front of `buf` and answers how many. An error writes nothing.
+    /// Writes some of the first bytes of `buf` and returns their number. If it returns an error, nothing was written.
     fn write(&mut self, buf: &[u8]) -> io::Result<usize>
         ensures bound { WritesAtMost result buf.now }
         ensures bytes { WriteAppends (seen self.old).contents (seen self.new).contents result buf.now }
         ensures failed { (seen self.new).failed ≡ ((seen self.old).failed || took_nothing result) };
 
-    /// Whether a write has answered an error or has taken no byte.
+    /// Whether a write has returned an error or has written no byte.
     fn failed(&self) -> bool
         ensures value { result ≡ (seen self.now).failed };
 }
 
-/// A writer, and what one call of it comes to. Each writer is one.
+/// A writer, with the effect of one call of it. Every `io::Write` is one.
 pub trait Output {
-    /// The bytes that were written, where they are known.
+    /// The bytes that were written, if they are known.
     ghost taken: { Self → Option (List ℕ) };
 
-    /// One call leads from the one to the other.
+    /// One call changes the first state to the second.
     ghost one_write: { Self → Self → Type 0 };
 
-    /// Writes by one call.
+    /// Writes by one call. Returns the number of bytes that were written.
     fn write_once(&mut self, buf: &[u8]) -> io::Result<usize>
         ensures bound { WritesAtMost result buf.now }
         ensures bytes { WriteAppends (taken self.old) (taken self.new) result buf.now }
@@ -57,7 +57,7 @@ pub struct Writer<W> {
 }
 
 impl<W: Output> Writer<W> {
-    /// A sink that writes to `inner`, and has not failed.
+    /// Creates a sink that writes to `inner`. It has not failed.
     pub fn new(inner: W) -> Writer<W>
         ensures contents { (⟦<Writer<W> as Sink>⟧.seen result).contents ≡ W.taken inner }
         ensures failed { (⟦<Writer<W> as Sink>⟧.seen result).failed ≡ false }
@@ -88,8 +88,11 @@ impl<W: Output> Sink for Writer<W> {
     }
 }
 
-/// Writes all of `bytes`, by as many writes as it takes. The sink may not have failed before. `Write` where a write
-/// fails or takes no byte: a front of the bytes is written then.
+/// Writes all of `bytes`, with as many writes as needed. The sink must not have failed before.
+///
+/// # Errors
+///
+/// `Write`: a write returned an error or wrote no byte. A prefix of the bytes was written.
 pub fn write_all<W: Sink>(sink: &mut W, bytes: &[u8]) -> Result<(), Fault>
     requires well { (W.seen sink.old).failed ≡ false }
     ensures all { OnOk result (Appends (W.seen sink.old).contents (W.seen sink.new).contents bytes.now) }

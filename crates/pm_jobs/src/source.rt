@@ -1,4 +1,4 @@
-//! Where a job's input comes from.
+//! The input of a job.
 ghost use Rattle.std.specs.Prelude.{◌≡◌, ⊤, Bool, Option, false, ◌||◌, List, ℕ, is_err, OnOk, OnErr, IfErr, IfOk};
 ghost use Rattle.std.specs.Io.{ReadsAtMost};
 ghost use Rattle.std.specs.Io.KnownBytes.{ReadConsumes, Consumes, Keeps};
@@ -9,34 +9,34 @@ use crate::fault::Fault;
 use std::alloc::Global;
 use std::io;
 
-/// What a job reads its input from.
+/// The input stream of a job.
 pub trait Source {
-    /// The bytes that are still to come, where they are known; whether a read has answered an error; and how many bytes
-    /// it gave.
+    /// The remaining bytes, if they are known; whether a read has returned an error; and the number of bytes that were
+    /// read.
     ghost seen: { Self → Incoming };
 
-    /// Reads some bytes into the front of `buf` and answers how many: none only at the end, or where `buf` is empty. An
-    /// error reads nothing.
+    /// Reads some bytes into the start of `buf` and returns their number. It is 0 only at the end or if `buf` is empty.
+    /// If it returns an error, nothing was read.
     fn read(&mut self, buf: &mut [u8]) -> io::Result<usize>
         ensures bound { ReadsAtMost result buf.new }
         ensures bytes { ReadConsumes (seen self.old).remaining (seen self.new).remaining result buf.new }
         ensures failed { (seen self.new).failed ≡ ((seen self.old).failed || is_err result) }
         ensures counts { Counts (seen self.old).given (seen self.new).given result };
 
-    /// Whether a read has answered an error.
+    /// Whether a read has returned an error.
     fn failed(&self) -> bool
         ensures value { result ≡ (seen self.now).failed };
 }
 
-/// A reader, and what one call of it comes to. Each reader is one.
+/// A reader, with the effect of one call of it. Every `io::Read` is one.
 pub trait Input {
-    /// The bytes that are still to come, where they are known.
+    /// The remaining bytes, if they are known.
     ghost coming: { Self → Option (List ℕ) };
 
-    /// One call leads from the one to the other.
+    /// One call changes the first state to the second.
     ghost one_read: { Self → Self → Type 0 };
 
-    /// Reads by one call.
+    /// Reads by one call. Returns the number of bytes that were read.
     fn read_once(&mut self, buf: &mut [u8]) -> io::Result<usize>
         ensures bound { ReadsAtMost result buf.new }
         ensures bytes { ReadConsumes (coming self.old) (coming self.new) result buf.new }
@@ -62,7 +62,7 @@ pub struct Reader<R> {
 }
 
 impl<R: Input> Reader<R> {
-    /// A source of the bytes of `inner`, which has not failed and gave none.
+    /// Creates a source that reads from `inner`. It has not failed and has read no bytes.
     pub fn new(inner: R) -> Reader<R>
         ensures remaining { (⟦<Reader<R> as Source>⟧.seen result).remaining ≡ R.coming inner }
         ensures failed { (⟦<Reader<R> as Source>⟧.seen result).failed ≡ false }
@@ -100,11 +100,16 @@ impl<R: Input> Source for Reader<R> {
     }
 }
 
-/// The most bytes of input that a job reads. One more is a read fault.
+/// The maximum number of input bytes of a job. One more byte is a read fault.
 pub const INPUT_LIMIT: usize = 16_777_216;
 
-/// Reads all that is left. The source may not have failed before. `Read` where a read fails, or more than `INPUT_LIMIT`
-/// bytes come; `NoMemory` where memory is refused. What was read by then is lost.
+/// Reads all remaining bytes. The source must not have failed before.
+///
+/// # Errors
+///
+/// The bytes that were already read are lost:
+/// - `Read`: a read returned an error, or there are more than `INPUT_LIMIT` bytes.
+/// - `NoMemory`: memory was refused.
 pub fn read_all<R: Source>(alloc: Global, source: &mut R) -> Result<Vec<u8>, Fault>
     requires well { (R.seen source.old).failed ≡ false }
     ensures all { IfOk result (λ input.
@@ -132,8 +137,8 @@ pub fn read_all<R: Source>(alloc: Global, source: &mut R) -> Result<Vec<u8>, Fau
     Ok(input)
 }
 
-// Reads one byte, if one is left. The source may not have failed before. `Read` where the read fails, and then no byte
-// is taken.
+// Reads one byte, or returns None at the end. The source must not have failed before. Fails with `Read` if the read
+// returns an error. Then no byte was read.
 fn read_byte<R: Source>(source: &mut R) -> Result<Option<u8>, Fault>
     requires well { (R.seen source.old).failed ≡ false }
     ensures byte { IfOk result (λ byte. ReadsByte (R.seen source.old).remaining (R.seen source.new).remaining byte) }
@@ -150,9 +155,14 @@ fn read_byte<R: Source>(source: &mut R) -> Result<Option<u8>, Fault>
     }
 }
 
-/// Reads one byte of an input of which `taken` were read before, if one is left, and counts it. The source may not have
-/// failed before. `Read` where the read fails, and then no byte is taken; or where it is one byte more than
-/// `INPUT_LIMIT`.
+/// Reads one byte of an input and adds 1 to `taken`, the number of bytes that were read before. At the end it returns
+/// None and leaves `taken` unchanged. The source must not have failed before.
+///
+/// # Errors
+///
+/// `Read`, in one of two cases. `taken` is unchanged:
+/// - The read returned an error. No byte was read.
+/// - `taken` was already `INPUT_LIMIT`. One more byte was read and is lost.
 pub fn next_byte<R: Source>(source: &mut R, taken: &mut usize) -> Result<Option<u8>, Fault>
     requires well { (R.seen source.old).failed ≡ false }
     ensures byte { IfOk result (λ byte.

@@ -1,4 +1,4 @@
--- The text of a code file with what is told of its lines behind them.
+-- The text of a code file with notes on its lines.
 use Rattle.std.specs.Prelude.{ℕ, List, [], ◌∷◌, ◌++◌, ◌==◌, if◌then◌else◌, codes, Option, Some, None}
 use Rattle.pm_notes.specs.Marks.{note_on}
 
@@ -7,16 +7,16 @@ abbrev pub comment : Option (List ℕ) → List ℕ
 comment None = []
 comment (Some note) = codes " ; " ++ note
 
--- a line with what is told of it
+-- a line with the note on it
 unfoldable pub named_line : List ℕ → List ℕ → List ℕ
 named_line file line = line ++ comment (note_on file line)
 
--- the same of each line of a text that a line feed or the end ends, behind what stands of the first line already
+-- the same for each line of a text; `line` is the part of the first line that was already read
 unfoldable pub named_from : List ℕ → List ℕ → List ℕ → List ℕ
 named_from file line [] = named_line file line
 named_from file line (c ∷ cs) =
     if c == 10 then named_line file line ++ 10 ∷ named_from file [] cs else named_from file (line ++ c ∷ []) cs
 
--- The text of a code file with what is told of its lines.
+-- The text of a code file with the notes on its lines.
 unfoldable pub with_names : List ℕ → List ℕ → List ℕ
 with_names file text = named_from file [] text

@@ -1,5 +1,5 @@
-//! What stands as comments behind the lines of a code file's text: the names of the procedures that they call by
-//! number, and what is no p-code of this machine.
+//! Comments on the lines of the text of a code file. They state the names of the procedures that a line calls by
+//! number. They also mark code that is not p-code of this machine.
 #![tactic(auto)]
 
 mod lines;

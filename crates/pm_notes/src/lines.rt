@@ -1,4 +1,4 @@
-//! The text of a code file with what is told of its lines.
+//! The text of a code file with comments on its lines.
 
 ghost use Rattle.std.specs.Prelude.{◌≡◌, ◌++◌, Some, string_bytes, IfOk, OnOk};
 ghost use Rattle.pm_notes.specs.Lines.{comment, named_line, with_names};
@@ -9,7 +9,7 @@ use crate::names::name_called;
 use pm_codefile::CodeFile;
 use std::alloc::{AllocError, Global};
 
-/// Adds a note as a comment.
+/// Appends a note as a comment.
 fn push_comment(named: &mut Vec<u8>, note: &str) -> Result<(), AllocError>
     ensures note { OnOk result (named.new.items ≡ named.old.items ++ comment (Some note.now)) }
 {
@@ -17,14 +17,14 @@ fn push_comment(named: &mut Vec<u8>, note: &str) -> Result<(), AllocError>
     named.extend_from_slice(note.as_bytes())
 }
 
-/// The note on the number in the highest word of a segment.
+/// Returns the note on the number in the highest word of a segment.
 fn number_note(alloc: Global, number: u8) -> Result<String, AllocError>
     ensures note { IfOk result (λ note. string_bytes note ≡ number_note number) }
 {
     format!(in alloc; "number {number} in its highest word")
 }
 
-/// Adds what is told of a slot, if anything is.
+/// Appends the note on a slot, if it has one.
 fn push_slot_note(
     alloc: Global,
     named: &mut Vec<u8>,
@@ -49,7 +49,7 @@ fn push_slot_note(
     }
 }
 
-/// Adds what is told of a line, if anything is.
+/// Appends the note on a line, if it has one.
 #[tactic(auto, unfolding(crate::specs::Marks::note_on))]
 fn push_note(
     alloc: Global,
@@ -71,7 +71,7 @@ fn push_note(
     }
 }
 
-/// Adds a line with what is told of it.
+/// Appends a line and the note on it.
 #[tactic(auto, unfolding(crate::specs::Lines::named_line))]
 fn push_line(
     alloc: Global,
@@ -85,11 +85,17 @@ fn push_line(
     push_note(alloc, named, file, line)
 }
 
-/// The text of a code file with what is told of its lines, behind each a comment where it is one of these. A line that
-/// is `CSP n` or `CXP 0, n`: the name of the standard procedure, or the system's, that has the number, where it has
-/// one. The line of a segment: the number in the low byte of its highest word, where it is not that of the slot, and
-/// the name of the slot's kind, where it is 1 to 7. The line of a procedure of number 0: that it is native code, whose
-/// bytes the text shows as if they were p-code. Nothing else changes.
+/// Returns the text of a code file with comments. The lines themselves are unchanged. These lines get a comment:
+///
+/// - `CSP n` and `CXP 0, n`: the name of the standard procedure or the procedure of the operating system with that
+///   number, if it has a name.
+/// - The line of a segment: the number in the low byte of its highest word if it is not the number of the slot, and the
+///   name of the kind of the slot if the kind is 1 to 7.
+/// - The line of a procedure with number 0: that it is native code. The text shows its bytes as if they were p-code.
+///
+/// # Errors
+///
+/// `AllocError`: memory was refused.
 #[tactic(auto, unfolding(crate::specs::Lines::with_names, crate::specs::Lines::named_from))]
 pub fn with_names(alloc: Global, file: &CodeFile<'_>, text: &[u8]) -> Result<Vec<u8>, AllocError>
     ensures named { IfOk result (λ named. named.items ≡ with_names file.now text.now) }

@@ -1,4 +1,4 @@
-//! What is told of segments, and of what is no p-code of this machine.
+//! Notes on segments, and on code that is not p-code of this machine.
 
 ghost use Rattle.std.specs.Prelude.{◌≡◌, option_map};
 ghost use Rattle.pm_notes.specs.Marks.{is_native, is_unquoted, kind_name, kind_told, number_before_blank};
@@ -7,7 +7,7 @@ ghost use Rattle.pm_notes.specs.Marks.{other_number, slot_said};
 use crate::names::number_in;
 use pm_codefile::CodeFile;
 
-/// The name of a slot's kind, by its number, where it means more than a program's linked segment.
+/// Returns the name of a kind of slot, unless it is a linked segment of a program.
 #[tactic(auto, unfolding(crate::specs::Marks::kind_name, crate::specs::Marks::kind_names))]
 fn kind_name(kind: u16) -> Option<&'static str>
     ensures name { option_map (λ name. name.now) result ≡ kind_name kind }
@@ -24,7 +24,7 @@ fn kind_name(kind: u16) -> Option<&'static str>
     }
 }
 
-/// The name of the kind of a slot.
+/// Returns the name of the kind of a slot.
 #[tactic(auto, unfolding(crate::specs::Marks::kind_told))]
 pub(crate) fn kind_told(file: &CodeFile<'_>, slot: u8) -> Option<&'static str>
     ensures kind { option_map (λ kind. kind.now) result ≡ kind_told file.now slot }
@@ -32,7 +32,7 @@ pub(crate) fn kind_told(file: &CodeFile<'_>, slot: u8) -> Option<&'static str>
     kind_name(file.slot(slot)?.kind)
 }
 
-/// The number of the segment of a slot, where it is not that of the slot.
+/// Returns the number of the segment in a slot if it is not the number of the slot.
 #[tactic(auto, unfolding(crate::specs::Marks::other_number))]
 pub(crate) fn other_number(file: &CodeFile<'_>, slot: u8) -> Option<u8>
     ensures number { result ≡ other_number file.now slot }
@@ -42,14 +42,14 @@ pub(crate) fn other_number(file: &CodeFile<'_>, slot: u8) -> Option<u8>
     if number == slot { None } else { Some(number) }
 }
 
-/// Whether there are only characters that a text may have, and no quote.
+/// Whether a line contains only characters that a source text may contain, and no quote.
 fn is_unquoted(line: &[u8]) -> bool
     ensures unquoted { result ≡ is_unquoted line.now }
 {
     line.iter().all(|c| 32 <= *c && *c <= 126 && *c != b'"')
 }
 
-/// The number of one or two digits before the first blank.
+/// Returns the number of one or two digits before the first space.
 fn number_before_blank(text: &[u8]) -> Option<u8>
     ensures number { result ≡ number_before_blank text.now }
 {
@@ -60,7 +60,7 @@ fn number_before_blank(text: &[u8]) -> Option<u8>
     }
 }
 
-/// The slot that the line of a segment says.
+/// Returns the number of the slot in the line of a segment.
 #[tactic(auto, unfolding(crate::specs::Marks::slot_said))]
 pub(crate) fn slot_said(line: &[u8]) -> Option<u8>
     ensures slot { result ≡ slot_said line.now }
@@ -73,7 +73,7 @@ pub(crate) fn slot_said(line: &[u8]) -> Option<u8>
     }
 }
 
-/// Whether a line is that of a procedure of number 0.
+/// Whether a line is that of a procedure with number 0.
 #[tactic(auto, unfolding(crate::specs::Marks::is_native))]
 pub(crate) fn is_native(line: &[u8]) -> bool
     ensures native { result ≡ is_native line.now }

@@ -11,27 +11,27 @@ use Rattle.pm_calls.specs.Places.{placed}
 use Rattle.pm_units.specs.Devices.{Devices, code_on}
 use Rattle.pm_stdproc.specs.declared.loads.SlotRow.{SlotRow}
 
--- the bytes that a disk has; without them the instruction fails
+-- the bytes that a disk contains; without them the instruction fails
 abbrev pub found_code : Option (List ℕ) → Result (Option (List ℕ)) ExecError
 found_code None = Err SystemIo
 found_code (Some code) = Ok (Some code)
 
--- The code of a slot, from the disk of its unit as that is now: none above 15 and at length 0, for which the call has
--- its own error. Where no disk is there, or the bytes pass its end, that is an error.
+-- The code of a slot, from the current disk of its unit. There is none for a slot above 15 and for length 0; the call
+-- has its own error for these. It is an error if there is no disk or if the code extends past its end.
 abbrev pub code_of_row : Option SlotRow → Devices → Result (Option (List ℕ)) ExecError
 code_of_row None d = Ok None
 code_of_row (Some row) d = if row.length == 0 then Ok None else found_code (code_on d row.unit row.block row.length)
 
--- the code that a slot wants: that of its row, where it has no place
+-- the code to load for slot `n`: the code of its row, if its segment is not loaded
 abbrev pub slot_code : ℕ → List (Option SegmentPlace) → List SlotRow → Devices → Result (Option (List ℕ)) ExecError
 slot_code n places rows d = if is_none (placed places n) then code_of_row (slice_get rows n) d else Ok None
 
--- how many bytes the code of a slot has, 0 without a row
+-- the length of the code of a slot in bytes, or 0 without a row
 abbrev pub length_of : Option SlotRow → ℕ
 length_of None = 0
 length_of (Some row) = row.length
 
--- the code that a call loads: that which the slot of a CXP wants; no other call loads
+-- the code that a call loads: for CXP the code to load for its slot; no other call loads code
 unfoldable pub code_needed : Call → List (Option SegmentPlace) → List SlotRow → Devices
     → Result (Option (List ℕ)) ExecError
 code_needed (Cxp n p) places rows d = slot_code n places rows d
@@ -40,7 +40,7 @@ code_needed (Cgp p) places rows d = Ok None
 code_needed (Cbp p) places rows d = Ok None
 code_needed (Cip p) places rows d = Ok None
 
--- code that was lent, by its bytes
+-- borrowed code, as its bytes
 abbrev pub code_lent : Result (Option (Bor (List ℕ))) ExecError → Result (Option (List ℕ)) ExecError
 code_lent (Ok code) = Ok (option_map (λ c. c.now) code)
 code_lent (Err e) = Err e

@@ -20,7 +20,7 @@ use Rattle.pm_stdproc.specs.declared.procedures.Procedure.{Procedure}
 use Rattle.pm_stdproc.specs.declared.procedures.Procedure.TheVariants.{OnMemory, OnUnits, Exit, Keep, Unkeep}
 use Rattle.pm_stdproc.specs.declared.procedures.Procedure.TheVariants.{Unimplemented}
 
--- what the standard procedures see of the machine
+-- the state that the standard procedures use
 pub record Reach : Type 0 where
   pub memory : List ℕ
   pub registers : Registers
@@ -28,7 +28,7 @@ pub record Reach : Type 0 where
   pub rows : List SlotRow
   pub devices : Devices
 
--- a memory, registers, places, rows and devices as a standard procedure reaches them
+-- the state of a memory, registers, places, rows and devices
 abbrev pub reach_of : List ℕ → Registers → List (Option SegmentPlace) → List SlotRow → Devices → Reach
 reach_of memory registers places rows devices = record {
   memory = memory;
@@ -41,7 +41,7 @@ reach_of memory registers places rows devices = record {
 abbrev pub devices_reached : Reach → Devices
 devices_reached s = s.devices
 
--- the procedure of a number; all other numbers are procedures that this machine does not have
+-- the procedure with this number; the machine does not have procedures with other numbers
 unfoldable pub procedure_numbered : ℕ → Procedure
 procedure_numbered n =
     if n == 0 then OnMemory memory.CheckIo
@@ -69,7 +69,7 @@ procedure_numbered n =
 abbrev pub reach_parts : Reach → Registers → Parts
 reach_parts s r = record { memory = s.memory; registers = r; places = s.places }
 
--- EXIT. Segment, procedure: the two numbers of the procedure that is left
+-- EXIT. Operands: segment, procedure, the two numbers of the procedure to exit
 unfoldable pub exit_row : Reach → Result Reach ExecError
 exit_row s = do
   procedure ← pop s.memory s.registers.sp
@@ -78,12 +78,12 @@ exit_row s = do
       (record { segment = segment.word; procedure = procedure.word })
   Ok (record s { memory = left.memory; registers = left.registers; places = left.places })
 
--- what is new of the memory, the registers and the places
+-- the state with new memory, registers and places
 abbrev pub with_reach_parts : Reach → Parts → Reach
 with_reach_parts s p = record s { memory = p.memory; registers = p.registers; places = p.places }
 
--- Load a segment: the program keeps that of a slot once more. Segment: where it stands nowhere, it is loaded from the
--- disk as that is now.
+-- Load a segment. Operand: segment. The program keeps the segment of this slot once more. If it is not loaded, it is
+-- loaded from the current disk.
 unfoldable pub keep_row : Reach → Result Reach ExecError
 keep_row s = do
   segment ← pop s.memory s.registers.sp
@@ -91,7 +91,7 @@ keep_row s = do
   kept ← segment_kept (reach_parts s (record s.registers { sp = segment.above })) segment.word code
   Ok (with_reach_parts s kept)
 
--- Unload a segment: the program keeps that of a slot once less. Segment
+-- Unload a segment. Operand: segment. The program keeps the segment of this slot once less.
 unfoldable pub unkeep_row : Reach → Result Reach ExecError
 unkeep_row s = do
   segment ← pop s.memory s.registers.sp
@@ -105,7 +105,7 @@ on_memory s row = row >>= λ t. Ok (record s { memory = t.0; registers = t.1 })
 abbrev pub on_units : Reach → Result Served Pause → Result Reach Pause
 on_units s row = row >>= λ t. Ok (record s { memory = t.memory; registers = t.registers; devices = t.devices })
 
--- what a standard procedure does
+-- the rule of a standard procedure
 unfoldable pub procedure_row : Procedure → Reach → Result Reach Pause
 procedure_row (OnMemory o) s = or_fails (on_memory s (memory_row o s.memory s.registers))
 procedure_row (OnUnits o) s = on_units s (units_row o (served s.memory s.registers s.devices))

@@ -1,4 +1,4 @@
--- The standard procedures that work with the units or the clock.
+-- The standard procedures that use the units or the clock.
 use Rattle.std.specs.Prelude.{ℕ, ◌≡◌, ◌/◌, ◌%◌, ◌&&◌, List, Result, Ok, OnErr}
 use Rattle.pm_words.specs.declared.error.ExecError.{ExecError}
 use Rattle.pm_words.specs.declared.error.ExecError.TheVariants.{InvalidMemory}
@@ -15,7 +15,7 @@ use Rattle.pm_stdproc.specs.declared.procedures.OnUnits.{OnUnits}
 use Rattle.pm_stdproc.specs.declared.procedures.OnUnits.TheVariants.{Read, Write, Time, Busy, Wait, Clear}
 use Rattle.pm_stdproc.specs.declared.rows.Order.{Order}
 
--- what such a procedure sees of the machine
+-- the state that such a procedure uses
 pub record Served : Type 0 where
   pub memory : List ℕ
   pub registers : Registers
@@ -27,8 +27,8 @@ served m r d = record { memory = m; registers = r; devices = d }
 abbrev pub devices_served : Served → Devices
 devices_served s = s.devices
 
--- A row of the units is done: it gives what its definition gives, or leaves all as it was, the room of the units too.
--- The memory's watch knows of each word that it writes, and MP stays.
+-- The result of the rule `row`: the state that its definition gives, or an error and the old state, including the spare
+-- capacity of the units. The watch of the memory records each word that is written. MP is unchanged.
 pub record Serves (row : Served → Result Served Pause) {A : Type 0} (result : Result A Trap) (old new : Held)
     (memory changed : Contents) (registers after : Registers) : Type 0 where
   pub gives : Performs devices_served old.room result (served memory.words registers old.devices)
@@ -39,8 +39,8 @@ pub record Serves (row : Served → Result Served Pause) {A : Type 0} (result : 
 
 -- ---- transfers
 
--- Unit, place, count, block, mode: the operands of a transfer. The bytes at the place have to lie in memory, whatever
--- the unit; the count is unsigned, and nothing looks at the mode.
+-- Operands of a transfer: unit, byte pointer, count, block, mode. The bytes at the pointer must be in memory for any
+-- unit. The count is unsigned. The mode is ignored.
 unfoldable pub ordered : List ℕ → ℕ → Result Order ExecError
 ordered m sp = do
   mode ← pop m sp
@@ -56,7 +56,7 @@ ordered m sp = do
         = unit.above;
   })
 
--- what is left when a transfer is over
+-- the state after a transfer
 abbrev pub after_transfer : Served → ℕ → Moved → Served
 after_transfer s sp t = record s {
   memory = t.memory;
@@ -77,9 +77,9 @@ write_row s = do
   o ← or_fails (ordered s.memory s.registers.sp)
   Ok (after_transfer s o.sp (unit_written (unit_of o.unit) o.transfer s.memory s.devices))
 
--- ---- the clock, and questions to a unit
+-- ---- the clock, and queries of a unit
 
--- TIME. Address, address: the one gets the clock's high word, then the other its low word.
+-- TIME. Operands: address, address. The first word receives the high word of the clock, then the second its low word.
 unfoldable pub time_row : Served → Result Served ExecError
 time_row s = do
   b ← pop s.memory s.registers.sp
@@ -92,20 +92,20 @@ time_row s = do
         { sp = a.above };
   })
 
--- UNITWAIT. Unit
+-- UNITWAIT. Operand: unit
 unfoldable pub wait_row : Served → Result Served ExecError
 wait_row s = do
   unit ← pop s.memory s.registers.sp
   Ok (record s { registers = record s.registers { sp = unit.above; ioresult = known (unit_of unit.word) } })
 
--- UNITBUSY. Unit: no unit is ever busy, so 0 is pushed.
+-- UNITBUSY. Operand: unit. No unit is ever busy, so 0 is pushed.
 unfoldable pub busy_row : Served → Result Served ExecError
 busy_row s = do
   unit ← pop s.memory s.registers.sp
   new ← push s.memory unit.above s.registers.np 0
   Ok (record s { memory = new.0; registers = record s.registers { sp = new.1; ioresult = known (unit_of unit.word) } })
 
--- UNITCLEAR. Unit
+-- UNITCLEAR. Operand: unit
 unfoldable pub clear_row : Served → Result Served ExecError
 clear_row s = do
   unit ← pop s.memory s.registers.sp

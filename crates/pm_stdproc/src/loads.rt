@@ -9,19 +9,18 @@ use pm_units::Units;
 use pm_words::ExecError;
 use std::marker::Model;
 
-/// Where the code of a slot stands on a disk.
+/// The position of the code of a slot on a disk.
 #[derive(Clone, Copy)]
 pub struct SlotRow {
-    /// The unit of the disk.
+    /// The number of the unit with the disk.
     pub unit: u8,
-    /// The block of the disk at which the code begins; 0 for a slot without a length.
+    /// The block of the disk at which the code begins. It is 0 for a slot with length 0.
     pub block: u16,
-    /// How many bytes the code has.
+    /// The length of the code in bytes.
     pub length: u16,
 }
 
-/// Where the code of each of the 16 slots stands on a disk, seen as the list of their rows. The length
-/// in each is even.
+/// The position of the code of each of the 16 slots on a disk. Contracts see it as a list. Each length is even.
 #[derive(Clone, Copy)]
 pub struct SlotRows {
     pub(crate) rows: [SlotRow; 16],
@@ -41,7 +40,7 @@ impl Model for SlotRows {
 }
 
 impl SlotRows {
-    /// Rows that are so. It costs no test: that each length is even is to be shown.
+    /// Creates a table from its rows. Each length must be even. This is not checked at run time.
     pub fn of(rows: [SlotRow; 16]) -> SlotRows
         requires even_rows { All (λ row. row.length % 2 ≡ 0) rows }
         ensures rows { result ≡ rows }
@@ -49,7 +48,7 @@ impl SlotRows {
         SlotRows { rows }
     }
 
-    /// The row of slot `n`, none where there is no such slot.
+    /// Returns the row of slot `n`, or None if the slot does not exist.
     pub fn get(&self, n: u16) -> Option<SlotRow>
         ensures row { result ≡ slice_get self.now n }
         ensures slot { IfSome result (λ row. n < 16) }
@@ -59,9 +58,12 @@ impl SlotRows {
     }
 }
 
-/// The code that slot `n` wants, from the disk as it is now: none where its segment stands already,
-/// and where there is no such slot or it has no length. `SystemIo` where the slot has a length and the
-/// disk does not have the code.
+/// Returns the code to load for slot `n`, from the current disk. Returns None if its segment is already loaded, if the
+/// slot does not exist, or if its length is 0.
+///
+/// # Errors
+///
+/// `SystemIo`: the slot has a length and is not loaded, and the disk does not contain the code.
 #[tactic(auto, unfolding(crate::specs::Loads::slot_code))]
 pub fn slot_code<'a>(
     n: u16,
@@ -84,8 +86,11 @@ pub fn slot_code<'a>(
     }
 }
 
-/// The code that a call loads, from the disk as it is now. `SystemIo` where the slot has a length
-/// and the disk does not have the code.
+/// Returns the code that a call loads, from the current disk. Only CXP loads code.
+///
+/// # Errors
+///
+/// `SystemIo`: as for `slot_code`.
 #[tactic(auto, unfolding(crate::specs::Loads::code_needed))]
 pub fn code_for<'a>(
     call: Call,
@@ -102,7 +107,7 @@ pub fn code_for<'a>(
     }
 }
 
-/// How many bytes the code of slot `n` has, 0 where there is no such slot.
+/// Returns the length of the code of slot `n` in bytes, or 0 if the slot does not exist.
 pub fn length_of(n: u16, rows: &SlotRows) -> u16
     ensures length { result ≡ length_of (slice_get rows.now n) }
     ensures even { result % 2 ≡ 0 }

@@ -1,4 +1,4 @@
-//! The standard procedures that work on the stack, the heap and the memory alone.
+//! The standard procedures that use only the stack, the heap and the memory.
 
 ghost use Rattle.std.specs.Prelude.{◌≡◌, ◌-◌, ◌/◌, IfOk};
 ghost use Rattle.pm_words.specs.Watch.{WatchStays};
@@ -14,7 +14,7 @@ use pm_calls::ValidRegisters;
 use pm_words::stack::{load, store};
 use pm_words::{ExecError, Memory, Top};
 
-/// Takes a byte place, base and index, from the stack: its address; an error changes nothing.
+/// Pops a byte pointer, an index and a base, and returns its address. If it fails, nothing changes.
 pub fn pop_place(top: &mut Top, memory: &Memory) -> Result<u16, ExecError>
     ensures place { Pops result top.old top.new (pop_place memory.now.words top.old.sp) }
 {
@@ -65,7 +65,7 @@ fn new(memory: &mut Memory, registers: ValidRegisters) -> Result<ValidRegisters,
     Ok(registers.with_top(Top::of(stack.sp(), heap as u16)))
 }
 
-// Moves bytes one by one, the lowest first.
+// Moves bytes one by one, from the low end.
 #[tactic(auto, using(pm_words::proofs::WatchLaws::stays))]
 fn move_up(memory: &mut Memory, from: u16, to: u16, count: u16) -> Result<(), ExecError>
     ensures moved { Writes result memory.old memory.new (moved moved_up memory.old.words from to count) }
@@ -77,7 +77,7 @@ fn move_up(memory: &mut Memory, from: u16, to: u16, count: u16) -> Result<(), Ex
     }
 }
 
-// Moves bytes one by one, the highest first.
+// Moves bytes one by one, from the high end.
 #[tactic(auto, using(pm_words::proofs::WatchLaws::stays))]
 fn move_down(memory: &mut Memory, from: u16, to: u16, count: u16) -> Result<(), ExecError>
     ensures moved { Writes result memory.old memory.new (moved moved_down memory.old.words from to count) }
@@ -145,7 +145,7 @@ fn fill(memory: &mut Memory, registers: ValidRegisters) -> Result<ValidRegisters
     Ok(registers.with_top(stack))
 }
 
-// How many bytes a scan passes.
+// Returns the number of bytes that a scan passes.
 fn passed_by(memory: &Memory, at: u16, limit: u16, byte: u8, equal: bool) -> Result<u16, ExecError>
     ensures passed { result ≡ passed_by memory.now.words at limit byte equal }
 {
@@ -200,7 +200,7 @@ fn release(memory: &mut Memory, registers: ValidRegisters) -> Result<ValidRegist
     Ok(registers.with_top(Top::of(stack.sp(), np)))
 }
 
-// IORESULT and MEMAVAIL. Puts a word on the stack.
+// IORESULT and MEMAVAIL. Pushes a word.
 #[tactic(auto, unfolding(crate::specs::MemoryRows::push_row), using(pm_words::proofs::WatchLaws::stays))]
 fn put(
     memory: &mut Memory,
@@ -215,14 +215,14 @@ fn put(
     Ok(registers.with_top(stack))
 }
 
-// MEMAVAIL. The words between NP and SP.
+// MEMAVAIL. Returns the number of words between NP and SP.
 fn free_words(top: Top) -> u16
     ensures words { result ≡ (top.sp - top.np) / 2 }
 {
     (top.sp() - top.np()) / 2
 }
 
-/// One of these procedures: it gives the registers after it; an error leaves the memory as it was.
+/// Executes one of these procedures and returns the new registers. If it fails, the memory is unchanged.
 #[tactic(auto, unfolding(crate::specs::MemoryRows::memory_row), using(pm_words::proofs::WatchLaws::stays))]
 pub fn perform(
     memory: &mut Memory,

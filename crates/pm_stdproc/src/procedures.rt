@@ -3,7 +3,7 @@
 ghost use Rattle.std.specs.Prelude.{◌≡◌};
 ghost use Rattle.pm_stdproc.specs.Procedures.{procedure_numbered};
 
-/// A standard procedure that works on the stack, the heap and the memory alone.
+/// A standard procedure that uses only the stack, the heap and the memory.
 #[derive(Clone, Copy)]
 pub enum OnMemory {
     /// IOCHECK.
@@ -30,7 +30,7 @@ pub enum OnMemory {
     FreeMemory,
 }
 
-/// A standard procedure that works with the units or the clock.
+/// A standard procedure that uses the units or the clock.
 #[derive(Clone, Copy)]
 pub enum OnUnits {
     /// UNITREAD.
@@ -50,21 +50,21 @@ pub enum OnUnits {
 /// A standard procedure.
 #[derive(Clone, Copy)]
 pub enum Procedure {
-    /// One on the memory.
+    /// A procedure on the memory.
     OnMemory(OnMemory),
-    /// One on the units.
+    /// A procedure on the units.
     OnUnits(OnUnits),
     /// EXIT.
     Exit,
-    /// Load a segment, which the program then keeps.
+    /// Loads a segment and keeps it.
     Keep,
-    /// Unload a segment that the program keeps.
+    /// Unloads a segment that the program keeps.
     Unkeep,
-    /// One that this machine does not have.
+    /// A procedure that this machine does not have.
     Unimplemented,
 }
 
-/// The procedure of a number.
+/// Returns the procedure with this number.
 #[tactic(auto, unfolding(crate::specs::Procedures::procedure_numbered))]
 pub fn procedure_of(n: u8) -> Procedure
     ensures procedure { result ≡ procedure_numbered n }

@@ -1,4 +1,4 @@
-//! The standard procedures, by their numbers.
+//! The execution of the standard procedures.
 
 ghost use Rattle.std.specs.Prelude.{◌≡◌, ◌≢◌, ◌+◌, ◌≤◌, IfOk, List, OnErr};
 ghost use Rattle.pm_words.specs.Watch.{WatchStays};
@@ -22,7 +22,7 @@ use pm_words::{ExecError, Memory, Top};
 /// The operands of a transfer.
 #[derive(Clone, Copy)]
 pub struct Order {
-    /// What is transferred.
+    /// The transfer.
     pub transfer: Transfer,
     /// The number of the unit.
     pub unit: u16,
@@ -30,7 +30,7 @@ pub struct Order {
     pub sp: u16,
 }
 
-// Takes the operands of a transfer from the stack.
+// Pops the operands of a transfer.
 #[tactic(auto, unfolding(crate::specs::UnitRows::ordered))]
 fn order_of(top: &mut Top, memory: &Memory) -> Result<Order, ExecError>
     ensures order { result ≡ ordered memory.now.words top.old.sp }
@@ -111,12 +111,17 @@ fn unkeep_row(
     Ok(())
 }
 
-/// Does the standard procedure of a number; IPC is the next instruction already, and `rows` says
-/// where the code of each slot stands on a disk. The answer is an execution error by the
-/// procedure's row; `Waiting` where a unit has too few bytes to be read; `NoMemory` where there is
-/// no memory for bytes that are written or shown, and no room is left for them. After each of these
-/// everything is as it was: the scratch memory keeps what EXIT puts back, and holds anything
-/// afterwards.
+/// Executes the standard procedure with number `n`. The IPC must already be that of the next instruction.
+///
+/// `rows` has the position of the code of each slot on a disk. `scratch` may contain anything before and after the
+/// call.
+///
+/// # Errors
+///
+/// The memory, the registers, the addresses of segments and the units are unchanged:
+/// - `Exec`: an execution error, as defined by the rule of the procedure.
+/// - `Waiting`: the input queue has fewer bytes than a unit reads.
+/// - `NoMemory`: memory was refused for bytes that are written or echoed and do not fit in the spare capacity.
 #[tactic(auto, unfolding(crate::specs::Procedures::procedure_row), using(pm_words::proofs::WatchLaws::stays, pm_calls::proofs::TableLaws::carry))]
 pub fn perform(
     units: &mut Units,
@@ -180,7 +185,7 @@ fn keep_row(
     Ok(())
 }
 
-// A standard procedure that works with the units or the clock.
+// Executes a standard procedure that uses the units or the clock.
 #[tactic(auto, unfolding(crate::specs::UnitRows::units_row), using(pm_words::proofs::WatchLaws::stays))]
 fn on_units(
     units: &mut Units,

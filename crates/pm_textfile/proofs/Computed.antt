@@ -1,4 +1,4 @@
--- The lines and texts are computed.
+-- The worked examples, computed.
 use Rattle.std.proofs.Common.{refl}
 use Rattle.pm_textfile.specs.Writing.{coded, completed, indentation, line_fault, lines_fault, text_lines}
 use Rattle.pm_textfile.specs.Worked.{WorkedTexts}

@@ -9,7 +9,7 @@ none_or_some : (f : Option TextFault) → (f ≡ None) ⊎ ((e : TextFault) × (
 none_or_some None = inl refl
 none_or_some (Some e) = inr (e, refl)
 
--- a line with a fault, behind lines without one, the first of which begins at a place and has a number
+-- a line with a fault, after lines without one; the first line begins at position `place` and has number `number`
 record Found (place number : ℕ) (lines : List TextLine) (fault : TextFault) : Type 0 where
   before : List TextLine
   line : TextLine

@@ -4,7 +4,7 @@ ghost use Rattle.std.specs.Prelude.{◌≡◌, ◌++◌, replicate, OnOk};
 
 use std::alloc::AllocError;
 
-// Adds so many copies of a byte.
+// Appends `count` copies of a byte.
 pub(crate) fn push_copies(bytes: &mut Vec<u8>, byte: u8, count: usize) -> Result<(), AllocError>
     ensures added { OnOk result (bytes.new.items ≡ bytes.old.items ++ replicate count byte) }
 {

@@ -8,23 +8,34 @@ use crate::copies::push_copies;
 use crate::fault::TextFault;
 use std::alloc::{AllocError, Global};
 
-// Where a reader stands in a text file.
+// The state of the reader of a text file.
 #[derive(Clone, Copy)]
 pub(crate) enum LinePart {
-    // At the start of a line: there was no byte but zeros since the last line's end.
+    // At the start of a line: only zeros have followed the end of the previous line.
     LineStart,
-    // Behind the byte 16 that begins an indentation.
+    // After the byte 16 that begins an indentation.
     Indentation,
     // Within a line.
     Line,
 }
 
-/// The text of a text file, in which each line ends with a line feed. `NoHeader` under 1,024 bytes, else `NoMemory`
-/// where a growth was refused.
+/// Returns the text of a text file. Each line of the text ends with a line feed.
 ///
-/// The first 1,024 bytes and all bytes 0 are skipped. Byte 13 ends a line. Byte 16 at the start of a line and the byte
-/// behind it, whatever it is, stand for as many spaces as that byte is above 32. Each other byte stands for itself.
-/// Bytes behind the last 13 are a line too, if not all are 0.
+/// The first 1,024 bytes are skipped. The other bytes are read as follows:
+///
+/// - A byte 16 at the start of a line and the byte after it are one indentation. Its number of spaces is the second
+///   byte minus 32, or 0 if that byte is less than 32.
+/// - Byte 13 ends a line.
+/// - Byte 0 is skipped.
+/// - Any other byte is a character.
+///
+/// Bytes after the last 13 are a line too, unless all of them are 0.
+///
+/// # Errors
+///
+/// Checked in this order:
+/// - `NoHeader`: there are fewer than 1,024 bytes.
+/// - `NoMemory`: memory was refused.
 pub fn decode(alloc: Global, bytes: &[u8]) -> Result<Vec<u8>, TextFault>
     ensures text { IfOk result (λ text. text.items ≡ text_of_file bytes.now) }
     ensures no_header { IsErrOf result TextFault.NoHeader ↔ (length bytes.now < 1024) }
@@ -42,7 +53,7 @@ pub fn decode(alloc: Global, bytes: &[u8]) -> Result<Vec<u8>, TextFault>
     Ok(text)
 }
 
-// Adds what a byte stands for.
+// Appends the characters that a byte encodes. Returns the next state.
 #[tactic(auto, unfolding(crate::specs::Reading::text_from))]
 fn add_byte(text: &mut Vec<u8>, place: LinePart, byte: u8) -> Result<LinePart, AllocError>
     ensures added { IfOk result (λ next. (rest : List ℕ) →
@@ -66,7 +77,7 @@ fn add_byte(text: &mut Vec<u8>, place: LinePart, byte: u8) -> Result<LinePart, A
     }
 }
 
-// Ends the line that the bytes stop in.
+// Ends the last line if it is not complete.
 #[tactic(auto, unfolding(crate::specs::Reading::text_from))]
 fn end_line(text: &mut Vec<u8>, place: LinePart) -> Result<(), AllocError>
     ensures ended { OnOk result (text.new.items ≡ text.old.items ++ text_from place []) }

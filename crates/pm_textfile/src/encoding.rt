@@ -15,13 +15,24 @@ use std::alloc::{AllocError, Global};
 
 const MOST_SPACES: usize = 223;
 
-/// The text file of a text, whose lines end with a line feed or with the text's end: 1,024 zeros, then pages of 1,024
-/// bytes, filled with zeros. A line is up to 223 leading spaces as 16 and 32 more than their number, its other
-/// characters as they are, and byte 13; it begins the next page if it does not fit on the rest of this one. An empty
-/// text has no page.
+/// Returns the text file of a text. A line of the text ends with a line feed or with the end of the text.
 ///
-/// Line by line, `BadByte` for the first byte 0, 13 or 16, then `LineTooLong` for a line of more than 1,024 bytes in
-/// this form; `NoMemory` where a growth was refused.
+/// The file has 1,024 zeros and then pages of 1,024 bytes, padded with zeros. A line is stored in three parts:
+///
+/// - If it begins with spaces, byte 16 and the number of these spaces plus 32. At most 223 spaces are encoded in this
+///   way.
+/// - Its other characters, unchanged.
+/// - Byte 13.
+///
+/// A line that does not fit on the rest of a page begins the next page. The file of an empty text has no page.
+///
+/// # Errors
+///
+/// Checked in this order, line by line:
+/// - `BadByte`: the line contains a byte 0, 13 or 16. The position is that of the first such byte.
+/// - `LineTooLong`: the stored line has more than 1,024 bytes.
+///
+/// `NoMemory`: memory was refused.
 pub fn encode(alloc: Global, text: &[u8]) -> Result<Vec<u8>, TextFault>
     ensures file { IfOk result (λ bytes. Writes text.now bytes.items) }
     ensures exact { IfOk result (λ bytes. bytes.items ≡ text_file text.now) }
@@ -46,7 +57,7 @@ pub fn encode(alloc: Global, text: &[u8]) -> Result<Vec<u8>, TextFault>
     Ok(bytes)
 }
 
-// How long the first line of a text is, without its line feed.
+// Returns the length of the first line of a text, without its line feed.
 fn line_length(text: &[u8]) -> usize
     ensures length { result ≡ line_length text.now }
     ensures within { result ≤ length text.now }
@@ -54,7 +65,7 @@ fn line_length(text: &[u8]) -> usize
     text.iter().take_while(|c| **c != b'\n').count()
 }
 
-// How many bytes stand before the first that cannot stand in a file.
+// Returns the number of bytes before the first byte that a text file cannot contain.
 fn plain_length(line: &[u8]) -> usize
     ensures length { result ≡ prefix_len stands_for_itself line.now }
     ensures within { result ≤ length line.now }
@@ -62,7 +73,8 @@ fn plain_length(line: &[u8]) -> usize
     line.iter().take_while(|c| is_plain(**c)).count()
 }
 
-// Refuses a line that cannot stand in a file.
+// Rejects a line that a text file cannot contain. The line begins at position `start` of the text and has number
+// `number`.
 #[tactic(auto, unfolding(crate::specs::Writing::line_fault))]
 fn check_line(line: &[u8], start: usize, number: usize) -> Result<(), TextFault>
     requires within { start + length line.now < 2 ^ 64 }
@@ -79,14 +91,14 @@ fn check_line(line: &[u8], start: usize, number: usize) -> Result<(), TextFault>
     Ok(())
 }
 
-// Whether a byte stands for itself in a file.
+// Whether a byte is stored unchanged in a text file.
 fn is_plain(byte: u8) -> bool
     ensures value { result ≡ stands_for_itself byte }
 {
     !matches!(byte, 0 | 13 | 16)
 }
 
-// How many spaces at a line's start an indentation tells.
+// Returns the number of leading spaces that are encoded as an indentation.
 #[tactic(auto, unfolding(crate::specs::Writing::indentation))]
 fn indentation(line: &[u8]) -> usize
     ensures count { result ≡ indentation line.now }
@@ -99,7 +111,7 @@ fn indentation(line: &[u8]) -> usize
         .count()
 }
 
-// How many bytes a line takes in a file.
+// Returns the number of bytes of a stored line.
 #[tactic(auto, unfolding(crate::specs::Writing::coded))]
 fn coded_length(line: &[u8]) -> usize
     requires size { length line.now < 2 ^ 63 }
@@ -111,7 +123,7 @@ fn coded_length(line: &[u8]) -> usize
     }
 }
 
-// A file so far, and how many bytes are left on its last page.
+// The bytes of a file so far, and the number of free bytes on its last page.
 #[derive(Drop)]
 struct Pages {
     bytes: Vec<u8>,
@@ -120,7 +132,7 @@ struct Pages {
 }
 
 impl Pages {
-    // A file with its header alone.
+    // Creates a file that has only its header.
     fn new(alloc: Global) -> Result<Pages, AllocError>
         ensures header { IfOk result (λ pages. pages.bytes.items ≡ replicate 1024 0) }
         ensures full { IfOk result (λ pages. pages.room ≡ 0) }
@@ -129,7 +141,7 @@ impl Pages {
         Ok(Pages { bytes, room: 0 })
     }
 
-    // Adds a line, on the next page if it does not fit on this one.
+    // Appends a line. If it does not fit on this page, it begins the next one.
     #[tactic(auto, unfolding(crate::specs::Laying::laid))]
     fn add_line(&mut self, line: &[u8]) -> Result<(), AllocError>
         requires fits { length (coded line.now) ≤ 1024 }
@@ -147,7 +159,7 @@ impl Pages {
         Ok(())
     }
 
-    // Fills the page with zeros.
+    // Pads the page with zeros.
     fn fill(&mut self) -> Result<(), AllocError>
         ensures filled { OnOk result (self.new.bytes.items ≡ self.old.bytes.items ++ replicate self.old.room 0) }
     {
@@ -157,7 +169,7 @@ impl Pages {
     }
 }
 
-// Adds a line in its form.
+// Appends a line in its stored form.
 #[tactic(auto, unfolding(crate::specs::Writing::coded))]
 fn push_coded(bytes: &mut Vec<u8>, line: &[u8]) -> Result<(), AllocError>
     ensures added { OnOk result (bytes.new.items ≡ bytes.old.items ++ coded line.now) }

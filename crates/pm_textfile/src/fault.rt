@@ -1,4 +1,4 @@
-//! Why there is no text, or no text file.
+//! Why bytes have no text, or a text has no text file.
 
 ghost use Rattle.std.specs.Prelude.{◌≡◌};
 ghost use Rattle.pm_textfile.specs.Faults.{number_of, place_of_text_fault};
@@ -36,7 +36,7 @@ impl TextFault {
         }
     }
 
-    /// The line of `LineTooLong`, or the place of `BadByte`.
+    /// The line of `LineTooLong`, or the position of `BadByte`.
     pub fn place(self) -> Option<usize>
         ensures value { result ≡ place_of_text_fault self }
     {

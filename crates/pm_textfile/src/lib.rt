@@ -1,7 +1,7 @@
-//! Text files: 1,024 bytes for the editor, then pages of 1,024 bytes that hold whole lines.
+//! Text files: 1,024 bytes for the editor, then pages of 1,024 bytes that contain whole lines.
 //!
-//! `decode` gives the text of a file, and `encode` the file of a text. What is encoded is decoded again, with a line
-//! feed at its end if it is not empty.
+//! `decode` returns the text of a file, and `encode` the file of a text. If a text is encoded and decoded, the result
+//! is the text. If it does not end with a line feed and is not empty, a line feed is added.
 #![tactic(auto)]
 
 mod copies;
@@ -14,5 +14,5 @@ pub use decoding::decode;
 pub use encoding::encode;
 pub use fault::TextFault;
 
-// How many bytes the header has, and each page.
+// The size of the header and of each page in bytes.
 const PAGE: usize = 1024;

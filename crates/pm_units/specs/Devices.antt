@@ -1,4 +1,4 @@
--- What stands outside the memory, and the numbers of the units.
+-- The state of the machine outside its memory, and the unit numbers.
 use Rattle.std.specs.Prelude.{ℕ, ◌+◌, ◌*◌, ◌<◌, ◌||◌, ◌&&◌, List, [], length, slice_range, slice_set, slice_index_or}
 use Rattle.std.specs.Prelude.{Option, Some, None, is_none, Result, Ok, Err, if◌then◌else◌, ◌==◌, nat_le, Bool}
 use Rattle.pm_units.specs.declared.ports.Port.{Port}
@@ -6,8 +6,8 @@ use Rattle.pm_units.specs.declared.ports.Port.TheVariants.{Console, Terminal, Ab
 use Rattle.pm_units.specs.declared.ports.MountFault.{MountFault}
 use Rattle.pm_units.specs.declared.ports.MountFault.TheVariants.{NoUnit, Taken}
 
--- the disks of the units 4, 5, 9, 10, 11 and 12, each the bytes of its image; the bytes that wait to be read; the bytes
--- that were written to the console and to the printer; the clock
+-- the images on the disk units 4, 5, 9, 10, 11 and 12; the input queue; the bytes written to the console and to the
+-- printer; the clock
 pub record Devices : Type 0 where
   pub disks : List (Option (List ℕ))
   pub queue : List ℕ
@@ -15,18 +15,18 @@ pub record Devices : Type 0 where
   pub printer : List ℕ
   pub clock : ℕ
 
--- for how many bytes more there is room, before there has to be more memory
+-- the spare capacity: the number of bytes that can be appended without more memory
 pub record Room : Type 0 where
   pub queue : ℕ
   pub console : ℕ
   pub printer : ℕ
 
--- what the units are seen as: what stands outside the memory, and the room for more
+-- the value of the units: the devices, and their spare capacity
 pub record Held : Type 0 where
   pub devices : Devices
   pub room : Room
 
--- whether there is room for what was written to the console and to the printer
+-- whether the bytes written to the console and to the printer fit in the spare capacity
 abbrev pub has_room : Room → Devices → Devices → Bool
 has_room r old new =
     nat_le (length new.console) (length old.console + r.console)
@@ -36,7 +36,7 @@ abbrev pub mount_number : MountFault → ℕ
 mount_number NoUnit = 1
 mount_number Taken = 2
 
--- what stands behind a unit's number, a whole word; a disk goes by its place in the list
+-- the unit that a 16-bit unit number selects; a disk has its index in the list
 unfoldable pub unit_of : ℕ → Port
 unit_of n =
     if n == 1 then Console
@@ -51,7 +51,7 @@ unit_of n =
     else (if n == 12 then Disk 5
     else Unknown)))))))))
 
--- a disk unit has one of the six places
+-- a disk unit has one of the six indexes
 abbrev pub HasPlace : Port → Type 0
 HasPlace (Disk k) = k < 6
 HasPlace Console = Unit {0}
@@ -62,11 +62,11 @@ HasPlace Unknown = Unit {0}
 
 -- ---- the images on the disk units
 
--- the image at a place, if a disk is there
+-- the image with index `k`, if that unit has a disk
 abbrev pub image_at : Devices → ℕ → Option (List ℕ)
 image_at d k = slice_index_or d.disks k None
 
--- the image on a unit, if it is a disk unit and a disk is there
+-- the image on a unit, if it is a disk unit that has a disk
 abbrev pub image_on : Port → Devices → Option (List ℕ)
 image_on (Disk k) d = image_at d k
 image_on Console d = None
@@ -75,7 +75,8 @@ image_on Absent d = None
 image_on Printer d = None
 image_on Unknown d = None
 
--- whether n bytes from a block on lie on an image: on the whole of it, whatever its directory says
+-- whether the `n` bytes that begin with block `block` are within an image; the whole image counts, for any contents of
+-- its directory
 abbrev pub lies_on : List ℕ → ℕ → ℕ → Bool
 lies_on image block n = nat_le (512 * block + n) (length image)
 
@@ -87,11 +88,12 @@ abbrev pub code_in : Option (List ℕ) → ℕ → ℕ → Option (List ℕ)
 code_in None block n = None
 code_in (Some image) block n = if lies_on image block n then Some (bytes_from_block image block n) else None
 
--- the n bytes of code from a block of a unit's disk on, as the disk is now; none without a disk or past its end
+-- the `n` bytes that begin with block `block` of the current disk of a unit; None if there is no disk or the bytes
+-- extend past its end
 unfoldable pub code_on : Devices → ℕ → ℕ → ℕ → Option (List ℕ)
 code_on d unit block n = code_in (image_on (unit_of unit) d) block n
 
--- an image is put on a disk unit that has none
+-- an image is mounted on a disk unit that has none
 abbrev pub mounted_at : Port → List ℕ → Devices → Result Devices MountFault
 mounted_at (Disk k) image d =
     if is_none (image_at d k) then Ok (record d { disks = slice_set d.disks k (Some image) }) else Err Taken
@@ -104,7 +106,7 @@ mounted_at Unknown image d = Err NoUnit
 unfoldable pub mounted : ℕ → List ℕ → Devices → Result Devices MountFault
 mounted unit image d = mounted_at (unit_of unit) image d
 
--- the image that is taken away from a unit, and what is left
+-- the image that is removed from a unit, and the devices without it
 unfoldable pub ejected_image : ℕ → Devices → Option (List ℕ)
 ejected_image unit d = image_on (unit_of unit) d
 
@@ -119,9 +121,9 @@ ejected_at Unknown d = d
 unfoldable pub ejected : ℕ → Devices → Devices
 ejected unit d = ejected_at (unit_of unit) d
 
--- ---- questions to a unit
+-- ---- queries of a unit
 
--- the IORESULT of a question: 2 where the number is no unit
+-- the IORESULT of a query: 2 if the number selects no unit, otherwise 0
 abbrev pub known : Port → ℕ
 known Unknown = 2
 known (Disk k) = 0
@@ -130,7 +132,8 @@ known Terminal = 0
 known Absent = 0
 known Printer = 0
 
--- A unit is cleared: the IORESULT, and what is left. The console and the terminal forget the bytes that wait.
+-- The result of clearing a unit: the IORESULT and the new devices. For the console and the terminal the input queue is
+-- empty.
 abbrev pub cleared : Port → Devices → ℕ × Devices
 cleared Unknown d = (2, d)
 cleared Absent d = (9, d)

@@ -1,5 +1,9 @@
--- What the units give and take. IORESULT is 0 after a transfer, 1 for a bad block, 2 where the number is no unit, 3 for
--- a unit that cannot do it, 9 for a unit that is not there.
+-- Transfers between units and memory. IORESULT is:
+--   0  after a transfer
+--   1  for a bad block
+--   2  if the number selects no unit
+--   3  if the unit cannot do the transfer
+--   9  if the unit does not exist or has no disk
 use Rattle.std.specs.Prelude.{ℕ, ◌*◌, ◌≡◌, Bool, true, false, ◌&&◌, List, ◌++◌, length, take, drop, slice_set, Option}
 use Rattle.std.specs.Prelude.{Some, None, Result, Ok, Err, if◌then◌else◌, nat_lt}
 use Rattle.pm_words.specs.Words.{with_bytes, bytes_at}
@@ -12,7 +16,7 @@ use Rattle.pm_units.specs.declared.transfers.Transfer.{Transfer}
 use Rattle.pm_units.specs.declared.trap.Trap.{Trap}
 use Rattle.pm_units.specs.declared.trap.Trap.TheVariants as trap
 
--- what a transfer leaves
+-- the state after a transfer
 pub record Moved : Type 0 where
   pub memory : List ℕ
   pub devices : Devices
@@ -24,7 +28,8 @@ idle code m d = record { memory = m; devices = d; ioresult = code }
 
 -- ---- reading
 
--- the first bytes that wait are taken, and the console shows them; with too few the procedure waits, and takes none
+-- the first bytes of the input queue are removed, and with `echo` the console shows them; if there are too few, the
+-- procedure waits and removes none
 abbrev pub from_queue : Bool → Transfer → List ℕ → Devices → Result Moved Pause
 from_queue echo t m d =
     if nat_lt (length d.queue) t.count then Err Waits
@@ -37,7 +42,7 @@ from_queue echo t m d =
       ioresult = 0;
     })
 
--- whether a block, which is signed, is not negative, and the bytes from it on lie on the image
+-- whether the signed block is not negative and the bytes of the transfer are within the image
 abbrev pub can_move : List ℕ → Transfer → Bool
 can_move image t = nat_lt t.block 32768 && lies_on image t.block t.count
 
@@ -48,7 +53,7 @@ from_disk (Some image) t m d =
     record { memory = with_bytes m t.address (bytes_from_block image t.block t.count); devices = d; ioresult = 0 }
     else idle 1 m d
 
--- bytes read from a unit; the console shows what it reads, the terminal does not
+-- bytes read from a unit; the console echoes them, the terminal does not
 unfoldable pub unit_read : Port → Transfer → List ℕ → Devices → Result Moved Pause
 unit_read Unknown t m d = Ok (idle 2 m d)
 unit_read Absent t m d = Ok (idle 9 m d)
@@ -59,7 +64,7 @@ unit_read (Disk k) t m d = Ok (from_disk (image_at d k) t m d)
 
 -- ---- writing
 
--- the bytes of the memory that a transfer names
+-- the memory bytes of a transfer
 abbrev pub named_bytes : List ℕ → Transfer → List ℕ
 named_bytes m t = bytes_at m t.address t.count
 
@@ -85,8 +90,8 @@ unit_written (Disk k) t m d = to_disk k (image_at d k) t m d
 abbrev pub devices_after : Moved → Devices
 devices_after t = t.devices
 
--- a transfer was made: it gives the IORESULT and what is new, or it leaves all as it was; want of memory comes only
--- where it writes more to the console or to the printer than there is room for
+-- the result of a transfer: the IORESULT and the new state, or an error and the old state; memory may be refused only
+-- if the transfer writes more to the console or to the printer than their spare capacity
 abbrev pub Transfers : Room → Result ℕ Trap → List ℕ → Devices → List ℕ → Devices → Result Moved Pause → Type 0
 Transfers room (Ok code) m d m2 d2 done = done ≡ Ok (record { memory = m2; devices = d2; ioresult = code })
 Transfers room (Err (trap.Exec e)) m d m2 d2 done = (done ≡ Err (Fails e)) × (m2 ≡ m) × (d2 ≡ d)

@@ -1,11 +1,11 @@
--- Why an instruction does not go on.
+-- The reasons why an instruction is not completed.
 use Rattle.std.specs.Prelude.{Result, Ok, Err, ◌≡◌, false}
 use Rattle.pm_words.specs.declared.error.ExecError.{ExecError}
 use Rattle.pm_units.specs.declared.trap.Trap.{Trap}
 use Rattle.pm_units.specs.declared.trap.Trap.TheVariants as trap
 use Rattle.pm_units.specs.Devices.{Devices, Room, has_room}
 
--- an execution error, or too few bytes of input; want of memory is no part of any rule
+-- an execution error, or too few bytes of input; the rules of instructions do not include refused memory
 pub data Pause : Type 0 where
   Fails : ExecError → Pause
   Waits : Pause
@@ -14,12 +14,12 @@ abbrev pub or_fails : {A : Type 0} → Result A ExecError → Result A Pause
 or_fails (Ok x) = Ok x
 or_fails (Err e) = Err (Fails e)
 
--- what is done writes more to the console or to the printer than there is room for; nothing else takes memory
+-- the result writes more to the console or to the printer than their spare capacity; nothing else needs memory
 abbrev pub Outgrows : {B : Type 0} → (B → Devices) → Room → Devices → Result B Pause → Type 0
 Outgrows devices room d done = (new : _) × (done ≡ Ok new) × (has_room room d (devices new) ≡ false)
 
--- An instruction was done: it gives what is new, or leaves all as it was. So does want of memory, which comes only
--- where the instruction writes more to the console or to the printer than there is room for.
+-- The result of an instruction: the new state, or an error and the old state. Memory may be refused only if the
+-- instruction writes more to the console or to the printer than their spare capacity. The state is then the old one.
 abbrev pub Performs : {A B : Type 0} → (B → Devices) → Room → Result A Trap → B → B → Result B Pause → Type 0
 Performs devices room (Ok x) old new done = done ≡ Ok new
 Performs devices room (Err (trap.Exec e)) old new done = (done ≡ Err (Fails e)) × (new ≡ old)

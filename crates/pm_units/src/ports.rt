@@ -1,40 +1,40 @@
-//! The numbers of the units.
+//! Unit numbers and the units that they select.
 
 ghost use Rattle.std.specs.Prelude.{◌≡◌};
 ghost use Rattle.pm_units.specs.Devices.{HasPlace, known, mount_number, unit_of};
 
 use thiserror::Error;
 
-/// What stands behind the number of a unit.
+/// The unit that a unit number selects.
 #[derive(Clone, Copy)]
 pub enum Port {
-    /// The console, which shows what it reads.
+    /// The console. It echoes the bytes that it reads.
     Console,
-    /// The console without showing.
+    /// The console without echo.
     Terminal,
     /// A unit that this machine does not have.
     Absent,
     /// The printer.
     Printer,
-    /// A disk, by its place among the six.
+    /// A disk unit, by its index from 0 to 5.
     Disk(u8),
     /// No unit.
     Unknown,
 }
 
-/// Why a disk is not mounted.
+/// The reason why a disk is not mounted.
 #[derive(Clone, Copy, Debug, Drop, Error)]
 pub enum MountFault {
-    /// 1: the number is not a disk unit.
+    /// 1: the number is not that of a disk unit.
     #[error("not a disk unit")]
     NoUnit,
-    /// 2: the unit has a disk already.
+    /// 2: the unit already has a disk.
     #[error("the unit has a disk already")]
     Taken,
 }
 
 impl MountFault {
-    /// The fault's number, as the program prints it.
+    /// The number of the fault, as the program prints it.
     pub fn number(self) -> u8
         ensures value { result ≡ mount_number self }
     {
@@ -45,7 +45,7 @@ impl MountFault {
     }
 }
 
-/// What stands behind the number of a unit, a whole word: 4, 5, 9, 10, 11 and 12 are the places 0 to 5 of the disks.
+/// Returns the unit that a 16-bit unit number selects. The disk units 4, 5, 9, 10, 11 and 12 have the indexes 0 to 5.
 #[tactic(auto, unfolding(crate::specs::Devices::unit_of))]
 pub fn unit_of(number: u16) -> Port
     ensures unit { result ≡ unit_of number }
@@ -66,7 +66,7 @@ pub fn unit_of(number: u16) -> Port
     }
 }
 
-/// The IORESULT of a question to a unit.
+/// Returns the IORESULT of a query of a unit: 2 if the number selects no unit, otherwise 0.
 pub fn known(unit: Port) -> u16
     ensures ioresult { result ≡ known unit }
 {

@@ -1,4 +1,4 @@
-//! What the units give and take.
+//! Transfers between units and memory.
 
 ghost use Rattle.std.specs.Prelude.{◌≡◌, ◌+◌, ◌<◌, ◌≤◌, ◌++◌, drop, length, vec_capacity, vec_len, Ok, OnOk, OnErr};
 ghost use Rattle.pm_words.specs.Watch.{WatchStays};
@@ -12,19 +12,18 @@ use crate::units::{BLOCK, Units};
 use pm_words::Memory;
 use std::alloc::AllocError;
 
-/// A transfer between a unit and the memory.
+/// A transfer between a unit and memory.
 #[derive(Clone, Copy)]
 pub struct Transfer {
-    /// The address of the first byte in the memory.
+    /// The memory address of the first byte.
     pub address: u16,
-    /// How many bytes.
+    /// The number of bytes.
     pub count: u16,
     /// The block of the disk, a signed number.
     pub block: u16,
 }
 
-// Puts bytes behind others. Want of memory comes only where there is no room for them, and leaves the bytes and the
-// room.
+// Appends bytes. Fails only if they do not fit in the spare capacity. Then the bytes and the capacity are unchanged.
 pub(crate) fn append(bytes: &mut Vec<u8>, more: &[u8]) -> Result<(), AllocError>
     ensures appended { OnOk result (bytes.new.items ≡ bytes.old.items ++ more.now) }
     ensures unchanged { OnErr result (bytes.new.items ≡ bytes.old.items) }
@@ -37,7 +36,7 @@ pub(crate) fn append(bytes: &mut Vec<u8>, more: &[u8]) -> Result<(), AllocError>
     Ok(())
 }
 
-// Takes the first items away.
+// Removes the first `count` bytes.
 fn drop_front(queue: &mut Vec<u8>, count: usize)
     requires inside { count ≤ length queue.old.items }
     ensures rest { queue.new.items ≡ drop count queue.old.items }
@@ -47,7 +46,7 @@ fn drop_front(queue: &mut Vec<u8>, count: usize)
     queue.truncate(rest);
 }
 
-// The bytes of the memory that a transfer names.
+// Returns the memory bytes of a transfer.
 #[tactic(auto, unfolding(pm_words::specs::Words::bytes_at))]
 fn named_bytes(memory: &Memory, transfer: Transfer) -> &[u8]
     requires inside { transfer.address + transfer.count ≤ 65536 }
@@ -58,7 +57,7 @@ fn named_bytes(memory: &Memory, transfer: Transfer) -> &[u8]
     &memory.bytes()[at..at + usize::from(transfer.count)]
 }
 
-// Whether a transfer's block is not negative and its bytes lie on an image.
+// Whether the block of a transfer is not negative and its bytes are within the image.
 fn can_move(image: &[u8], transfer: Transfer) -> bool
     ensures can_move { result ≡ can_move image.now transfer }
 {
@@ -67,8 +66,13 @@ fn can_move(image: &[u8], transfer: Transfer) -> bool
 }
 
 impl Units {
-    /// Reads from a unit into the memory, and gives the IORESULT. `Waiting` where fewer bytes of input wait than are to
-    /// be read, `NoMemory` where there is none for what the console shows; nothing has changed then.
+    /// Reads from a unit into memory and returns the IORESULT. The bytes of the transfer must be in memory.
+    ///
+    /// # Errors
+    ///
+    /// Nothing changes. Checked in this order:
+    /// - `Waiting`: the input queue has fewer bytes than the transfer reads.
+    /// - `NoMemory`: memory was refused for the bytes that the console echoes.
     #[tactic(auto, unfolding(crate::specs::Transfers::unit_read), using(pm_words::proofs::WatchLaws::stays))]
     pub fn read(&mut self, memory: &mut Memory, unit: Port, transfer: Transfer) -> Result<u16, Trap>
         requires place { HasPlace unit }
@@ -88,7 +92,7 @@ impl Units {
         }
     }
 
-    // Reads the first bytes that wait, and perhaps shows them on the console.
+    // Reads the first bytes of the input queue. If `echo` is true, the console shows them.
     #[tactic(auto, using(pm_words::proofs::WatchLaws::stays))]
     fn read_queue(
         &mut self,
@@ -114,7 +118,7 @@ impl Units {
         Ok(0)
     }
 
-    // Reads from a disk, and gives the IORESULT.
+    // Reads from the disk with index `k` and returns the IORESULT.
     #[tactic(auto, using(pm_words::proofs::WatchLaws::stays))]
     fn read_disk(&mut self, memory: &mut Memory, k: usize, transfer: Transfer) -> u16
         requires place { k < 6 }
@@ -138,8 +142,11 @@ impl Units {
         0
     }
 
-    /// Writes from the memory to a unit, and gives the IORESULT. `NoMemory` where there is none for what the console or
-    /// the printer gets; nothing has changed then.
+    /// Writes from memory to a unit and returns the IORESULT. The bytes of the transfer must be in memory.
+    ///
+    /// # Errors
+    ///
+    /// `NoMemory`: memory was refused for the bytes that the console or the printer receives. Nothing changes.
     #[tactic(auto, unfolding(crate::specs::Transfers::unit_written), using(pm_words::proofs::WatchLaws::stays))]
     pub fn write(
         &mut self,
@@ -169,7 +176,7 @@ impl Units {
         }
     }
 
-    // Writes to a disk, and gives the IORESULT.
+    // Writes to the disk with index `k` and returns the IORESULT.
     #[tactic(auto, using(pm_words::proofs::WatchLaws::stays))]
     fn write_disk(&mut self, memory: &mut Memory, k: usize, transfer: Transfer) -> u16
         requires place { k < 6 }
@@ -191,7 +198,7 @@ impl Units {
         0
     }
 
-    /// Clears a unit, and gives the IORESULT: input that waits for the console or the terminal goes.
+    /// Clears a unit and returns the IORESULT. For the console and the terminal it empties the input queue.
     pub fn clear(&mut self, unit: Port) -> u16
         requires place { HasPlace unit }
         ensures cleared { cleared unit self.old.devices ≡ (result, self.new.devices) }

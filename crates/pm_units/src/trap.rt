@@ -1,19 +1,19 @@
-//! Why an instruction does not go on.
+//! The reasons why an instruction is not completed.
 
 use pm_words::ExecError;
 use std::alloc::AllocError;
 use thiserror::Error;
 
-/// Why an instruction does not go on. Everything is then as it was before the instruction.
+/// The reason why an instruction is not completed. Nothing has changed since before the instruction.
 #[derive(Clone, Copy, Debug, Drop, Error)]
 pub enum Trap {
     /// An execution error, which stops the machine.
     #[error("execution error")]
     Exec(ExecError),
-    /// Fewer bytes of input wait than are to be read.
+    /// The input queue has fewer bytes than the instruction reads.
     #[error("waiting for input")]
     Waiting,
-    /// There is no memory for what is to be written.
+    /// Memory was refused for the bytes that the instruction writes.
     #[error("out of memory")]
     NoMemory,
 }

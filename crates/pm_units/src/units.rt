@@ -10,13 +10,14 @@ use pm_volume::{Disk, Volume};
 use std::alloc::{AllocError, Global};
 use std::marker::Model;
 
-/// The bytes of a block.
+/// The size of a block in bytes.
 pub(crate) const BLOCK: usize = 512;
 
-/// The units, seen as what stands outside the memory: the images on the disk units 4, 5, 9, 10, 11
-/// and 12, the bytes of input that wait, the bytes written to the console and to the printer, and
-/// the clock. Unit 1 is the console, which shows what it reads, unit 2 the same without showing,
-/// unit 6 the printer; units 3, 7 and 8 are not there, and other numbers are no units.
+/// The state of the machine outside its memory. It has the images on the disk units 4, 5, 9, 10, 11 and 12, the input
+/// queue, and the clock. It also has the bytes written to the console and to the printer.
+///
+/// Unit 1 is the console with echo, unit 2 the console without echo, and unit 6 the printer. Units 3, 7 and 8 do not
+/// exist in this machine. Other numbers select no unit.
 #[derive(Drop)]
 pub struct Units {
     pub(crate) disks: [Option<Disk>; 6],
@@ -48,14 +49,14 @@ impl Model for Units {
     } };
 }
 
-// The disk of a volume, if there is one.
+// Returns the disk of a volume, if there is one.
 fn disk_of(volume: Option<Volume>) -> Option<Disk>
     ensures disk { result ≡ volume }
 {
     volume.map(Volume::into_disk)
 }
 
-// The bytes of an image from a block on.
+// Returns the `count` bytes of an image that begin with block `block`. Returns None if they extend past its end.
 fn part(image: &[u8], block: u16, count: u16) -> Option<&[u8]>
     ensures part { option_map (λ bytes. bytes.now) result ≡ code_in (Some image.now) block count }
     ensures size { IfSome result (λ bytes. length bytes.now ≡ count) }
@@ -65,7 +66,7 @@ fn part(image: &[u8], block: u16, count: u16) -> Option<&[u8]>
 }
 
 impl Units {
-    /// Units without a disk, with no input waiting and nothing written. Takes no memory.
+    /// Creates units without disks, with an empty input queue and nothing written. Uses no memory.
     pub fn new(alloc: Global, clock: u32) -> Units
         ensures empty { result.devices ≡ record {
           disks = replicate 6 None;
@@ -84,8 +85,8 @@ impl Units {
         }
     }
 
-    /// Units with these volumes on the disk units 4, 5, 9, 10, 11 and 12, with no input waiting and
-    /// nothing written. Takes no memory.
+    /// Creates units with these volumes on the disk units 4, 5, 9, 10, 11 and 12, with an empty input queue and nothing
+    /// written. Uses no memory.
     pub fn with_volumes(alloc: Global, volumes: [Option<Volume>; 6], clock: u32) -> Units
         ensures mounted { result.devices ≡ record {
           disks = volumes;
@@ -102,8 +103,11 @@ impl Units {
         }
     }
 
-    /// Lets one more byte of input wait. Want of memory changes nothing, and comes only where no room
-    /// is left for the byte.
+    /// Appends a byte to the input queue.
+    ///
+    /// # Errors
+    ///
+    /// `AllocError`: the queue has no spare capacity and memory was refused. Nothing changes.
     pub fn key(&mut self, byte: u8) -> Result<(), AllocError>
         ensures waits { OnOk result (self.new.devices ≡ record self.old.devices
             { queue = self.old.devices.queue ++ byte ∷ [] }) }
@@ -114,29 +118,34 @@ impl Units {
         Ok(())
     }
 
-    /// All bytes that were written to the console.
+    /// Returns all bytes that were written to the console.
     pub fn console(&self) -> &[u8]
         ensures bytes { result.now ≡ self.now.devices.console }
     {
         &self.console
     }
 
-    /// All bytes that were written to the printer.
+    /// Returns all bytes that were written to the printer.
     pub fn printer(&self) -> &[u8]
         ensures bytes { result.now ≡ self.now.devices.printer }
     {
         &self.printer
     }
 
-    /// The clock, as it was given: it does not move.
+    /// Returns the clock. It is the value that the units were created with and does not advance.
     pub fn clock(&self) -> u32
         ensures clock { result ≡ self.now.devices.clock }
     {
         self.clock
     }
 
-    /// Puts a volume on a disk unit. `NoUnit` for a number that is none, `Taken` where a disk is
-    /// there already; the volume then comes back, and nothing changes.
+    /// Mounts a volume on a disk unit.
+    ///
+    /// # Errors
+    ///
+    /// Nothing changes, and the volume is returned. Checked in this order:
+    /// - `NoUnit`: `unit` is not the number of a disk unit.
+    /// - `Taken`: the unit already has a disk.
     #[tactic(auto, unfolding(crate::specs::Devices::mounted))]
     pub fn mount(&mut self, unit: u8, volume: Volume) -> Result<(), (MountFault, Volume)>
         ensures mounted { OnOk result (mounted unit volume self.old.devices ≡ Ok self.new.devices) }
@@ -155,8 +164,7 @@ impl Units {
         Ok(())
     }
 
-    /// Takes the disk of a unit away; none where no disk is there, and for a number that is no disk
-    /// unit.
+    /// Removes the disk of a unit and returns it. Returns None if the unit has no disk or is not a disk unit.
     #[tactic(auto, unfolding(crate::specs::Devices::ejected, crate::specs::Devices::ejected_image))]
     pub fn eject(&mut self, unit: u8) -> Option<Disk>
         ensures disk { result ≡ ejected_image unit self.old.devices }
@@ -168,8 +176,8 @@ impl Units {
         }
     }
 
-    /// So many bytes of code from a block of a unit's disk on, as the disk is now; none where no
-    /// disk is there, or where they pass its end.
+    /// Returns `count` bytes that begin with block `block` of the current disk of a unit. Returns None if the unit has
+    /// no disk, or if the bytes extend past its end.
     #[tactic(auto, unfolding(crate::specs::Devices::code_on))]
     pub fn code(&self, unit: u8, block: u16, count: u16) -> Option<&[u8]>
         ensures code { option_map (λ bytes. bytes.now) result ≡ code_on self.now.devices unit block count }
@@ -178,7 +186,7 @@ impl Units {
         part(self.image(unit_of(u16::from(unit)))?, block, count)
     }
 
-    // The image of a disk unit.
+    // Returns the image of a disk unit.
     fn image(&self, unit: Port) -> Option<&[u8]>
         requires place { HasPlace unit }
         ensures image { option_map (λ bytes. bytes.now) result ≡ image_on unit self.now.devices }

@@ -2,7 +2,7 @@ use Rattle.std.proofs.Common.{◌≡◌, ◌++◌, drop, take}
 use Rattle.pm_check.specs.Believing.{placed}
 use Rattle.pm_check.proofs.believing.place.Given as goal
 
--- the place is not among those so far
+-- the new file does not belong before any of the files so far
 abbrev pub invariant-loop-i : goal.invariant-loop-i
 invariant-loop-i l = record {
   same : l.taken.items ≡ l.fn.taken.items;

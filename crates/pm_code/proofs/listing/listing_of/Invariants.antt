@@ -5,7 +5,7 @@ use Rattle.pm_code.specs.Program.{FitSlots, IsSegment}
 use Rattle.pm_code.specs.Views.{program_seen}
 use Rattle.pm_code.proofs.listing.listing_of.Given as goal
 
--- the text so far with that of the other segments is the whole
+-- the text so far, followed by the text of the remaining segments, is the whole
 abbrev pub invariant-loop-segment : goal.invariant-loop-segment
 invariant-loop-segment l = record {
   written : string_bytes l.text ++ listing (program_seen (drop l.segment-index l.program)) ≡ listing (program_seen l.fn.program);

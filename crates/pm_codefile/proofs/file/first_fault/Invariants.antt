@@ -2,7 +2,7 @@ use Rattle.std.proofs.Common.{◌≡◌, ◌-◌, ◌<◌, ℕ, None}
 use Rattle.pm_codefile.specs.Dictionary.{first_slot_fault, slot_fault}
 use Rattle.pm_codefile.proofs.file.first_fault.Given as goal
 
--- the slots so far have no fault
+-- the slots before `n` have no fault
 abbrev pub invariant-loop-n : goal.invariant-loop-n
 invariant-loop-n l = record {
   rest : first_slot_fault l.bytes 0 16 ≡ first_slot_fault l.bytes l.n (16 - l.n);

@@ -4,7 +4,7 @@ use Rattle.pm_code.specs.Shown.{label_text}
 use Rattle.pm_code.specs.Text.{more_operands}
 use Rattle.pm_code.proofs.shown.PlacesDisplay.fmt.Given as goal
 
--- what is written, with what the other places give, is the whole
+-- the text so far, followed by the remaining labels, is the whole
 abbrev pub invariant-loop-place : goal.invariant-loop-place
 invariant-loop-place g l =
     IsPlainFormatter l.initial.f → (done : List ℕ) × (HasWritten g.W.Write.write_str_gives l.initial.f done l.f)

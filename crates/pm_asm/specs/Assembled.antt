@@ -48,8 +48,8 @@ pub record Assembles (text file shown : List ℕ) : Type 0 where
 abbrev pub SpellsNothing : List ℕ → Type 0
 SpellsNothing text = (ss : List Segment) → Spells text ss → AreShort ss → ⊥
 
--- Assembling a text results in a code file and a listing if and only if they are those of a program that the text
--- spells, and no segment of it is too long.
+-- Assembling a text results in a code file and a listing if and only if the text spells a program that has them, and no
+-- segment of the program is too long.
 abbrev pub AssembledIsSpelled : Type 0
 AssembledIsSpelled = (text file shown : List ℕ) → (assembled text ≡ Ok (file, shown)) ↔ Assembles text file shown
 

@@ -79,8 +79,10 @@ fn offsets_of(alloc: Global, places: &[u16]) -> Result<Vec<usize>, AllocError>
 }
 
 /// Returns a procedure of a segment from its attribute table, as its text shows it. It is read with the lowest number
-/// of jump table entries that fits. Bytes that are no instruction, and jumps that do not lead to the beginning of a
-/// part, are shown as bytes.
+/// of jump table entries that fits, or without entries if no number from 0 to 60 fits.
+///
+/// Bytes that are no instruction are shown as bytes. The same holds for jumps that lead neither to the beginning of a
+/// part nor to the end of the code.
 ///
 /// `attributes` must be those of a procedure of the segment, and the exit code must not be before the code. The segment
 /// may have at most 65,534 bytes. `decoded` is the result of `decode_segment` for the segment.

@@ -162,7 +162,8 @@ fn constant_mark(a: Form, b: Form) -> &'static str
     }
 }
 
-/// Returns the operator of an operation that makes a set of two sets, and its precedence.
+/// Returns the operator of an operation that makes a set of two sets, and its precedence. Returns `None` for other
+/// operations.
 fn set_sign(what: Set) -> Option<(&'static str, u8)>
     ensures sign { option_map (λ s. s.0.now) result ≡ texts.set_sign what }
     ensures strength { IfSome result (λ s. s.1 ≡ texts.set_strength what) }

@@ -15,7 +15,7 @@ used-cons row rows = needed-append (row_items row) (items_of rows)
 max-assoc : (a b c : ℕ) → max (max a b) c ≡ max a (max b c)
 max-assoc a b c = omega arith
 
--- one row more
+-- One more row.
 pub used-more : (most : ℕ) (row : Row) (rows : List Row) → max (max most (entries_needed (row_items row))) (entries_used rows)
     ≡ max most (entries_used (row ∷ rows))
 used-more most row rows = max-assoc most (entries_needed (row_items row)) (entries_used rows) ∙ ap (max most) (sym (used-cons row rows))

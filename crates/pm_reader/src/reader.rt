@@ -130,7 +130,16 @@ impl<'a> Reader<'a> {
     }
 
     /// Returns the first fault of a statement, if there is one. `ends_later` states whether a later line ends a
-    /// procedure. Returns `NoMemory` only if the length of the code does not fit in 64 bits.
+    /// procedure.
+    ///
+    /// The faults are checked in this order:
+    ///
+    /// - `Syntax`: the statement is not allowed here, or it begins a procedure that no later line ends.
+    /// - `Unknown`: a type word is unknown.
+    /// - `Twice`: a slot, a label or the exit code is repeated.
+    /// - `Range`: a number is out of range, a procedure has a wrong number, or its end has wrong counts.
+    ///
+    /// Returns `NoMemory` only if the length of the code does not fit in 64 bits.
     fn said_fault(
         &self,
         number: usize,

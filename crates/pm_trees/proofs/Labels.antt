@@ -1,4 +1,4 @@
--- Labels stand before statements.
+-- Labels are at the beginning of statements.
 use Rattle.std.proofs.Common.{◌≡◌, Bool, true, false, List, [], ◌∷◌, ◌++◌, refl, sym, ap, ◌∙◌, subst, append_assoc}
 use Rattle.std.specs.Prelude.{◌||◌, if◌then◌else◌}
 use Rattle.pm_trees.specs.Parts.{Part, is_reached, procedure_parts}

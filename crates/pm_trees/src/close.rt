@@ -39,7 +39,8 @@ fn push_end(lines: &mut Vec<Line>, kind: Kind, at: usize) -> Result<(), AllocErr
     Ok(())
 }
 
-/// Closes the blocks that end at `at` or before it. Returns whether all of them end exactly there.
+/// Closes the blocks that end at `at` or before it. Returns whether all of them are choices that end exactly there.
+/// Other blocks are closed by their own statement.
 #[tactic(auto, using(crate::proofs::Closing::closing_done))]
 pub(crate) fn close_ended(
     lines: &mut Vec<Line>,

@@ -26,8 +26,8 @@ fn code_end(statements: &[Statement]) -> usize
     }
 }
 
-/// Appends the lines of a statement. Returns whether each block that ends before the statement ends exactly where the
-/// statement begins.
+/// Appends the lines of a statement. Returns whether all blocks that end before the statement are choices that end
+/// exactly where it begins.
 fn add(
     lines: &mut Vec<Line>,
     nest: &mut Vec<Block>,

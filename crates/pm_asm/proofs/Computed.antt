@@ -1,4 +1,4 @@
--- What a few lines are told is computed.
+-- The hints for a few lines are computed.
 use Rattle.std.proofs.Common.{refl}
 use Rattle.pm_asm.specs.HintTexts.{hint_text, range_text, takes_text}
 use Rattle.pm_asm.specs.Hints.{hint_of}

@@ -1,4 +1,4 @@
--- The examples that hints show are taken.
+-- The examples in hints are valid.
 use Rattle.std.proofs.Common.{◌≡◌, ◌≢◌, ℕ, [], refl, subst, sym, None}
 use Rattle.pm_asm.specs.HintTexts.{AreTaken, ExamplesAreTaken, example}
 use Rattle.pm_opcode.specs.declared.operand_form.Form.{Form}

@@ -1,9 +1,9 @@
--- Segments that fit the slots of a code file.
+-- Segments that fit into the slots of a code file.
 use Rattle.std.proofs.Common.{List, [], ◌∷◌, arith}
 use Rattle.pm_code.specs.Program.{FitSlots, Segment}
 use Rattle.pm_asm.specs.Lengths.{AreShort}
 
--- segments that can be assembled
+-- Segments that can be assembled.
 pub short_fits : (ss : List Segment) → AreShort ss → FitSlots ss
 short_fits [] h = tt
 short_fits (s ∷ ss) h = let short = h.0 in (omega (arith, short), short_fits ss h.1)

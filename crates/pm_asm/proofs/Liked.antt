@@ -1,9 +1,9 @@
--- The first opcode whose name a word is like.
+-- The first opcode whose mnemonic is similar to a word.
 use Rattle.std.proofs.Common.{◌≡◌, ℕ, suc, ◌+◌, ◌-◌, ◌<◌, Bool, true, false, List, ap, ◌∙◌, arith, Some, None, if◌then◌else◌}
 use Rattle.pm_opcode.specs.Table.{mnemonic_of}
 use Rattle.pm_asm.specs.Near.{is_like, liked_from}
 
--- the opcodes from op on, op itself first
+-- The opcodes from `op` to 255, `op` first.
 from_here : (near : Bool) (word : List ℕ) (op : ℕ) → op < 256 → liked_from near word op (256 - op)
     ≡ (if is_like near word (mnemonic_of op) then Some op else liked_from near word (op + 1) (256 - (op + 1)))
 from_here near word op h = let e : 256 - op ≡ suc (256 - (op + 1)) = omega (arith, h) in ap (liked_from near word op) e

@@ -1,4 +1,4 @@
--- What assembling a text gives.
+-- The result of assembling source text.
 use Rattle.std.specs.Prelude.{◌≡◌, ◌↔◌, ◌<◌, ℕ, Bool, if◌then◌else◌, List, [], Option, Some, None, Result, Ok, Err}
 use Rattle.std.specs.Option.{unwrap_or}
 use Rattle.pm_codefile.specs.Dictionary.{segment_in}
@@ -16,7 +16,7 @@ use Rattle.pm_asm.specs.Lengths.{AreShort, first_long}
 abbrev pub Outcome : Type 0
 Outcome = Result (List ℕ × List ℕ) AsmFault
 
--- of a program, by its first segment that is too long
+-- The result for a program. `Some n` is the first segment that is too long.
 abbrev pub outcome_of : List Segment → Option ℕ → Outcome
 outcome_of ss None = Ok (file_of ss, listing ss)
 outcome_of ss (Some n) = Err (TooLong n)
@@ -25,17 +25,17 @@ abbrev pub outcome_by : List ℕ → Option AsmFault → Outcome
 outcome_by text None = outcome_of (program_of text) (first_long (program_of text))
 outcome_by text (Some fault) = Err fault
 
--- The first of a text's faults; without one, its first segment that is too long; else the code file and the listing of
--- its program.
+-- The first fault of the text. Without a fault, the first segment that is too long. Without this, the code file and the
+-- listing of its program.
 unfoldable pub assembled : List ℕ → Outcome
 assembled text = outcome_by text (first_of (faults text))
 
--- the code file of an assembled text; with list its listing in its place
+-- The code file of an assembled text, or its listing if `list` is true.
 abbrev pub wanted : Bool → Outcome → Result (List ℕ) AsmFault
 wanted list (Ok made) = Ok (if list then made.1 else made.0)
 wanted list (Err fault) = Err fault
 
--- A code file and a listing are those of a program that the text spells, of which no segment has more than 60,000
+-- The code file and the listing are those of a program that the text spells, and no segment of it has more than 60,000
 -- bytes.
 pub record Assembles (text file shown : List ℕ) : Type 0 where
   pub program : List Segment
@@ -44,21 +44,21 @@ pub record Assembles (text file shown : List ℕ) : Type 0 where
   pub image : file ≡ file_of program
   pub lines : shown ≡ listing program
 
--- The text spells no program without a segment of more than 60,000 bytes.
+-- The text does not spell a program whose segments all have at most 60,000 bytes.
 abbrev pub SpellsNothing : List ℕ → Type 0
 SpellsNothing text = (ss : List Segment) → Spells text ss → AreShort ss → ⊥
 
--- A text gives a code file and a listing exactly where they are those of a program that it spells, of which no segment
--- is too long.
+-- Assembling a text results in a code file and a listing if and only if the text spells a program that has them, and no
+-- segment of the program is too long.
 abbrev pub AssembledIsSpelled : Type 0
 AssembledIsSpelled = (text file shown : List ℕ) → (assembled text ≡ Ok (file, shown)) ↔ Assembles text file shown
 
--- A text that is refused spells no program without a segment that is too long.
+-- A text that is refused does not spell a program whose segments are all short enough.
 abbrev pub RefusedSpellsNothing : Type 0
 RefusedSpellsNothing = (text : List ℕ) (fault : AsmFault) → assembled text ≡ Err fault → SpellsNothing text
 
--- What the characters of a listing denote for segment n is the segment of slot n of the code file, none where it has
--- no such segment; and each of its lines names the offset at which its bytes stand in the segment.
+-- The bytes that a listing shows for segment `n` are those of slot `n` of the code file. They are empty if the file has
+-- no such segment. Each line of the listing has the offset of its bytes in the segment.
 abbrev pub AssembledIsListed : Type 0
 AssembledIsListed = (text file shown : List ℕ) (n : ℕ) → n < 16 → assembled text ≡ Ok (file, shown)
     → (denoted_bytes n shown ≡ unwrap_or (segment_in file n) []) × ArePlacedFrom 0 (of_segment n (denoted shown))

@@ -1,4 +1,4 @@
--- Where labels stand, and what is wrong with those of one line.
+-- The offsets of labels, and the faults of the labels of one line.
 use Rattle.std.specs.Prelude.{ℕ, List, [], map}
 use Rattle.pm_asm.specs.declared.code.Code.{Code}
 use Rattle.pm_line.specs.Views.{row_seen}
@@ -7,15 +7,15 @@ use Rattle.pm_source.specs.Faults.{Places, items_faults, place_of}
 use Rattle.pm_source.specs.Source.{Row, code_end}
 use Rattle.pm_source.specs.Source.Row.{Items, Exit}
 
--- where the labels of code stand
+-- The offsets of the labels of code.
 abbrev pub places_in : Code → Places
 places_in code = place_of code.start (map row_seen code.rows.now)
 
--- where code ends
+-- The offset after the code.
 abbrev pub end_in : Code → ℕ
 end_in code = code_end code.start (map row_seen code.rows.now)
 
--- what is wrong with the labels of one line
+-- The faults of the labels of one line.
 abbrev pub row_faults : Places → ℕ → Row → List AsmFault
 row_faults places at (Items line label items) = items_faults places line at items
 row_faults places at Exit = []

@@ -1,4 +1,4 @@
--- What helps where a line of a text has a fault, in words.
+-- The texts of hints.
 use Rattle.std.specs.Prelude.{◌≡◌, ◌≢◌, ℕ, ◌==◌, List, [], ◌∷◌, ◌++◌, codes, Option, Some, None, if◌then◌else◌}
 use Rattle.std.specs.Fmt.{decimal}
 use Rattle.pm_asm.specs.Hints.{Hint}
@@ -11,7 +11,7 @@ use Rattle.pm_source.specs.Line.{Keyword, Said, instruction_said, operands, shor
 use Rattle.pm_source.specs.Line.Flaw.{NoFlaw}
 use Rattle.pm_source.specs.Line.Keyword.{OfSegment, OfProcedure, OfExit, OfJump, OfEnd, OfBytes, Mnemonic}
 
--- operands of a form, as a text of the assembler spells them
+-- Example operands of a form, as in source text.
 abbrev pub example : Form → List ℕ
 example forms.Plain = []
 example forms.Unassigned = []
@@ -28,7 +28,7 @@ example forms.Typed = codes "WORDS 5"
 example forms.Sb = codes "L"
 example forms.Jumps = codes "1, 2, OTHER, ONE, TWO"
 
--- what the operands of a form are
+-- The description of the operands of a form.
 abbrev pub form_text : Form → List ℕ
 form_text forms.Plain = codes "no operand"
 form_text forms.Unassigned = codes "no operand"
@@ -46,13 +46,13 @@ form_text forms.Sb = codes "a label, or ^k for the k-th .JUMP line (k from 0 to 
 form_text forms.Jumps =
     codes "two numbers from -32768 to 32767, a label for all others, and one for each from the first to the second"
 
--- an example, behind what it is one of
+-- An example, after the description.
 abbrev pub example_text : List ℕ → Form → List ℕ
 example_text name forms.Plain = []
 example_text name forms.Unassigned = []
 example_text name form = codes ", for example " ++ name ++ 32 ∷ example form
 
--- what an instruction takes whose number stands in the opcode, the first of its name
+-- The description of an instruction whose opcode includes its number. `op` is the first opcode of its mnemonic.
 unfoldable pub range_text : ℕ → List ℕ
 range_text op =
     if op == 0 then codes "SLDC takes a number from 0 to 127; LDCI takes larger ones"
@@ -65,11 +65,12 @@ takes_by op (Some range) = range_text op
 takes_by op None =
     mnemonic_of op ++ codes " takes " ++ form_text (form_of op) ++ example_text (mnemonic_of op) (form_of op)
 
--- What the instructions of an opcode's name take: the number that stands in the opcode, or the operands of its form.
+-- The description of the operands of an opcode's mnemonic: the number that the opcode includes, or the operands of its
+-- form.
 unfoldable pub takes_text : ℕ → List ℕ
 takes_text op = takes_by op (short_range op)
 
--- a mnemonic or a directive, as a text spells it
+-- The spelling of a mnemonic or a directive.
 abbrev pub keyword_text : Keyword → List ℕ
 keyword_text OfSegment = codes ".SEG"
 keyword_text OfProcedure = codes ".PROC"
@@ -79,7 +80,7 @@ keyword_text OfEnd = codes ".END"
 keyword_text OfBytes = codes ".BYTE"
 keyword_text (Mnemonic op) = mnemonic_of op
 
--- what stands behind a mnemonic or a directive
+-- The description of the operands of a mnemonic or a directive.
 abbrev pub taken_text : Keyword → List ℕ
 taken_text OfSegment =
     codes ".SEG takes a number from 0 to 15 and a name of 1 to 8 characters, for example .SEG 1 HELLO"
@@ -92,7 +93,7 @@ taken_text OfEnd = codes ".END takes no operand"
 taken_text OfBytes = codes ".BYTE takes numbers from 0 to 255, separated by commas, for example .BYTE 1, 2"
 taken_text (Mnemonic op) = takes_text op
 
--- where a line stands
+-- The description of where a line is allowed.
 abbrev pub stands_text : Keyword → List ℕ
 stands_text OfSegment = codes ".SEG must be outside procedures, so the procedure before it needs an .END"
 stands_text OfProcedure =
@@ -105,13 +106,13 @@ stands_text OfBytes =
 stands_text (Mnemonic op) =
     codes "instructions, .BYTE and labels must be in a procedure, after .PROC and before its first .JUMP"
 
--- what stands once
+-- The description of what may occur only once.
 abbrev pub once_text : Keyword → List ℕ
 once_text OfSegment = codes "the text has a segment of that number already"
 once_text OfExit = codes ".EXIT cannot be used again in the same procedure"
 once_text _ = codes "the label cannot be defined again in the same procedure"
 
--- what a line is told that names neither operands nor another word
+-- The text of a hint that is constant, or an empty text.
 abbrev pub fixed_text : Hint → List ℕ
 fixed_text Characters =
     codes "a text can contain only tabs and the characters 32 to 126; a file with others may be binary"
@@ -124,11 +125,11 @@ fixed_text Named = codes "no line of this procedure defines the label; labels ar
 fixed_text (Once keyword) = once_text keyword
 fixed_text _ = []
 
--- how many `.JUMP` lines there are, and how many the code takes
+-- The number of `.JUMP` lines, and the number of entries that the code uses.
 abbrev pub counts_text : ℕ → ℕ → List ℕ
 counts_text entries taken = decimal entries ++ codes "; its code uses " ++ decimal taken ++ codes ", from ^0 on"
 
--- What a line is told, in words.
+-- The text of a hint.
 unfoldable pub hint_text : Hint → List ℕ
 hint_text (Takes keyword) = taken_text keyword
 hint_text (Meant keyword) = codes "did you mean " ++ keyword_text keyword ++ codes "?"
@@ -143,13 +144,13 @@ hint_text (Reached keyword) = keyword_text keyword ++ codes " reaches a label at
     ++ codes "to jump back or farther, write ^0 for the label, and a line .JUMP with the label before .END"
 hint_text hint = fixed_text hint
 
--- operands that are taken, with nothing wrong in them
+-- The operands are well-formed and have no flaw.
 abbrev pub AreTaken : {A : Type 0} → Said A → Type 0
 AreTaken None = ⊥
 AreTaken (Some said) = said.1 ≡ NoFlaw
 
--- The example that an instruction's hint shows is taken: of every opcode, the operands of its form's example spell one
--- item with nothing wrong in it. That of a number in the opcode shows its range, and has none.
+-- The example in the hint for an instruction is valid. For every opcode, the example operands of its form are one item
+-- without a flaw. Opcodes that include a number are excluded: their hint has no example.
 abbrev pub ExamplesAreTaken : Type 0
 ExamplesAreTaken = (op : ℕ) → form_of op ≢ forms.Unassigned → short_range op ≡ None
     → AreTaken (instruction_said (form_of op) op (operands (example (form_of op))))

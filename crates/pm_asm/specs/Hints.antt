@@ -1,4 +1,4 @@
--- What helps where a line of a text has a fault.
+-- Hints for lines with errors.
 use Rattle.std.specs.Prelude.{ℕ, ◌%◌, ◌==◌, List, Option, Some, None, option_map, if◌then◌else◌}
 use Rattle.std.specs.List.{list_all}
 use Rattle.std.specs.Option.{unwrap_or}
@@ -17,33 +17,33 @@ use Rattle.pm_source.specs.Line.Line.{Blank, Wrong, Strange, Says}
 use Rattle.pm_source.specs.Source.{Name}
 use Rattle.pm_source.specs.Words.{is_name}
 
--- What a line is told.
+-- A hint for a line with a fault.
 pub data Hint : Type 0 where
-  -- the characters that a text may have
+  -- The characters that are allowed in source text.
   Characters : Hint
-  -- what a label is
+  -- The syntax of a label.
   Labels : Hint
-  -- what a label stands before
+  -- What may follow a label.
   BeforeLabelled : Hint
-  -- what stands behind a mnemonic or a directive
+  -- The operands of a mnemonic or a directive.
   Takes : Keyword → Hint
-  -- where its line stands
+  -- Where a line with this keyword is allowed.
   Stands : Keyword → Hint
-  -- the mnemonic or directive that may be meant
+  -- The mnemonic or directive that is probably meant.
   Meant : Keyword → Hint
-  -- what the first word of a line may be
+  -- What the first word of a line may be.
   Words : Hint
-  -- what the code before `.END` has
+  -- The conditions for `.END`.
   Ended : Hint
-  -- the number of a procedure, and how many bytes it has, which is odd
+  -- The number of a procedure, and its number of bytes, which is odd.
   Odd : ℕ → ℕ → Hint
-  -- the number of a procedure, how many `.JUMP` lines it has, and how many its code takes
+  -- The number of a procedure, the number of its `.JUMP` lines, and the number of entries that its code uses.
   Counted : ℕ → ℕ → ℕ → Hint
-  -- where a label that is named stands
+  -- A label that is used must be defined.
   Named : Hint
-  -- what stands once
+  -- What may occur only once.
   Once : Keyword → Hint
-  -- how far a label is reached, and what reaches any
+  -- The range of a short jump, and how to jump to any label.
   Reached : Keyword → Hint
 
 abbrev pub hint_seen : code.Hint → Hint
@@ -61,31 +61,31 @@ hint_seen codes.Named = Named
 hint_seen (codes.Once keyword) = Once (keyword_seen keyword)
 hint_seen (codes.Reached keyword) = Reached (keyword_seen keyword)
 
--- behind a label that is a name
+-- The hint for a line whose label is a valid name.
 abbrev pub labelled_hint : Option Keyword → Option Hint
 labelled_hint None = None
 labelled_hint (Some OfBytes) = Some (Takes OfBytes)
 labelled_hint (Some (Mnemonic op)) = Some (Takes (Mnemonic op))
 labelled_hint (Some directive) = Some BeforeLabelled
 
--- of an ill-formed line, by its label and its mnemonic or directive
+-- The hint for a malformed line, by its label and its keyword.
 abbrev pub ill_formed_hint : Option Name → Option Keyword → Option Hint
 ill_formed_hint None keyword = option_map Takes keyword
 ill_formed_hint (Some label) keyword = if is_name label then labelled_hint keyword else Some Labels
 
--- a line that is well-formed is out of place; a label alone stands where a byte may
+-- A well-formed line is not allowed at its position. A label without a keyword is allowed where `.BYTE` is.
 abbrev pub syntax_hint : Front → Line → Option Hint
 syntax_hint front (Says said flaw) = Some (Stands (unwrap_or (keyword_in front) OfBytes))
 syntax_hint front Blank = None
 syntax_hint front (Wrong end) = ill_formed_hint front.label (keyword_in front)
 syntax_hint front Strange = None
 
--- of a word that is no mnemonic and no directive, by what it may mean
+-- The hint for a word that is neither a mnemonic nor a directive, by the keyword that it may mean.
 abbrev pub word_hint : Option Keyword → Hint
 word_hint None = Words
 word_hint (Some keyword) = Meant keyword
 
--- a known word has a type word behind it that is unknown
+-- A known word is followed by an unknown type word.
 abbrev pub unknown_hint : List ℕ → Option Keyword → Hint
 unknown_hint word None = word_hint (meant word)
 unknown_hint word (Some keyword) = Takes keyword
@@ -95,12 +95,12 @@ range_hint None = None
 range_hint (Some OfEnd) = Some Ended
 range_hint (Some keyword) = Some (Takes keyword)
 
--- At an `.END` that is refused: by what it counts, the odd bytes first.
+-- The hint for an `.END` that is rejected. An odd number of bytes has priority.
 abbrev pub ended_hint : Counts → Hint
 ended_hint counts = if counts.bytes % 2 == 0 then Counted counts.procedure counts.entries counts.taken
     else Odd counts.procedure counts.bytes
 
--- What helps where a line has a fault, if something does.
+-- The hint for a line with a fault, if there is one.
 unfoldable pub hint_of : AsmFault → List ℕ → Option Hint
 hint_of (Syntax n) text =
     if list_all is_character text then syntax_hint (front_of text) (line_of 1 text) else Some Characters

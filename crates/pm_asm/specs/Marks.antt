@@ -1,4 +1,4 @@
--- Where a line of a text that has a fault is marked, and the line with the mark that stands below it.
+-- The position at which a line with an error is marked, and the line with the mark below it.
 use Rattle.std.specs.Prelude.{◌≡◌, ℕ, ◌+◌, ◌==◌, ◌||◌, Bool, false, not, List, [], ◌∷◌, ◌++◌, Option, Some, None}
 use Rattle.std.specs.Prelude.{codes, length, map, drop, position, take, if◌then◌else◌}
 use Rattle.pm_asm.specs.declared.mark.Stop.{Stop}
@@ -12,29 +12,29 @@ use Rattle.pm_source.specs.Line.Keyword.{OfSegment, Mnemonic}
 use Rattle.pm_source.specs.Source.{Name}
 use Rattle.pm_source.specs.Words.{is_blank}
 
--- A place in a line is how many characters stand before it.
+-- A position is the number of characters before it.
 
--- whether a character is looked for: one that is no blank; what ends a word, a blank or what begins a comment; one that
--- no text may have
+-- Whether a character is in the set: no space or tab; the end of a word, which is a space, a tab or the beginning of a
+-- comment; or a character that is not allowed.
 abbrev pub stops : Stop → ℕ → Bool
 stops stop.Solid c = not (is_blank c)
 stops stop.WordEnd c = is_blank c || (c == 59)
 stops stop.Strange c = not (is_character c)
 
--- the place of a character which stands so far behind a place, or of the line's end where there is none
+-- The position `count` characters after `at`, or the end of the line if there is none.
 abbrev pub place_at : ℕ → ℕ → Option ℕ → ℕ
 place_at at end None = end
 place_at at end (Some count) = at + count
 
--- the place of the first such character from a place on
+-- The position of the first character of the set that is not before `at`.
 abbrev pub place_from : Stop → List ℕ → ℕ → ℕ
 place_from s text at = place_at at (length text) (position (stops s) (drop at text))
 
--- the place of the first word
+-- The position of the first word.
 abbrev pub first_place : List ℕ → ℕ
 first_place text = place_from stop.Solid text 0
 
--- the place of the mnemonic or directive: behind the label, if one stands there
+-- The position of the mnemonic or directive, which follows the label if there is one.
 abbrev pub place_behind : List ℕ → Option Name → ℕ
 place_behind text None = first_place text
 place_behind text (Some label) = place_from stop.Solid text (place_from stop.WordEnd text (first_place text))
@@ -42,22 +42,22 @@ place_behind text (Some label) = place_from stop.Solid text (place_from stop.Wor
 abbrev pub word_place : List ℕ → ℕ
 word_place text = place_behind text (front_of text).label
 
--- from a place on something stands that is no comment
+-- Whether there is a character that does not begin a comment.
 abbrev pub has_more : List ℕ → Bool
 has_more [] = false
 has_more (c ∷ cs) = not (c == 59)
 
--- the place of what stands behind the word that ends at a place, or that place where nothing does
+-- The position of the text after the word that ends at `end`, or `end` if there is none.
 abbrev pub place_after : List ℕ → ℕ → ℕ
 place_after text end =
     if has_more (drop (place_from stop.Solid text end) text) then place_from stop.Solid text end else end
 
--- the place of the operands, or behind the mnemonic or directive where there are none
+-- The position of the operands, or the position after the mnemonic or directive if there are none.
 abbrev pub operands_place : List ℕ → ℕ
 operands_place text = place_after text (place_from stop.WordEnd text (word_place text))
 
--- Where a line is marked, by what it is told: at the character, the first word, the mnemonic or the operands that this
--- is about; where nothing is told at its first word.
+-- The position at which a line is marked for a hint: the character, the first word, the keyword or the operands that
+-- the hint describes. Without a hint, it is the first word.
 unfoldable pub mark_of : Option Hint → List ℕ → ℕ
 mark_of None text = first_place text
 mark_of (Some Characters) text = place_from stop.Strange text 0
@@ -75,17 +75,17 @@ mark_of (Some (Once OfSegment)) text = operands_place text
 mark_of (Some (Once keyword)) text = first_place text
 mark_of (Some (Reached keyword)) text = operands_place text
 
--- what stands below a character that stands before the mark: a tab below a tab, so that both lines go on alike
+-- The character below a character that precedes the mark. A tab is below a tab, so that both lines are aligned.
 abbrev pub below : ℕ → ℕ
 below c = if c == 9 then 9 else 32
 
--- The line below a line, with a mark at a place of it: `^`, the character 94.
+-- The line below a line, with the mark `^` (character 94) at a position.
 unfoldable pub mark_line : List ℕ → ℕ → List ℕ
 mark_line text place = map below (take place text) ++ 94 ∷ []
 
 -- Worked out by hand.
 pub record WorkedMarks : Type 0 where
-  -- a mark below the first operand, the one behind a label and blanks, and behind a mnemonic without operands
+  -- The mark is below the first operand, also after a label and spaces. Without operands, it follows the mnemonic.
   pub operands : mark_of (Some (Takes (Mnemonic 205))) (codes "CXP 2 1") ≡ 4
   pub behind_label : mark_of (Some (Takes (Mnemonic 130))) (codes "L:  ADI 5") ≡ 8
   pub without_operands : mark_of (Some (Takes (Mnemonic 120))) (codes " SIND") ≡ 5

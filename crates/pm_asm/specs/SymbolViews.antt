@@ -1,4 +1,4 @@
--- What symbols of the code stand for.
+-- The symbols of the code, as symbols of the specification.
 use Rattle.std.specs.Prelude.{List, map, option_map}
 use Rattle.pm_asm.specs.declared.symbols.Symbol as code
 use Rattle.pm_asm.specs.Symbols.{Symbol}

@@ -1,4 +1,4 @@
--- Where the procedures and the labels of a text stand, as the debugger counts.
+-- The positions of procedures and labels, as the debugger counts them.
 use Rattle.std.specs.Prelude.{◌≡◌, ℕ, ◌+◌, ◌-◌, List, [], ◌∷◌, ◌++◌, codes, map, Option, Some, None, Result, Ok, Err}
 use Rattle.pm_code.specs.Shown.{padded}
 use Rattle.pm_code.specs.Item.Target.{To}
@@ -12,12 +12,13 @@ use Rattle.pm_asm.specs.Assembled.{Outcome, assembled}
 pub record Symbol : Type 0 where
   pub segment : ℕ
   pub procedure : ℕ
-  -- the bytes from where the procedure is entered
+  -- The offset in bytes from the entry of the procedure.
   pub offset : ℕ
-  -- none of the procedure itself
+  -- `None` for the procedure itself.
   pub label : Option Name
 
--- a label of code that begins at an offset of its segment: where a jump to the label leads, counted from there
+-- The symbol of a label in code that begins at offset `start` of its segment. Its offset is the distance from there to
+-- the target of a jump to the label.
 abbrev pub label_symbol : ℕ → ℕ → ℕ → List Row → Name → Symbol
 label_symbol segment procedure start rows name = record {
   segment = segment;
@@ -26,29 +27,29 @@ label_symbol segment procedure start rows name = record {
   label = Some name;
 }
 
--- a procedure that begins at an offset, and behind it its labels in the order of the text
+-- A procedure that begins at offset `start`, followed by its labels in the order of the text.
 abbrev pub procedure_symbols : ℕ → ℕ → ℕ → Source → List Symbol
 procedure_symbols segment procedure start p =
     record { segment = segment; procedure = procedure; offset = 0; label = None }
     ∷ map (label_symbol segment procedure start p.code) (labels_of p.code)
 
--- the procedures of a segment, numbered from n, of which the first begins at an offset
+-- The procedures of a segment, numbered from `n`. The first one begins at offset `at`.
 unfoldable pub symbols_from : ℕ → ℕ → ℕ → List Source → List Symbol
 symbols_from segment n at [] = []
 symbols_from segment n at (p ∷ ps) =
     procedure_symbols segment n at p ++ symbols_from segment (n + 1) (source_end at p) ps
 
--- segments in the order of the text
+-- The symbols of segments, in the order of the text.
 unfoldable pub symbols : List SourceSegment → List Symbol
 symbols [] = []
 symbols (s ∷ ss) = symbols_from s.number 1 0 s.procedures ++ symbols ss
 
--- what a line says behind its numbers
+-- The name in a symbol's line.
 abbrev pub symbol_name : Option Name → List ℕ
 symbol_name None = codes ".PROC"
 symbol_name (Some label) = label
 
--- The line of a symbol: segment and procedure in three digits, the offset in five, and the label.
+-- The line of a symbol: the segment and the procedure in three digits, the offset in five digits, and the label.
 unfoldable pub symbol_line : Symbol → List ℕ
 symbol_line s = padded 3 s.segment ++ 32 ∷ padded 3 s.procedure ++ 32 ∷ padded 5 s.offset
     ++ 32 ∷ symbol_name s.label ++ 10 ∷ []
@@ -61,11 +62,11 @@ abbrev pub symbols_by : List ℕ → Outcome → Result (List ℕ) AsmFault
 symbols_by text (Ok made) = Ok (symbol_lines (symbols (source_of text)))
 symbols_by text (Err fault) = Err fault
 
--- The lines of a text that is assembled, or the fault by which it is refused.
+-- The lines of a text that is assembled, or the fault of assembling.
 unfoldable pub symbol_text : List ℕ → Result (List ℕ) AsmFault
 symbol_text text = symbols_by text (assembled text)
 
--- A jump to a label leads to where its procedure begins and the offset of the label's line.
+-- The target of a jump to a label is the beginning of its procedure plus the offset of the symbol.
 abbrev pub JumpsLeadToSymbols : Type 0
 JumpsLeadToSymbols = (segment procedure start : ℕ) (rows : List Row) (name : Name) (place : ℕ)
     → LeadsTo (place_of start rows) (To name) (To place)

@@ -1,4 +1,4 @@
--- What a few lines are told, computed.
+-- The hints for a few lines, computed.
 use Rattle.std.specs.Prelude.{◌≡◌, codes, Some}
 use Rattle.pm_asm.specs.HintTexts.{hint_text}
 use Rattle.pm_asm.specs.Hints.{ended_hint, hint_of}
@@ -7,18 +7,18 @@ use Rattle.pm_asm.specs.Hints.Hint.{Odd, Counted}
 use Rattle.pm_source.specs.declared.fault.AsmFault.TheVariants.{Syntax, Unknown, Range, NoLabel, Twice, Far}
 use Rattle.pm_source.specs.Line.Keyword.{OfSegment, Mnemonic}
 
--- Worked out by hand, by the numbers of the opcodes.
+-- Worked out by hand, with the numbers of the opcodes.
 pub record WorkedHints : Type 0 where
-  -- a comma is missing
+  -- A comma is missing.
   pub ill_formed : hint_of (Syntax 3) (codes "CXP 2 1") ≡ Some (Takes (Mnemonic 205))
   pub out_of_place : hint_of (Syntax 3) (codes " NOP ; x") ≡ Some (Stands (Mnemonic 215))
-  -- a word of no letters is the name of opcode 210; the text is that of any item
+  -- An empty word is the mnemonic of opcode 210. The text of the hint is the same for every item.
   pub label_alone : hint_of (Syntax 3) (codes "L:") ≡ Some (Stands (Mnemonic 210))
   pub label : hint_of (Syntax 3) (codes "1L: NOP") ≡ Some Labels
   pub labelled : hint_of (Syntax 3) (codes "L: .EXIT") ≡ Some BeforeLabelled
   pub behind_label : hint_of (Syntax 3) (codes "L: ADI 5") ≡ Some (Takes (Mnemonic 130))
   pub other_case : hint_of (Unknown 3) (codes "nop") ≡ Some (Meant (Mnemonic 215))
-  -- of ADI, ADJ and ADR the first
+  -- The first of ADI, ADJ and ADR.
   pub other_letter : hint_of (Unknown 3) (codes "ADD") ≡ Some (Meant (Mnemonic 130))
   pub like_none : hint_of (Unknown 3) (codes "LOOP NOP") ≡ Some Words
   pub type_word : hint_of (Unknown 3) (codes "EQU INT") ≡ Some (Takes (Mnemonic 175))
@@ -32,6 +32,6 @@ pub record WorkedHints : Type 0 where
   pub range_told : hint_text (Takes (Mnemonic 216)) ≡ codes "SLDL takes a number from 1 to 16; LDL takes larger ones"
   pub nothing_told : hint_text (Takes (Mnemonic 130)) ≡ codes "ADI takes no operand"
   pub name_told : hint_text (Meant (Mnemonic 130)) ≡ codes "did you mean ADI?"
-  -- bytes that are odd are told before entries
+  -- An odd number of bytes has priority over the entries.
   pub odd : ended_hint (record { procedure = 2; bytes = 5; entries = 0; taken = 3 }) ≡ Odd 2 5
   pub counted : ended_hint (record { procedure = 1; bytes = 4; entries = 1; taken = 3 }) ≡ Counted 1 1 3

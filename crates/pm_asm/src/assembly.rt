@@ -1,4 +1,4 @@
-//! From a text to its program, and from this to its code file and its listing.
+//! Converts source text to a program, and the program to a code file and a listing.
 
 ghost use Rattle.std.specs.Prelude.{◌≡◌, ◌≢◌, [], string_bytes, false, true, Ok, Err, IfOk, IfErr, OnOk};
 ghost use Rattle.pm_code.specs.Views.{program_seen};
@@ -16,7 +16,13 @@ use pm_reader::source_of;
 use pm_source::AsmFault;
 use std::alloc::Global;
 
-/// The program of a text that has no fault and no segment of more than 60,000 bytes.
+/// Returns the program of source text.
+///
+/// # Errors
+///
+/// - The first of the faults of the text, with its line.
+/// - `TooLong(n)`: there is no fault, and n is the first segment with more than 60,000 bytes.
+/// - `NoMemory`: memory runs out. It can occur at any stage.
 pub(crate) fn program_of(alloc: Global, text: &str) -> Result<Vec<Segment>, AsmFault>
     ensures program { IfOk result (λ program. program_seen program.items ≡ program_of text.now) }
     ensures faultless { OnOk result (faults text.now ≡ []) }
@@ -39,14 +45,15 @@ pub struct Assembly {
     pub listing: String,
 }
 
-/// The code file of a text's program, and its listing.
+/// Assembles source text, and returns the code file and the listing.
 ///
-/// It is Ok exactly when the text spells a program of which no segment has more than 60,000 bytes, if memory can grow.
-/// Refusals:
+/// If memory suffices, it succeeds if and only if the text is a program whose segments have at most 60,000 bytes each.
 ///
-/// - the first of the text's faults (`Syntax`, `Unknown`, `Range`, `NoLabel`, `Twice`, `Far`), with its line;
-/// - `TooLong(n)`: no fault, and n is the first segment with more than 60,000 bytes;
-/// - `NoMemory`: memory could not grow.
+/// # Errors
+///
+/// - The first of the faults of the text (`Syntax`, `Unknown`, `Range`, `NoLabel`, `Twice`, `Far`), with its line.
+/// - `TooLong(n)`: there is no fault, and n is the first segment with more than 60,000 bytes.
+/// - `NoMemory`: memory runs out. It can occur at any stage.
 pub fn assemble(alloc: Global, text: &str) -> Result<Assembly, AsmFault>
     ensures assembled { IfOk result (λ a. assembled text.now ≡ Ok (a.file.items, string_bytes a.listing)) }
     ensures refusal { IfErr result (λ fault. fault ≢ NoMemory → assembled text.now ≡ Err fault) }
@@ -59,7 +66,7 @@ pub fn assemble(alloc: Global, text: &str) -> Result<Assembly, AsmFault>
     Ok(Assembly { file, listing })
 }
 
-/// The code file of a text's program; its listing is not made. The refusals are those of `assemble`.
+/// Assembles source text, and returns only the code file. The errors are those of `assemble`.
 pub fn assemble_file(alloc: Global, text: &str) -> Result<Vec<u8>, AsmFault>
     ensures file { IfOk result (λ file. wanted false (assembled text.now) ≡ Ok file.items) }
     ensures refusal { IfErr result (λ fault. fault ≢ NoMemory → assembled text.now ≡ Err fault) }
@@ -69,7 +76,7 @@ pub fn assemble_file(alloc: Global, text: &str) -> Result<Vec<u8>, AsmFault>
     Ok(file)
 }
 
-/// The listing of a text's program; its code file is not made. The refusals are those of `assemble`.
+/// Assembles source text, and returns only the listing. The errors are those of `assemble`.
 pub fn assemble_listing(alloc: Global, text: &str) -> Result<String, AsmFault>
     ensures listing { IfOk result (λ listing. wanted true (assembled text.now) ≡ Ok (string_bytes listing)) }
     ensures refusal { IfErr result (λ fault. fault ≢ NoMemory → assembled text.now ≡ Err fault) }

@@ -1,18 +1,18 @@
-//! Code in which labels are looked up.
+//! Code with a table of its labels.
 
 ghost use Rattle.pm_asm.specs.Table.{IsTable};
 
 use pm_line::Row;
 use std::collections::BTreeMap;
 
-/// The code of a procedure, in which labels are looked up.
+/// The code of a procedure, with a table of its labels.
 #[derive(Clone, Copy)]
 pub(crate) struct Code<'r, 'a> {
-    /// Where it begins.
+    /// The offset of its first byte in the segment.
     pub start: usize,
     /// Its lines.
     pub rows: &'r [Row<'a>],
-    /// Where its labels stand.
+    /// The offsets of its labels.
     pub table: &'r BTreeMap<&'a [u8], usize>,
     ghost placed: { IsTable table.now start rows.now },
 }

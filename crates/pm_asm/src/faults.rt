@@ -1,4 +1,4 @@
-//! The first fault of each line of a text.
+//! The first fault of each line of source text.
 
 ghost use Rattle.std.specs.Prelude.{◌≡◌, ◌≢◌, ◌∷◌, ◌++◌, [], Some, IfErr, IfOk, OnOk, map};
 ghost use Rattle.std.specs.Option.{option_to_list};
@@ -23,7 +23,7 @@ use pm_reader::{
 use pm_source::AsmFault;
 use std::alloc::Global;
 
-/// The first fault of the labels of a line, which begins at an offset.
+/// Returns the first label fault of the line that begins at offset `at`.
 fn row_fault<'a>(alloc: Global, code: &Code<'_, 'a>, at: usize, row: &Row<'a>) -> Option<AsmFault>
     ensures fault { Answers result (row_faults (places_in code.now) at (row_seen row.now)) }
 {
@@ -34,7 +34,7 @@ fn row_fault<'a>(alloc: Global, code: &Code<'_, 'a>, at: usize, row: &Row<'a>) -
     }
 }
 
-/// Notes the first fault of the labels of each line of code.
+/// Appends the first label fault of each line of code.
 #[tactic(auto, unfolding(crate::specs::Each::code_firsts), using(pm_reader::proofs::Eachs::first_noted))]
 fn note_code(alloc: Global, code: &Code<'_, '_>, found: &mut Vec<AsmFault>) -> Result<(), AsmFault>
     ensures noted { OnOk result (found.new.items ≡ found.old.items
@@ -49,7 +49,7 @@ fn note_code(alloc: Global, code: &Code<'_, '_>, found: &mut Vec<AsmFault>) -> R
     Ok(())
 }
 
-/// The fault of an entry of a jump table, whose label may be unknown.
+/// Returns the fault of a jump table entry if its label is unknown.
 fn entry_fault<'a>(code: &Code<'_, 'a>, entry: &Entry<'a>) -> Option<AsmFault>
     ensures fault { option_to_list result ≡ entries_faults (places_in code.now) (entry_seen entry.now ∷ []) }
     ensures known { result ≢ Some NoMemory }
@@ -60,7 +60,7 @@ fn entry_fault<'a>(code: &Code<'_, 'a>, entry: &Entry<'a>) -> Option<AsmFault>
     }
 }
 
-/// Notes the faults of the entries of a jump table.
+/// Appends the faults of jump table entries.
 fn note_entries<'a>(
     code: &Code<'_, 'a>,
     entries: &[Entry<'a>],
@@ -76,7 +76,7 @@ fn note_entries<'a>(
     Ok(())
 }
 
-/// Notes the first fault of the labels of each line of a procedure, which begins at an offset of its segment.
+/// Appends the first label fault of each line of a procedure that begins at offset `at` of its segment.
 #[tactic(auto, unfolding(crate::specs::Each::label_firsts))]
 fn note_procedure(
     alloc: Global,
@@ -99,7 +99,7 @@ fn note_procedure(
     note_entries(&code, &procedure.entries, found)
 }
 
-/// Notes the first fault of the labels of each line of a segment's procedures.
+/// Appends the first label fault of each line of a segment's procedures.
 #[tactic(auto, unfolding(crate::specs::Each::label_firsts_from))]
 fn note_procedures(
     alloc: Global,
@@ -118,7 +118,7 @@ fn note_procedures(
     Ok(())
 }
 
-/// The first fault of the labels of each line of segments, in the order of the text.
+/// Returns the first label fault of each line of segments, in the order of the text.
 #[tactic(auto, unfolding(crate::specs::Each::all_label_firsts))]
 fn faults_of_labels(
     alloc: Global,
@@ -134,9 +134,16 @@ fn faults_of_labels(
     Ok(found)
 }
 
-/// The first fault of each line of a text that has one, in the order of its lines (`Syntax`, `Unknown`, `Range`,
-/// `Twice`); where there is none, the first of the labels of each line (`NoLabel`, `Far`), segment by segment in the
-/// order of the text; where there is none of these either, `TooLong` where a segment is. Refused by `NoMemory` alone.
+/// Returns the faults of source text, at most one for each line, in the following order:
+///
+/// - If a line has a fault of its own (`Syntax`, `Unknown`, `Range`, `Twice`), the first fault of each such line, in
+///   the order of the lines.
+/// - Otherwise, the first label fault of each line (`NoLabel`, `Far`), segment by segment in the order of the text.
+/// - If there is none of these either, `TooLong` if a segment is too long.
+///
+/// # Errors
+///
+/// Only `NoMemory`.
 #[tactic(auto, unfolding(crate::specs::Each::all_faults))]
 pub fn all_faults(alloc: Global, text: &str) -> Result<Vec<AsmFault>, AsmFault>
     ensures all { IfOk result (λ faults. faults.items ≡ all_faults text.now) }

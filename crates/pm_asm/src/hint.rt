@@ -1,4 +1,4 @@
-//! What helps where a line of a text has a fault.
+//! Hints for lines with errors.
 
 ghost use Rattle.std.specs.Prelude.{◌≡◌, Some, IfOk, option_map};
 ghost use Rattle.std.specs.List.{list_all};
@@ -17,38 +17,38 @@ use pm_reader::Counts;
 use pm_source::AsmFault;
 use std::alloc::{AllocError, Global};
 
-/// What a line with a fault is told.
+/// A hint for a line with a fault.
 #[derive(Clone, Copy)]
 pub enum Hint {
-    /// The characters that a text may have.
+    /// The characters that are allowed in source text.
     Characters,
-    /// What a label is.
+    /// The syntax of a label.
     Labels,
-    /// What a label stands before.
+    /// What may follow a label.
     BeforeLabelled,
-    /// What stands behind a mnemonic or a directive.
+    /// The operands of a mnemonic or a directive.
     Takes(Keyword),
-    /// Where its line stands.
+    /// Where a line with this keyword is allowed.
     Stands(Keyword),
-    /// The mnemonic or the directive that may be meant.
+    /// The mnemonic or the directive that is probably meant.
     Meant(Keyword),
     /// What the first word of a line may be.
     Words,
-    /// What the code before `.END` has.
+    /// The conditions for `.END`.
     Ended,
-    /// The number of a procedure, and how many bytes it has, which is odd.
+    /// The number of a procedure, and its number of bytes, which is odd.
     Odd { procedure: usize, bytes: usize },
-    /// The number of a procedure, how many `.JUMP` lines it has, and how many its code takes.
+    /// The number of a procedure, the number of its `.JUMP` lines, and the number of entries that its code uses.
     Counted(usize, usize, usize),
-    /// Where a label that is named stands.
+    /// A label that is used must be defined.
     Named,
-    /// What stands once.
+    /// What may occur only once.
     Once(Keyword),
-    /// How far a label is reached, and what reaches any.
+    /// The range of a short jump, and how to jump to any label.
     Reached(Keyword),
 }
 
-/// Whether all characters may stand in a text: tabs, and 32 to 126.
+/// Whether all characters are allowed in source text: tabs, and 32 to 126.
 fn are_characters(text: &[u8]) -> bool
     ensures characters { result ≡ list_all is_character text.now }
 {
@@ -56,7 +56,7 @@ fn are_characters(text: &[u8]) -> bool
         .all(|byte| *byte == b'\t' || (32..=126).contains(byte))
 }
 
-/// The mnemonic or the directive of a line; that of a byte where it has a label alone.
+/// Returns the mnemonic or directive of a line. Returns `Bytes` if the line has none.
 fn keyword_or_byte(front: &Front<'_>) -> Keyword
     ensures keyword { keyword_seen result ≡ unwrap_or (keyword_in (front_seen front.now)) OfBytes }
 {
@@ -66,7 +66,7 @@ fn keyword_or_byte(front: &Front<'_>) -> Keyword
     }
 }
 
-/// What helps behind a label that is a name.
+/// Returns the hint for a line whose label is a valid name.
 fn labelled_hint(keyword: Option<Keyword>) -> Option<Hint>
     ensures hint { option_map hint_seen result ≡ labelled_hint (option_map keyword_seen keyword) }
 {
@@ -76,7 +76,7 @@ fn labelled_hint(keyword: Option<Keyword>) -> Option<Hint>
     }
 }
 
-/// What helps in an ill-formed line.
+/// Returns the hint for a malformed line.
 fn ill_formed_hint(front: &Front<'_>) -> Option<Hint>
     ensures hint { option_map hint_seen result
         ≡ ill_formed_hint (front_seen front.now).label (keyword_in (front_seen front.now)) }
@@ -88,7 +88,7 @@ fn ill_formed_hint(front: &Front<'_>) -> Option<Hint>
     }
 }
 
-/// What helps in a line that is ill-formed or out of place.
+/// Returns the hint for a line that is malformed or not allowed at its position.
 fn syntax_hint(front: &Front<'_>, line: &Line<'_>) -> Option<Hint>
     ensures hint { option_map hint_seen result ≡ syntax_hint (front_seen front.now) (line_seen line.now) }
 {
@@ -99,7 +99,7 @@ fn syntax_hint(front: &Front<'_>, line: &Line<'_>) -> Option<Hint>
     }
 }
 
-/// What helps in a line with an unknown word.
+/// Returns the hint for a line with an unknown word.
 fn unknown_hint(front: &Front<'_>) -> Hint
     ensures hint { hint_seen result ≡ unknown_hint (front_seen front.now).word (keyword_in (front_seen front.now)) }
 {
@@ -110,7 +110,7 @@ fn unknown_hint(front: &Front<'_>) -> Hint
     }
 }
 
-/// What helps in a line with a number out of range, or at the end of a procedure.
+/// Returns the hint for a line with a number out of range, or for the end of a procedure.
 fn range_hint(front: &Front<'_>) -> Option<Hint>
     ensures hint { option_map hint_seen result ≡ range_hint (keyword_in (front_seen front.now)) }
 {
@@ -120,14 +120,14 @@ fn range_hint(front: &Front<'_>) -> Option<Hint>
     }
 }
 
-/// What helps in a line with a jump that does not reach its label.
+/// Returns the hint for a line with a jump that cannot reach its label.
 fn far_hint(front: &Front<'_>) -> Option<Hint>
     ensures hint { option_map hint_seen result ≡ option_map Reached (keyword_in (front_seen front.now)) }
 {
     Some(Hint::Reached(front.keyword()?))
 }
 
-/// What helps at an `.END` that is refused, by what it counts.
+/// Returns the hint for an `.END` that is rejected, from the counts of its procedure.
 pub fn ended_hint(counts: Counts) -> Hint
     ensures hint { hint_seen result ≡ ended_hint counts }
 {
@@ -144,8 +144,7 @@ pub fn ended_hint(counts: Counts) -> Hint
     }
 }
 
-/// What helps where a line of a text has a fault, if something does: of the fault, and of the line's characters without
-/// the line feed.
+/// Returns the hint for a line with a fault, if there is one. `text` is the line without its line feed.
 #[tactic(auto, unfolding(crate::specs::Hints::hint_of))]
 pub fn hint_of(alloc: Global, fault: AsmFault, text: &str) -> Result<Option<Hint>, AllocError>
     ensures hint { IfOk result (λ hint. option_map hint_seen hint ≡ hint_of fault text.now) }

@@ -1,4 +1,4 @@
-//! What helps where a line of a text has a fault, in words.
+//! The texts of hints.
 
 ghost use Rattle.std.specs.Prelude.{◌≡◌, Some};
 ghost use Rattle.pm_asm.specs.HintTexts.{counts_text, example, fixed_text, form_text, hint_text, keyword_text};
@@ -11,7 +11,7 @@ use pm_line::{Keyword, short_range};
 use pm_opcode::{Form, form_at, row_at};
 use std::fmt;
 
-/// Operands of a form, as a text of the assembler spells them.
+/// Returns example operands of a form, as in source text.
 fn example(form: Form) -> &'static str
     ensures text { result.now ≡ example form }
 {
@@ -30,7 +30,7 @@ fn example(form: Form) -> &'static str
     }
 }
 
-/// What the operands of a form are.
+/// Returns the description of the operands of a form.
 fn form_text(form: Form) -> &'static str
     ensures text { result.now ≡ form_text form }
 {
@@ -50,7 +50,8 @@ fn form_text(form: Form) -> &'static str
     }
 }
 
-/// What an instruction takes whose number stands in the opcode, the first of its name.
+/// Returns the description of an instruction whose opcode includes its number. `op` is the first opcode of its
+/// mnemonic.
 #[tactic(auto, unfolding(crate::specs::HintTexts::range_text))]
 fn range_text(op: u8) -> &'static str
     ensures text { result.now ≡ range_text op }
@@ -63,7 +64,7 @@ fn range_text(op: u8) -> &'static str
     }
 }
 
-/// An example of the operands of a form, behind a name.
+/// An example of the operands of a form, after the mnemonic.
 #[derive(Clone, Copy)]
 struct ShownExample<'a> {
     name: &'a str,
@@ -85,7 +86,7 @@ impl fmt::Display for ShownExample<'_> {
     }
 }
 
-/// What the instructions of an opcode's name take.
+/// The description of the operands of an opcode's mnemonic.
 #[derive(Clone, Copy)]
 struct Operands(u8);
 
@@ -107,7 +108,7 @@ impl fmt::Display for Operands {
     }
 }
 
-/// A mnemonic or a directive, as a text spells it.
+/// Returns the spelling of a mnemonic or a directive.
 fn keyword_text(keyword: Keyword) -> &'static str
     ensures text { result.now ≡ keyword_text (keyword_seen keyword) }
 {
@@ -122,7 +123,7 @@ fn keyword_text(keyword: Keyword) -> &'static str
     }
 }
 
-/// What stands behind a mnemonic or a directive.
+/// The description of the operands of a mnemonic or a directive.
 #[derive(Clone, Copy)]
 struct Taken(Keyword);
 
@@ -159,7 +160,7 @@ impl fmt::Display for Taken {
     }
 }
 
-/// Where a line stands.
+/// Returns the description of where a line is allowed.
 fn stands_text(keyword: Keyword) -> &'static str
     ensures text { result.now ≡ stands_text (keyword_seen keyword) }
 {
@@ -178,7 +179,7 @@ fn stands_text(keyword: Keyword) -> &'static str
     }
 }
 
-/// What stands once.
+/// Returns the description of what may occur only once.
 fn once_text(keyword: Keyword) -> &'static str
     ensures text { result.now ≡ once_text (keyword_seen keyword) }
 {
@@ -189,11 +190,11 @@ fn once_text(keyword: Keyword) -> &'static str
     }
 }
 
-/// What reaches any label.
+/// How to jump to any label.
 const REACHING: &str =
     "to jump back or farther, write ^0 for the label, and a line .JUMP with the label before .END";
 
-/// What a line is told that names neither operands nor another word.
+/// Returns the text of a hint that is constant. Returns an empty text for other hints.
 fn fixed_text(hint: Hint) -> &'static str
     ensures text { result.now ≡ fixed_text (hint_seen hint) }
 {
@@ -216,7 +217,7 @@ fn fixed_text(hint: Hint) -> &'static str
     }
 }
 
-/// How many `.JUMP` lines there are, and how many the code takes.
+/// The number of `.JUMP` lines, and the number of entries that the code uses.
 #[derive(Clone, Copy)]
 struct ShownCounts {
     entries: usize,

@@ -1,4 +1,4 @@
-//! Labels become places.
+//! Converts labels to offsets.
 
 ghost use Rattle.std.specs.Prelude.{◌≡◌, ◌≢◌, true, false, Some, IfOk, IfErr, OnOk, OnErr, map};
 ghost use Rattle.std.specs.List.{list_any};
@@ -16,7 +16,11 @@ use pm_code::Target;
 use pm_source::AsmFault;
 use std::alloc::Global;
 
-/// The place of a label that a line names. `NoLabel`: it stands nowhere in the code.
+/// Returns the offset of a label that is used in `line`.
+///
+/// # Errors
+///
+/// `NoLabel`: the code does not define the label.
 pub(crate) fn resolve_label<'a>(
     code: &Code<'_, 'a>,
     line: usize,
@@ -33,7 +37,12 @@ pub(crate) fn resolve_label<'a>(
     }
 }
 
-/// The places of labels that a line names. `NoLabel`: one of them stands nowhere in the code.
+/// Returns the offsets of labels that are used in `line`.
+///
+/// # Errors
+///
+/// - `NoLabel`: the code does not define one of the labels.
+/// - `NoMemory`: memory runs out.
 pub(crate) fn resolve_labels<'a>(
     alloc: Global,
     code: &Code<'_, 'a>,
@@ -55,7 +64,11 @@ pub(crate) fn resolve_labels<'a>(
     Ok(places)
 }
 
-/// Where a jump of a line leads. `NoLabel`: its label stands nowhere in the code.
+/// Returns the target of a jump in `line`, with the offset of its label.
+///
+/// # Errors
+///
+/// `NoLabel`: the code does not define the label.
 pub(crate) fn resolve_target<'a>(
     code: &Code<'_, 'a>,
     line: usize,
@@ -73,15 +86,19 @@ pub(crate) fn resolve_target<'a>(
     }
 }
 
-/// Whether a short jump cannot reach a place from the next instruction: it lies before it, or more than 127 bytes
-/// behind it.
+/// Whether a short jump cannot reach an offset. `next` is the offset of the next instruction. The target must not be
+/// before it, and at most 127 bytes after it.
 fn is_far_place(next: usize, place: usize) -> bool
     ensures far { result ≡ is_far_place next (Some place) }
 {
     place < next || place - next > 127
 }
 
-/// Refuses a short jump of a line that cannot reach its place from the next instruction, by `Far`.
+/// Checks that a short jump in `line` reaches its target. `next` is the offset of the next instruction.
+///
+/// # Errors
+///
+/// `Far`: the target is out of reach.
 pub(crate) fn check_near(line: usize, next: usize, target: Target<usize>) -> Result<(), AsmFault>
     ensures near { OnOk result (is_far_target next (placed_target target) ≡ false) }
     ensures refusal { IfErr result (λ fault. fault ≡ Far line) }

@@ -1,4 +1,4 @@
-//! How long segments are.
+//! The lengths of segments.
 
 ghost use Rattle.std.specs.Prelude.{◌≡◌, None, Err, IsTrue, IfErr, IfOk, OnOk, OnErr, nat_lt, length};
 ghost use Rattle.std.specs.List.{AllByRecursion, list_any};
@@ -12,7 +12,7 @@ ghost use Rattle.pm_asm.specs.declared.lengths.TheConstants.{LONGEST};
 use pm_code::{Segment, segment_length};
 use pm_source::AsmFault;
 
-/// How many bytes a segment may have to be assembled.
+/// The maximum length of a segment, in bytes.
 pub const LONGEST: usize = 60_000;
 
 /// Whether a segment has more than 60,000 bytes.
@@ -26,8 +26,12 @@ fn is_long(segment: &Segment) -> Result<bool, AsmFault>
     Ok(length > LONGEST)
 }
 
-/// Refuses a program of which a segment has more than 60,000 bytes, by the first of these. `NoMemory` is for a segment
-/// that is longer than memory can hold.
+/// Checks that no segment of a program has more than 60,000 bytes.
+///
+/// # Errors
+///
+/// - `TooLong(n)`: n is the first segment with more bytes.
+/// - `NoMemory`: the length of a segment does not fit in 64 bits.
 pub(crate) fn check_lengths(program: &[Segment]) -> Result<(), AsmFault>
     requires follow { AllByRecursion (λ s. FollowFrom 0 s.procedures) (program_seen program.now) }
     ensures short { OnOk result (AreShort (program_seen program.now)) }

@@ -1,5 +1,5 @@
-//! The assembler: a text becomes a program, and this its code file, its listing, or a list of where its labels stand;
-//! and what helps where a line of it has a fault.
+//! The assembler: converts source text to a code file, a listing, or a list of its labels. It also provides hints for
+//! lines with errors.
 #![tactic(auto)]
 
 mod assembly;

@@ -1,4 +1,4 @@
-//! Where a line of a text that has a fault is marked.
+//! The position at which a line with an error is marked.
 
 ghost use Rattle.std.specs.Prelude.{◌≡◌, ◌<◌, ◌≤◌, IfOk, IfSome, drop, length, map, option_map, position, string_bytes};
 ghost use Rattle.pm_asm.specs.Hints.{hint_seen};
@@ -9,18 +9,18 @@ use crate::hint::Hint;
 use pm_line::{Keyword, front_of};
 use std::alloc::{AllocError, Global};
 
-/// A character that is looked for.
+/// A set of characters to search for.
 #[derive(Clone, Copy)]
 enum Stop {
-    /// One that is no blank.
+    /// A character that is neither a space nor a tab.
     Solid,
-    /// What ends a word: a blank, or what begins a comment.
+    /// The end of a word: a space, a tab, or the beginning of a comment.
     WordEnd,
-    /// One that no text may have.
+    /// A character that is not allowed in source text.
     Strange,
 }
 
-/// Whether a character is one of these.
+/// Whether a character is in the set.
 fn stops(stop: Stop, byte: u8) -> bool
     ensures value { result ≡ stops stop byte }
 {
@@ -31,7 +31,7 @@ fn stops(stop: Stop, byte: u8) -> bool
     }
 }
 
-/// How many characters stand before the first of these.
+/// Returns the number of characters before the first character of the set.
 fn found(stop: Stop, text: &[u8]) -> Option<usize>
     ensures place { result ≡ position (stops stop) text.now }
     ensures within { IfSome result (λ n. n < length text.now) }
@@ -39,7 +39,8 @@ fn found(stop: Stop, text: &[u8]) -> Option<usize>
     text.iter().position(|byte| stops(stop, *byte))
 }
 
-/// The place of the first of these from a place on, or of the end.
+/// Returns the position of the first character of the set that is not before `at`, or the length of the text if there
+/// is none.
 fn place_from(stop: Stop, text: &[u8], at: usize) -> usize
     ensures place { result ≡ place_from stop text.now at }
     ensures within { result ≤ length text.now }
@@ -51,7 +52,7 @@ fn place_from(stop: Stop, text: &[u8], at: usize) -> usize
     }
 }
 
-/// The place of the mnemonic or directive.
+/// Returns the position of the mnemonic or directive.
 fn word_place(text: &[u8]) -> usize
     ensures place { result ≡ word_place text.now }
     ensures within { result ≤ length text.now }
@@ -63,7 +64,7 @@ fn word_place(text: &[u8]) -> usize
     }
 }
 
-/// Whether something stands from a place on that is no comment.
+/// Whether there is a character at `at` that does not begin a comment.
 fn has_more(text: &[u8], at: usize) -> bool
     ensures more { result ≡ has_more (drop at text.now) }
 {
@@ -73,7 +74,7 @@ fn has_more(text: &[u8], at: usize) -> bool
     }
 }
 
-/// The place of the operands, or behind the mnemonic or directive where there are none.
+/// Returns the position of the operands. If there are none, it returns the position after the mnemonic or directive.
 fn operands_place(text: &[u8]) -> usize
     ensures place { result ≡ operands_place text.now }
     ensures within { result ≤ length text.now }
@@ -83,7 +84,7 @@ fn operands_place(text: &[u8]) -> usize
     if has_more(text, next) { next } else { end }
 }
 
-/// Where a line of a text is marked that is told this: how many of its characters stand before the place.
+/// Returns the position at which a line is marked for a hint, as the number of characters before it.
 #[tactic(auto, unfolding(crate::specs::Marks::mark_of))]
 pub fn mark_of(hint: Option<Hint>, text: &str) -> usize
     ensures place { result ≡ mark_of (option_map hint_seen hint) text.now }
@@ -104,14 +105,14 @@ pub fn mark_of(hint: Option<Hint>, text: &str) -> usize
     }
 }
 
-/// What stands below a character that stands before a mark.
+/// Returns the character below a character that precedes the mark.
 fn below(byte: u8) -> char
     ensures value { result ≡ below byte }
 {
     if byte == b'\t' { '\t' } else { ' ' }
 }
 
-/// What stands below characters that stand before a mark.
+/// Returns the text below the characters that precede the mark.
 fn line_below(alloc: Global, before: &[u8]) -> Result<String, AllocError>
     ensures line { IfOk result (λ line. string_bytes line ≡ map below before.now) }
 {
@@ -122,7 +123,8 @@ fn line_below(alloc: Global, before: &[u8]) -> Result<String, AllocError>
     Ok(line)
 }
 
-/// The line below a line, with a mark below a place of it: a tab stands below a tab, and else a blank.
+/// Returns the line below `text`, with the mark `^` at position `place`. Before the mark, it has a tab below each tab
+/// and a space below each other character.
 #[tactic(auto, unfolding(crate::specs::Marks::mark_line))]
 pub fn mark_line(alloc: Global, text: &str, place: usize) -> Result<String, AllocError>
     ensures line { IfOk result (λ line. string_bytes line ≡ mark_line text.now place) }

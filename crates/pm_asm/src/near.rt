@@ -1,4 +1,4 @@
-//! Mnemonics and directives that a word may mean.
+//! Mnemonics and directives that are similar to a word.
 
 ghost use Rattle.std.specs.Prelude.{◌≡◌, option_map};
 ghost use Rattle.std.specs.Map.{lookup};
@@ -9,8 +9,8 @@ ghost use Rattle.pm_asm.specs.Near.{are_off, is_like, is_near, liked, liked_from
 use pm_line::Keyword;
 use pm_opcode::row_at;
 
-/// Whether texts whose first characters differ, each with what stands behind that, are the same but for one letter:
-/// without both of these characters, or without either.
+/// Whether two texts with different first characters differ in one letter only. The arguments are each text, and each
+/// text without its first character.
 fn are_off(word: &[u8], word_rest: &[u8], name: &[u8], name_rest: &[u8]) -> bool
     ensures off { result ≡ are_off word.now word_rest.now name.now name_rest.now }
 {
@@ -19,7 +19,8 @@ fn are_off(word: &[u8], word_rest: &[u8], name: &[u8], name_rest: &[u8]) -> bool
         || word.eq_ignore_ascii_case(name_rest)
 }
 
-/// Whether a word is a name but for one letter: another one, one more or one less.
+/// Whether a word differs from a name in one letter: another letter, one more or one less. Upper and lower case are
+/// equal.
 #[tactic(auto, unfolding(crate::specs::Near::is_near))]
 fn is_near(word: &[u8], name: &[u8]) -> bool
     ensures near { result ≡ is_near word.now name.now }
@@ -39,14 +40,15 @@ fn is_near(word: &[u8], name: &[u8]) -> bool
     }
 }
 
-/// Whether a word is a name in whatever case; with `near` also but for one letter, where it has two or more.
+/// Whether a word is a name in upper or lower case. If `near` is true, a word of two or more letters may also differ in
+/// one letter.
 fn is_like(near: bool, word: &[u8], name: &[u8]) -> bool
     ensures like { result ≡ is_like near word.now name.now }
 {
     word.eq_ignore_ascii_case(name) || near && word.len() >= 2 && is_near(word, name)
 }
 
-/// The first opcode whose name a word is like.
+/// Returns the first opcode whose mnemonic is similar to a word.
 fn opcode_like(near: bool, word: &[u8]) -> Option<u8>
     ensures opcode { result ≡ liked_from near word.now 0 256 }
 {
@@ -59,7 +61,7 @@ fn opcode_like(near: bool, word: &[u8]) -> Option<u8>
     None
 }
 
-/// The directive that a word is like.
+/// Returns the directive that is similar to a word.
 #[tactic(auto, unfolding(pm_source::specs::Line::directives))]
 fn directive_like(near: bool, word: &[u8]) -> Option<Keyword>
     ensures directive { option_map keyword_seen result ≡ lookup (is_like near word.now) directives }
@@ -81,7 +83,7 @@ fn directive_like(near: bool, word: &[u8]) -> Option<Keyword>
     }
 }
 
-/// The directive or the mnemonic that a word is like.
+/// Returns the directive or the mnemonic that is similar to a word.
 #[tactic(auto, unfolding(crate::specs::Near::liked))]
 fn liked(near: bool, word: &[u8]) -> Option<Keyword>
     ensures keyword { option_map keyword_seen result ≡ liked near word.now }
@@ -92,8 +94,8 @@ fn liked(near: bool, word: &[u8]) -> Option<Keyword>
     }
 }
 
-/// The directive or the mnemonic that a word may mean: the one that it is in another case, or else the first that it is
-/// but for one letter.
+/// Returns the directive or mnemonic that a word may mean. A keyword in another case is preferred to one that differs
+/// in one letter.
 #[tactic(auto, unfolding(crate::specs::Near::meant))]
 pub(crate) fn meant(word: &[u8]) -> Option<Keyword>
     ensures keyword { option_map keyword_seen result ≡ meant word.now }

@@ -1,4 +1,4 @@
-//! The program that segments with labels mean.
+//! The program of segments with labels.
 
 ghost use Rattle.std.specs.Prelude.{◌≡◌, ◌≢◌, [], IfOk, IfErr, OnOk, map};
 ghost use Rattle.pm_code.specs.Views.{procedure_seen, program_seen, segment_seen};
@@ -18,7 +18,7 @@ use pm_reader::{LabelledProcedure, LabelledSegment, row_end, source_end};
 use pm_source::AsmFault;
 use std::alloc::Global;
 
-/// The place of the exit code. It fails only where the code is longer than memory can be.
+/// Returns the offset of the exit code. `NoMemory` occurs only if an offset does not fit in 64 bits.
 fn exit_place(code: &Code<'_, '_>) -> Result<usize, AsmFault>
     ensures place { IfOk result (λ place. place ≡ exit_in code.now) }
     ensures refusal { IfErr result (λ fault. fault ≡ NoMemory) }
@@ -33,8 +33,8 @@ fn exit_place(code: &Code<'_, '_>) -> Result<usize, AsmFault>
     Ok(at)
 }
 
-/// A procedure that begins at an offset of its segment, with the places of its labels. Refused by the first of their
-/// faults.
+/// Returns a procedure that begins at offset `at` of its segment, with the offsets of its labels. The error is the
+/// first of its label faults, or `NoMemory`.
 #[tactic(auto, using(pm_reader::proofs::Firsts::first_front))]
 fn resolve_procedure(
     alloc: Global,
@@ -67,7 +67,8 @@ fn resolve_procedure(
     })
 }
 
-/// The procedures of a segment, with the places of their labels. Refused by the first of their faults.
+/// Returns the procedures of a segment, with the offsets of their labels. The error is the first of their label faults,
+/// or `NoMemory`.
 #[tactic(auto, using(crate::proofs::Firsts::procedure_first))]
 fn resolve_procedures(
     alloc: Global,
@@ -89,7 +90,7 @@ fn resolve_procedures(
     Ok(found)
 }
 
-/// A segment, with the places of its labels. Refused by the first of their faults.
+/// Returns a segment with the offsets of its labels. The error is the first of its label faults, or `NoMemory`.
 fn resolve_segment(alloc: Global, segment: &LabelledSegment<'_>) -> Result<Segment, AsmFault>
     ensures faultless { OnOk result (label_faults_from 0 (labelled_segment segment.now).procedures ≡ []) }
     ensures found { IfOk result (λ found. segment_seen found ≡ found_segment (labelled_segment segment.now)) }
@@ -107,9 +108,15 @@ fn resolve_segment(alloc: Global, segment: &LabelledSegment<'_>) -> Result<Segme
     })
 }
 
-/// Segments in the order of the text, with the places of their labels. Refused by the first of their faults: the line
-/// of a label that does not stand in its procedure, or of a short jump that leads backward or more than 127 bytes
-/// forward. `NoMemory`: memory could not grow, or cannot hold code as long as the segments say.
+/// Returns segments in the order of the text, with the offsets of their labels.
+///
+/// # Errors
+///
+/// The first of the label faults, or `NoMemory`:
+///
+/// - `NoLabel`: the procedure does not define the label that is used in this line.
+/// - `Far`: the short jump in this line leads backward, or more than 127 bytes forward.
+/// - `NoMemory`: memory runs out, or an offset does not fit in 64 bits.
 #[tactic(auto, using(pm_reader::proofs::Firsts::first_front))]
 pub(crate) fn resolve_segments(
     alloc: Global,

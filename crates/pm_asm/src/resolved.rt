@@ -1,4 +1,4 @@
-//! Code with its labels looked up, each once: the first of their faults, or the items of a program.
+//! Code with the offsets of its labels. Each label is looked up once.
 
 ghost use Rattle.std.specs.Prelude.{◌≡◌, ◌≢◌, ◌+◌, ◌++◌, [], Err, IfOk, IfErr, IfSome, None, OnOk, map};
 ghost use Rattle.pm_code.specs.Item.{table_place};
@@ -25,8 +25,8 @@ use pm_source::AsmFault;
 use std::alloc::Global;
 use std::slice::from_ref;
 
-/// Where the table of a case jump begins: behind the opcode, the padding and three words. `None` only where it would
-/// pass `usize::MAX`.
+/// Returns the offset of the table of a case jump, which follows the opcode, the padding and three words. Returns
+/// `None` only if the offset exceeds `usize::MAX`.
 fn table_place(at: usize) -> Option<usize>
     ensures place { IfSome result (λ place. place ≡ table_place at) }
     ensures too_long { result ≡ None → IsCountless (table_place at) }
@@ -38,7 +38,7 @@ fn table_place(at: usize) -> Option<usize>
     }
 }
 
-/// A case jump of a line, which begins at an offset, with the places of its labels.
+/// Returns a case jump with the offsets of its labels. `place` is the line and the offset of the instruction.
 #[tactic(auto, using(crate::proofs::Lookups::far_is))]
 fn resolve_case<'a>(
     alloc: Global,
@@ -68,7 +68,7 @@ fn resolve_case<'a>(
     })
 }
 
-/// A short jump of a line, which begins at an offset, with the place of its label.
+/// Returns a short jump with the offset of its label. `place` is the line and the offset of the instruction.
 #[tactic(auto, using(crate::proofs::Lookups::far_is))]
 fn resolve_jump<'a>(
     code: &Code<'_, 'a>,
@@ -91,8 +91,8 @@ fn resolve_jump<'a>(
     Ok(Item::Jump(opcode, found))
 }
 
-/// An item of a line, which begins at an offset, with the places of its labels. Refused by the first of its faults: a
-/// label is unknown, or out of the reach of its short jump.
+/// Returns an item with the offsets of its labels. `at` is the offset of the item. The error is the first of its faults
+/// (`NoLabel` or `Far`), or `NoMemory`.
 fn resolve_item<'a>(
     alloc: Global,
     code: &Code<'_, 'a>,
@@ -124,8 +124,8 @@ fn resolve_item<'a>(
     }
 }
 
-/// Adds the items of a line, which begin at an offset, with the places of their labels. Refused by the first of their
-/// faults.
+/// Appends the items of a line, with the offsets of their labels. `start` is the offset of the first item. The error is
+/// the first of their faults, or `NoMemory`.
 #[tactic(auto, using(pm_reader::proofs::Firsts::first_front))]
 fn resolve_items<'a>(
     alloc: Global,
@@ -151,7 +151,7 @@ fn resolve_items<'a>(
     Ok(())
 }
 
-/// Adds the items of a line, which begins at an offset. Refused by the first of their faults.
+/// Appends the items of a line that begins at offset `at`. The error is the first of their faults, or `NoMemory`.
 pub(crate) fn resolve_row<'a>(
     alloc: Global,
     code: &Code<'_, 'a>,
@@ -171,7 +171,7 @@ pub(crate) fn resolve_row<'a>(
     }
 }
 
-/// The items of code, with the places of its labels. Refused by the first of their faults.
+/// Returns the items of code, with the offsets of their labels. The error is the first of their faults, or `NoMemory`.
 #[tactic(auto, using(pm_reader::proofs::Firsts::first_front, crate::proofs::Firsts::row_first))]
 pub(crate) fn resolve_code(alloc: Global, code: &Code<'_, '_>) -> Result<Vec<Item<usize>>, AsmFault>
     ensures faultless { OnOk result (code_faults (places_in code.now) code.now.start (map row_seen code.now.rows.now)
@@ -189,7 +189,8 @@ pub(crate) fn resolve_code(alloc: Global, code: &Code<'_, '_>) -> Result<Vec<Ite
     Ok(items)
 }
 
-/// The places that the entries of a jump table name. Refused by the first of them whose label is unknown.
+/// Returns the offsets of the labels of jump table entries. The error is `NoLabel` for the first entry whose label is
+/// unknown, or `NoMemory`.
 #[tactic(auto, using(pm_reader::proofs::Firsts::first_front))]
 pub(crate) fn resolve_entries<'a>(
     alloc: Global,

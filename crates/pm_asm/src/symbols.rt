@@ -1,4 +1,4 @@
-//! Where the procedures and the labels of a text stand, as the debugger counts.
+//! The positions of procedures and labels, as the debugger counts them.
 
 ghost use Rattle.std.specs.Prelude.{◌≡◌, ◌≢◌, ◌∷◌, ◌++◌, [], Err, IfOk, IfErr, OnOk, Ok, Some, map, option_map};
 ghost use Rattle.pm_line.specs.Views.{row_seen, text_seen};
@@ -27,13 +27,13 @@ struct Symbol<'a> {
     segment: u8,
     /// The number of the procedure.
     procedure: usize,
-    /// How many bytes it stands behind where the procedure is entered.
+    /// The offset in bytes from the entry of the procedure.
     offset: usize,
-    /// The label; none of the procedure itself.
+    /// The label, or `None` for the procedure itself.
     label: Option<&'a [u8]>,
 }
 
-/// Code in which labels are looked up, and the numbers of its segment and its procedure.
+/// Code with a table of its labels, and the numbers of its segment and its procedure.
 #[derive(Clone, Copy)]
 struct Numbered<'r, 'a> {
     segment: u8,
@@ -41,7 +41,7 @@ struct Numbered<'r, 'a> {
     code: Code<'r, 'a>,
 }
 
-/// A label of code.
+/// Returns the symbol of a label.
 fn label_symbol<'a>(numbered: &Numbered<'_, 'a>, label: &'a [u8]) -> Symbol<'a>
     ensures symbol { symbol_seen result ≡ symbols.label_symbol numbered.now.segment numbered.now.procedure
         numbered.now.code.start (map row_seen numbered.now.code.rows.now) label.now }
@@ -55,7 +55,7 @@ fn label_symbol<'a>(numbered: &Numbered<'_, 'a>, label: &'a [u8]) -> Symbol<'a>
     }
 }
 
-/// Adds the labels of code.
+/// Appends the labels of code.
 fn push_labels<'a>(
     numbered: &Numbered<'_, 'a>,
     found: &mut Vec<Symbol<'a>>,
@@ -72,7 +72,7 @@ fn push_labels<'a>(
     Ok(())
 }
 
-/// Adds a procedure that begins at an offset of its segment, and its labels.
+/// Appends a procedure that begins at offset `at` of its segment, and its labels.
 fn push_procedure<'a>(
     alloc: Global,
     numbers: (u8, usize),
@@ -104,7 +104,7 @@ fn push_procedure<'a>(
     push_labels(&numbered, found)
 }
 
-/// Adds the procedures of a segment, and their labels.
+/// Appends the procedures of a segment, and their labels.
 #[tactic(auto, unfolding(crate::specs::Symbols::symbols_from))]
 fn push_procedures<'a>(
     alloc: Global,
@@ -125,7 +125,7 @@ fn push_procedures<'a>(
     Ok(())
 }
 
-/// The procedures and labels of segments, in the order of the text.
+/// Returns the procedures and labels of segments, in the order of the text.
 #[tactic(auto, unfolding(crate::specs::Symbols::symbols))]
 fn symbols_of<'a>(
     alloc: Global,
@@ -141,7 +141,7 @@ fn symbols_of<'a>(
     Ok(found)
 }
 
-/// What a line says behind its numbers.
+/// Returns the name in a symbol's line.
 fn symbol_name<'a>(label: Option<&'a [u8]>) -> &'a [u8]
     ensures name { result.now ≡ symbol_name (option_map text_seen label.entry) }
 {
@@ -151,7 +151,7 @@ fn symbol_name<'a>(label: Option<&'a [u8]>) -> &'a [u8]
     }
 }
 
-/// Adds the line of a symbol.
+/// Appends the line of a symbol.
 #[tactic(auto, unfolding(crate::specs::Symbols::symbol_line))]
 fn push_line(alloc: Global, lines: &mut Vec<u8>, symbol: &Symbol<'_>) -> Result<(), AllocError>
     ensures line { OnOk result (lines.new.items ≡ lines.old.items ++ symbol_line (symbol_seen symbol.now)) }
@@ -166,7 +166,7 @@ fn push_line(alloc: Global, lines: &mut Vec<u8>, symbol: &Symbol<'_>) -> Result<
     Ok(())
 }
 
-/// The lines of symbols.
+/// Returns the lines of symbols.
 fn lines_of(alloc: Global, symbols: &[Symbol<'_>]) -> Result<Vec<u8>, AllocError>
     ensures lines { IfOk result (λ lines. lines.items ≡ symbol_lines (symbols_seen symbols.now)) }
 {
@@ -177,10 +177,11 @@ fn lines_of(alloc: Global, symbols: &[Symbol<'_>]) -> Result<Vec<u8>, AllocError
     Ok(lines)
 }
 
-/// A line for each procedure of a text and for each label, in the order of the text: `SSS PPP OOOOO NAME`, with the
-/// numbers of the segment and the procedure, the offset, and the label, or `.PROC` for the procedure itself. The offset
-/// is counted in bytes from where the procedure is entered, as the debugger counts it. The refusals are those of
-/// `assemble`.
+/// Returns a line for each procedure and each label of source text, in the order of the text.
+///
+/// The form of a line is `SSS PPP OOOOO NAME`: the segment, the procedure, the offset, and the label. For the procedure
+/// itself, the name is `.PROC`. The offset is in bytes from the entry of the procedure, as the debugger counts it. The
+/// errors are those of `assemble`.
 #[tactic(auto, using(crate::proofs::SymbolPlaces::symbols_refused))]
 pub fn assemble_symbols(alloc: Global, text: &str) -> Result<Vec<u8>, AsmFault>
     ensures symbols { IfOk result (λ lines. symbol_text text.now ≡ Ok lines.items) }

@@ -1,22 +1,22 @@
-//! What a few lines are told, computed, and the examples that are shown. The functions do nothing.
+//! Worked examples: hints for a few lines, and the examples in the hints. The functions do nothing.
 
 ghost use Rattle.pm_asm.specs.HintTexts.{ExamplesAreTaken};
 ghost use Rattle.pm_asm.specs.Marks.{WorkedMarks};
 ghost use Rattle.pm_asm.specs.WorkedHints.{WorkedHints};
 
-/// What a few lines are told.
+/// The hints for a few lines.
 #[tactic(auto, using(crate::proofs::Computed::worked_hints))]
 pub fn worked_hints()
     ensures law { WorkedHints }
 {}
 
-/// Where a few lines are marked.
+/// The positions of the marks in a few lines.
 #[tactic(auto, using(crate::proofs::Computed::worked_marks))]
 pub fn worked_marks()
     ensures law { WorkedMarks }
 {}
 
-/// The example that is shown of an instruction's operands is taken.
+/// The example operands in the hint for an instruction are valid.
 #[tactic(auto, using(crate::proofs::Examples::examples_are_taken))]
 pub fn examples_are_taken()
     ensures law { ExamplesAreTaken }

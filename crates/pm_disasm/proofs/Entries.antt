@@ -1,4 +1,4 @@
--- The entries of a jump table, one by one.
+-- The entries of a jump table, one after another.
 use Rattle.std.proofs.Common.{◌≡◌, ◌<◌, ◌≤◌, ℕ, suc, ◌+◌, ◌-◌, ◌*◌, Bool, true, false, List, [], ◌∷◌, ◌++◌, refl, sym, ap, ◌∙◌, arith, append_assoc, append-nil}
 use Rattle.std.specs.Prelude.{◌&&◌, nat_le}
 use Rattle.std.specs.List.{list_all}
@@ -19,7 +19,7 @@ apart false b c d = refl
 abbrev Inside : List ℕ → Attributes → ℕ → ℕ → ℕ → Bool
 Inside segment a end at w = nat_le (a.enter + w) at && nat_le (at - w) end
 
--- the next entry and those behind it
+-- The next entry and those after it.
 next_inside : (segment : List ℕ) (a : Attributes) (end k count w : ℕ) → k < count → w ≡ word_in segment (a.jtab - 10 - 2 * k)
     → are_inside segment a end a.jtab k (count - k) ≡ (Inside segment a end (a.jtab - 10 - 2 * k) w
     && are_inside segment a end a.jtab (k + 1) (count - (k + 1)))

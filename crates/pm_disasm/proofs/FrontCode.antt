@@ -1,4 +1,4 @@
--- What is read at a place of code.
+-- The instruction at an offset of code.
 use Rattle.std.proofs.Common.{◌≡◌, ◌<◌, ◌≤◌, ℕ, ◌+◌, ◌-◌, Bool, true, false, cond, List, ◌++◌, length, take, drop, replicate}
 use Rattle.std.proofs.Common.{Ok, Err, Some, None, refl, sym, ap, ◌∙◌, arith, inl, inr, length-append, length-drop, drop-drop}
 use Rattle.std.proofs.Math.Seq.{drop-append_seam}
@@ -15,11 +15,11 @@ use Rattle.pm_opcode.specs.Reading.{reading}
 use Rattle.pm_opcode.proofs.ReadAgain.{length-named, length-named_by, length-operands}
 use Rattle.pm_disasm.specs.Split.{front, has_zero_padding, item_of, standing_at}
 
--- the bytes from an offset on are those that stand there
+-- The bytes from an offset on are those that were put there.
 pub drop_standing : (at : ℕ) (bytes : List ℕ) → drop at (standing_at at bytes) ≡ bytes
 drop_standing at bytes = ap (λ n. drop n (replicate at 0 ++ bytes)) (sym (length-replicate at 0)) ∙ drop-append_seam (replicate at 0) bytes
 
--- only the bytes from its place on tell what is read
+-- Only the bytes from the offset on determine the instruction.
 pub same_reading : (a b : List ℕ) (at : ℕ) → drop at a ≡ drop at b → reading a at ≡ reading b at
 unfolding reading
 same_reading a b at e = rw e refl
@@ -40,7 +40,7 @@ clear_count Jumps i h = absurd (true≢false h)
 clear_count Typed i h = elim (cases_Bool (is_sized i.a)) [ inl e ↦ (rw e refl) | inr e ↦ (rw e refl) ]
 clear_count Unassigned i h = refl
 
--- Where an instruction stands that was read.
+-- The position of a decoded instruction.
 pub record Bounds (bytes : List ℕ) (at : ℕ) (i : Instr) : Type 0 where
   pub some : 0 < i.len
   pub within : at + i.len ≤ length bytes
@@ -82,7 +82,7 @@ named_again bytes at i b = elim (cases_Bool (names_bytes (form_of i.op))) [
   | inr n ↦ rw n refl
 ]
 
--- what stands at the front, where an instruction was read
+-- The instruction at the beginning, if one was decoded.
 pub front_read : (bytes : List ℕ) (at : ℕ) (i : Instr) → reading bytes at ≡ Ok i → IsSpelledAt bytes at i → front at (drop at bytes)
     ≡ cond (has_zero_padding (form_of i.op) (is_odd at) (drop at bytes))
     (Some (record { size = i.len; item = item_of (form_of i.op) i (named_by i bytes) (at + i.len) })) None

@@ -1,4 +1,4 @@
--- What is written for code are items of its bytes.
+-- The items for code have its bytes.
 use Rattle.std.proofs.Common.{◌≡◌, ℕ, zero, suc, ◌+◌, ◌-◌, Bool, true, false, cond, List, [], ◌∷◌, ◌++◌, length, map}
 use Rattle.std.proofs.Common.{take, drop, refl, sym, ap, ◌∙◌, subst, arith, append-nil, IfSome, Option, Some, None}
 use Rattle.std.specs.Prelude.{◌&&◌, nat_lt}
@@ -55,7 +55,7 @@ part_joins boundaries allowed at bytes n (Some item) b e h = chosen (leads bound
     chosen true = record { sound = (h.sound, tt); joined = append-nil (item_bytes at item) ∙ h.spelled; ends = omega (arith, h.sized, e) }
     chosen false = singles_join at (take n bytes) (take-bytes n bytes b)
 
--- What is written from any place of the code on.
+-- The items for code from any offset on.
 pub joined : (forced boundaries : List ℕ) (allowed : Bool) (skip at : ℕ) (bytes : List ℕ) → AllByRecursion IsByte bytes
     → Joins (at + skip) (drop skip bytes) (written boundaries allowed (parts forced skip at bytes))
 joined forced boundaries allowed zero at [] h = record { sound = tt; joined = refl; ends = omega arith }
@@ -89,7 +89,7 @@ joined forced boundaries allowed zero at (b ∷ bytes) h =
         let zero_more : at ≡ at + 0 = omega arith in
         subst (λ n. Joins n (b ∷ bytes) (w ++ more)) zero_more (subst (λ bs. Joins at bs (w ++ more)) whole all)
 
--- What is written for code.
+-- The items for code.
 pub code_joined : (forced : List ℕ) (allowed : Bool) (at : ℕ) (code : List ℕ) → AllByRecursion IsByte code → Joins at code (items_in forced allowed at code)
 code_joined forced allowed at code h =
     let whole : List ℕ = ends_of (at + length code) (parts forced 0 at code) in

@@ -12,7 +12,7 @@ joined_put : (b : Bool) (x : List ℕ) (xs : List (List ℕ)) → joined (put_if
 joined_put true x xs = sym (append_assoc x (10 ∷ []) (joined xs))
 joined_put false x xs = refl
 
--- what stands at a place, and the lines behind it
+-- The lines of an offset, and the lines after them.
 pub joined_at : (test : ℕ → Bool) (exit at : ℕ) (rest : List (List ℕ))
     → joined (lines_at_by test exit at rest) ≡ joined (lines_at_by test exit at []) ++ joined rest
 joined_at test exit at rest =
@@ -24,7 +24,7 @@ joined_at test exit at rest =
     ∙ sym (append_assoc (joined (put_if (test at) label [])) (joined mark) (joined rest))
     ∙ ap (λ u. u ++ joined rest) (sym (joined_put (test at) label mark))
 
--- one item more
+-- One more item.
 pub item_joined : (test : ℕ → Bool) (exit at : ℕ) (before after : List ℕ) (item : Item ℕ) (rest : List (Item ℕ))
     → after ≡ (before ++ joined (lines_at_by test exit at [])) ++ (codes "  " ++ (shown_item item ++ 10 ∷ []))
     → after ++ joined (code_lines_by test exit (at + size at item) rest) ≡ before ++ joined (code_lines_by test exit at (item ∷ rest))
@@ -40,7 +40,7 @@ item_joined test exit at before after item rest e =
     ∙ ap (λ u. before ++ (here ++ u)) (sym split)
     ∙ ap (λ u. before ++ u) (sym (joined_at test exit at ((32 ∷ 32 ∷ shown_item item) ∷ code_lines_by test exit (at + size at item) rest)))
 
--- the item that is written for a part is the part's
+-- The item that is shown for a part is that of the part.
 pub led_same : (test : ℕ → Bool) (allowed : Bool) (o : Option (Item ℕ)) (i : Item ℕ) → Some i ≡ item_led test allowed o → o ≡ Some i
 led_same test allowed None i e = absurd (cc)
 led_same test allowed (Some j) i e = go (leading test allowed j) refl
@@ -56,7 +56,7 @@ byte_line : (b : ℕ) → codes "  .BYTE " ++ (decimal b ++ 10 ∷ []) ≡ codes
 unfolding shown_item
 byte_line b = ap (λ u. codes "  .BYTE " ++ (u ++ 10 ∷ [])) (sym (append-nil (decimal b)))
 
--- one byte more
+-- One more byte.
 pub byte_joined : (test : ℕ → Bool) (exit at : ℕ) (before after : List ℕ) (b : ℕ) (rest : List (Item ℕ))
     → after ≡ (before ++ joined (lines_at_by test exit at [])) ++ (codes "  .BYTE " ++ (decimal b ++ 10 ∷ []))
     → after ++ joined (code_lines_by test exit (at + 1) rest) ≡ before ++ joined (code_lines_by test exit at (OneByte b ∷ rest))

@@ -1,4 +1,4 @@
--- What is read in bytes is what is read in more of them, where it ends within the first ones.
+-- The instruction at the beginning of bytes is the same if more bytes follow, as long as it ends inside the first ones.
 use Rattle.std.proofs.Common.{◌≡◌, ◌<◌, ◌≤◌, ℕ, zero, suc, ◌+◌, ◌-◌, Bool, true, false, List, [], ◌∷◌, ◌++◌, length, map, take}
 use Rattle.std.proofs.Common.{drop, get_or, refl, sym, ap, ◌∙◌, arith, append_assoc, length-take-le, Option, Some, None, option_map}
 use Rattle.std.specs.Prelude.{nat_le}
@@ -21,7 +21,7 @@ abbrev size_or : ℕ → Option Front → ℕ
 size_or n None = n
 size_or n (Some f) = f.size
 
--- bytes that are followed by more read as they do alone
+-- Bytes that are followed by more bytes are read in the same way.
 again : (at : ℕ) (bytes more : List ℕ) (o : Option Front) → IsRead at bytes → front at bytes ≡ o → front at (bytes ++ more) ≡ o
 again at bytes more o r e =
     let s : List ℕ = spelling (is_odd at) 0 r.instr r.named in
@@ -32,7 +32,7 @@ again at bytes more o r e =
     ∙ ap (front at) (sym r.whole)
     ∙ e
 
--- so do the first ones, as many as the instruction has and more
+-- The same holds for the first bytes, if they include the instruction.
 cut_again : (at m : ℕ) (bytes : List ℕ) (f : Front) → IsRead at bytes → front at bytes ≡ Some f → f.size ≤ m → front at (take m bytes) ≡ Some f
 cut_again at m bytes f r e small =
     let s : List ℕ = spelling (is_odd at) 0 r.instr r.named in
@@ -47,7 +47,7 @@ cut_again at m bytes f r e small =
     ∙ ap (front at) (sym r.whole)
     ∙ e
 
--- What is read in the first bytes is what is read in all, where it ends within the first ones.
+-- The instruction in the first bytes is that in all bytes, if it ends inside the first ones.
 pub front_cut : (at m : ℕ) (bytes : List ℕ) → AllByRecursion IsByte bytes → front at (take m bytes) ≡ up_to m (front at bytes)
 front_cut at m bytes h = both (front at (take m bytes)) (front at bytes) refl refl
   where
@@ -79,14 +79,14 @@ pub length-fronts_of : (at : ℕ) (bytes : List ℕ) → length (fronts_of at by
 length-fronts_of at [] = refl
 length-fronts_of at (b ∷ bytes) = ap suc (length-fronts_of (at + 1) bytes)
 
--- what is read at an offset
+-- The instruction at an offset.
 pub fronts_at : (at k : ℕ) (bytes : List ℕ) → k < length bytes → get_or (fronts_of at bytes) k None ≡ front (at + k) (drop k bytes)
 fronts_at at k [] h = absurd (omega (arith, h))
 fronts_at at zero (b ∷ bytes) h = ap (λ n. front n (b ∷ bytes)) (let e : at ≡ at + 0 = omega arith in e)
 fronts_at at (suc k) (b ∷ bytes) h =
     fronts_at (at + 1) k bytes (omega (arith, h)) ∙ ap (λ n. front n (drop k bytes)) (let e : at + 1 + k ≡ at + suc k = omega arith in e)
 
--- What was read at each offset of a segment tells what is read in the code with which it begins.
+-- The instruction at each offset of a segment determines the instructions in code at the beginning of the segment.
 pub fronts_tell : (fs : List (Option code.Front)) (segment bytes : List ℕ) (end : ℕ) → AreFronts fs segment → AllByRecursion IsByte segment
     → end ≤ length segment → bytes ≡ take end segment → TellFronts fs bytes
 fronts_tell fs segment bytes end a h l e =
@@ -106,7 +106,7 @@ fronts_tell fs segment bytes end a h l e =
           ∙ sym (ap (front at) there ∙ front_cut at (end - at) (drop at segment) (drop-bytes at segment h));
     }
 
--- what was read up to an offset and there, with what is read behind it
+-- The instructions so far and the one at this offset, followed by the remaining ones.
 pub next_front : (segment : List ℕ) (at : ℕ) (fs : List (Option code.Front)) (f : Option code.Front) (more : List (Option code.Front)) → at < length segment
     → more ≡ fs ++ f ∷ [] → option_map front_seen f ≡ front at (drop at segment)
     → map (option_map front_seen) more ++ fronts_of (at + 1) (drop (at + 1) segment) ≡ map (option_map front_seen) fs ++ fronts_of at (drop at segment)
@@ -124,7 +124,7 @@ next_front segment at fs f more h e r =
     ∙ ap (λ g. map seen fs ++ g ∷ rest) r
     ∙ ap (λ gs. map seen fs ++ gs) (sym split)
 
--- what is read at a place has bytes
+-- The instruction at an offset has at least one byte.
 pub some_size : (bytes : List ℕ) (at : ℕ) (f : code.Front) → AllByRecursion IsByte bytes → Some (front_seen f) ≡ front at (drop at bytes) → 0 < f.size
 some_size bytes at f h e =
     (given (Fronts at (drop at bytes)) (front at (drop at bytes)) (front_seen f) (sym e) (fronts at (drop at bytes) (drop-bytes at bytes h))).some

@@ -1,4 +1,4 @@
--- The words of a table, one after the other.
+-- The words of a table, one after another.
 use Rattle.std.proofs.Common.{◌≡◌, ◌<◌, ◌≤◌, ℕ, ◌+◌, ◌-◌, ◌*◌, ◌/◌, ◌%◌, List, [], ◌∷◌, length, drop, get_or, sym, ap, ◌∙◌, arith, length-drop}
 use Rattle.std.specs.Prelude.{Bool, true, false, ◌&&◌}
 use Rattle.std.specs.List.{list_all}
@@ -6,7 +6,7 @@ use Rattle.pm_words.specs.Words.{words_of}
 use Rattle.pm_code.proofs.Words.{none_left, words_at}
 use Rattle.pm_disasm.specs.Split.{table_places}
 
--- the places of a table from its word k on
+-- The targets of a table from its word `k` on.
 pub next_place : (bs : List ℕ) (at k : ℕ) → 2 * k + 1 < length bs → table_places (at + 2 * k) (words_of (drop (2 * k) bs))
     ≡ ((at + 2 * k + 65536 - (get_or bs (2 * k) 0 + 256 * get_or bs (2 * k + 1) 0)) % 65536)
     ∷ table_places (at + 2 * (k + 1)) (words_of (drop (2 * (k + 1)) bs))
@@ -19,7 +19,7 @@ next_place bs at k h =
 pub no_place : (bs : List ℕ) (at k : ℕ) → length bs / 2 ≤ k → table_places (at + 2 * k) (words_of (drop (2 * k) bs)) ≡ []
 no_place bs at k h = ap (table_places (at + 2 * k)) (none_left (drop (2 * k) bs) (omega (arith, length-drop (2 * k) bs)))
 
--- a test of all places of a table, place by place
+-- A test of all targets of a table, one after another.
 pub table_out : (test : ℕ → Bool) (bs : List ℕ) (at k p : ℕ) (whole : Bool) → 2 * k + 1 < length bs
     → p ≡ (at + 2 * k + 65536 - (get_or bs (2 * k) 0 + 256 * get_or bs (2 * k + 1) 0)) % 65536 → test p ≡ false
     → list_all test (table_places (at + 2 * k) (words_of (drop (2 * k) bs))) ≡ whole → false ≡ whole

@@ -1,4 +1,4 @@
--- Code as it is read with a count of entries.
+-- Code, read with a number of jump table entries.
 use Rattle.std.specs.Prelude.{◌≡◌, ◌<◌, ◌≤◌, ℕ, ◌+◌, ◌-◌, ◌*◌, Bool, ◌&&◌, nat_le, List, ◌∷◌, length, map, slice_index}
 use Rattle.std.specs.Int.{w8, cast_unsigned}
 use Rattle.std.specs.List.{AllByRecursion, list_all}
@@ -8,32 +8,32 @@ use Rattle.pm_disasm.specs.Follow.{Follow}
 use Rattle.pm_disasm.specs.Split.{Part, are_after, code_with, end_with, ends_of, entry_places, parts}
 use Rattle.pm_disasm.specs.Views.{IsSetOf, part_seen}
 
--- A table that lies in a segment, its code places below it; its level is the byte above its place.
+-- An attribute table in a segment. The offsets of its code are below it. Its level is the byte above its offset.
 pub record IsTable (segment : List ℕ) (a : Attributes) : Type 0 where
   pub within : a.jtab + 2 ≤ length segment
   pub enter : a.enter + 8 ≤ a.jtab
   pub exit : a.exit + 8 ≤ a.jtab
   pub level : slice_index segment (a.jtab + 1) < 256 → cast_unsigned w8 a.level ≡ slice_index segment (a.jtab + 1)
 
--- the forced places of a count of entries: the exit code and the places of the entries
+-- The forced offsets for `t` entries: that of the exit code, followed by the targets of the entries.
 abbrev pub forced_with : List ℕ → Attributes → ℕ → List ℕ
 forced_with segment a t = a.exit ∷ entry_places segment a.jtab 0 t
 
 abbrev pub parts_with : List ℕ → Attributes → ℕ → List Part
 parts_with segment a t = parts (forced_with segment a t) 0 a.enter (code_with segment a t)
 
--- no place lies before the code or behind its end
+-- No target is before the code or after its end.
 abbrev pub are_inside : List ℕ → Attributes → ℕ → ℕ → ℕ → ℕ → Bool
 are_inside segment a end jtab k count =
     are_after segment a.enter jtab k count && list_all (λ place. nat_le place end) (entry_places segment jtab k count)
 
--- Whether code can be read with a count of entries, whatever it takes.
+-- Whether code can be read with `t` entries, for any number of entries that it uses.
 abbrev pub can_read : List ℕ → Attributes → ℕ → Bool
 can_read segment a t =
     nat_le (a.enter + 8 + 2 * t) a.jtab && (nat_le a.exit (end_with a t)
     && are_inside segment a (end_with a t) a.jtab 0 t)
 
--- What is read with a count of entries.
+-- The code, read with `t` entries.
 pub record IsReading (segment : List ℕ) (a : Attributes) (t : ℕ) (r : Reading) : Type 0 where
   pub forced : r.forced.items ≡ forced_with segment a t
   pub end : r.end ≡ end_with a t

@@ -1,4 +1,4 @@
--- What the text of code says of its bytes.
+-- What the text of code states about its bytes.
 use Rattle.std.specs.Prelude.{◌≡◌, ℕ, ◌+◌, ◌<◌, ◌≤◌, Bool, true, false, List, ◌++◌, length, drop, Option, Some, None}
 use Rattle.std.specs.Int.{w8, cast_signed}
 use Rattle.std.specs.List.{AllByRecursion, AllZip}
@@ -11,13 +11,12 @@ use Rattle.pm_code.specs.Laws.{Holds, IsSameSegment}
 use Rattle.pm_disasm.specs.Shown.{file_text}
 use Rattle.pm_code.specs.Shown.{program_text}
 
--- An instruction is read in its own bytes, whatever follows.
+-- The bytes of an instruction are read as this instruction, for any bytes after it.
 abbrev pub InstructionIsRead : Type 0
 InstructionIsRead = (at : ℕ) (item : Item ℕ) (rest : List ℕ) → IsItem at item → is_instruction item ≡ true
     → front at (item_bytes at item ++ rest) ≡ Some (record { size = size at item; item = Some item })
 
--- What is written for code: items of the code's bytes, which name boundaries alone; and each forced place is a
--- boundary.
+-- The items for code have the bytes of the code, and name only boundaries. Each forced offset is a boundary.
 pub record IsWritten (forced : List ℕ) (at : ℕ) (code : List ℕ) (items : List (Item ℕ)) : Type 0 where
   pub sound : AreItems at items
   pub bytes : code_bytes at items ≡ code
@@ -25,12 +24,12 @@ pub record IsWritten (forced : List ℕ) (at : ℕ) (code : List ℕ) (items : L
   pub places : (place : ℕ) → IsIn forced place → at ≤ place → place ≤ at + length code
       → IsIn (boundaries at items) place
 
--- Whatever count of jump entries is taken, the parts of code are items of the same bytes.
+-- The items for code have the same bytes, for any forced offsets.
 abbrev pub SplitKeepsBytes : Type 0
 SplitKeepsBytes = (forced : List ℕ) (allowed : Bool) (at : ℕ) (code : List ℕ) → AllByRecursion IsByte code
     → IsWritten forced at code (items_in forced allowed at code)
 
--- what the table of a procedure says
+-- The attribute table of a procedure.
 abbrev pub attributes_of : ℕ → Procedure → Attributes
 attributes_of number p =
     record {
@@ -43,7 +42,7 @@ attributes_of number p =
       jtab = jtab_of p;
     }
 
--- the item of an instruction that stands at an offset of a segment
+-- The item of the instruction at an offset of a segment.
 abbrev pub item_in : Option Front → Option (Item ℕ)
 item_in None = None
 item_in (Some f) = f.item
@@ -51,29 +50,29 @@ item_in (Some f) = f.item
 unfoldable pub item_at : List ℕ → ℕ → Option (Item ℕ)
 item_at segment at = item_in (front at (drop at segment))
 
--- A procedure stands in a segment.
+-- The segment contains the procedure.
 pub record StandsIn (segment : List ℕ) (number : ℕ) (p : Procedure) : Type 0 where
   pub procedure : IsProcedure p
   pub rest : List ℕ
   pub there : drop p.start segment ≡ procedure_bytes number p ++ rest
   pub bytes : AllByRecursion IsByte segment
 
--- For a procedure without a byte that is no instruction its own count of entries fits, and it is what is read with that
--- count.
+-- If all items of a procedure are instructions, its own number of entries fits. Reading it with that number results in
+-- the procedure.
 abbrev pub OwnCountFits : Type 0
 OwnCountFits = (segment : List ℕ) (number : ℕ) (p : Procedure) → StandsIn segment number p → AreInstructions p.items
     → (procedure_with segment (attributes_of number p) true (length p.entries) ≡ p)
     × (fits segment (attributes_of number p) (length p.entries) ≡ true)
 
--- No smaller count fits there.
+-- No smaller number of entries fits such a procedure.
 abbrev pub SmallerCountFails : Type 0
 SmallerCountFails =
     (segment : List ℕ) (number : ℕ) (p : Procedure) (t : ℕ) → StandsIn segment number p → AreInstructions p.items
     → t < length p.entries
     → fits segment (attributes_of number p) t ≡ false
 
--- A procedure of a program is shown as one of the same bytes at the same place: as itself where all its items are
--- instructions.
+-- A procedure of a program is shown as one with the same bytes at the same offset. It is shown as itself if all its
+-- items are instructions.
 pub record IsShownAs (number : ℕ) (p q : Procedure) : Type 0 where
   pub procedure : IsProcedure q
   pub start : q.start ≡ p.start
@@ -86,7 +85,7 @@ ProcedureIsShown =
     (segment : List ℕ) (number : ℕ) (p : Procedure) → StandsIn segment number p
     → IsShownAs number p (procedure_of segment (attributes_of number p))
 
--- The text of a code file that holds a program is that of a program with the same bytes.
+-- The text of a code file that contains a program is the text of a program with the same bytes.
 abbrev pub ProgramIsShown : Type 0
 ProgramIsShown = (file : List ℕ) (ss : List Segment) → IsProgram ss → FitSlots ss → Holds file ss
     → (ts : List Segment) × IsProgram ts × AllZip IsSameSegment ss ts × (file_text file ≡ program_text ts)

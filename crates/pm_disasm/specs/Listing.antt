@@ -1,4 +1,4 @@
--- The listing of a code file: its own bytes at their own offsets, whatever laid them out.
+-- The listing of a code file: its own bytes at their own offsets, for any layout of the file.
 use Rattle.std.specs.Prelude.{◌≡◌, ◌≤◌, ℕ, zero, suc, ◌+◌, ◌-◌, ◌*◌, List, [], ◌∷◌, ◌++◌, codes, drop, length, reverse}
 use Rattle.std.specs.Prelude.{take, nat_lt, if◌then◌else◌, Option, Some, None}
 use Rattle.std.specs.List.{AllByRecursion}
@@ -12,32 +12,32 @@ use Rattle.pm_code.specs.Shown.{entry_line, joined, shown_item}
 use Rattle.pm_disasm.specs.Shown.{missing_line}
 use Rattle.pm_disasm.specs.Split.{procedure_of}
 
--- a line of a segment: so many of its bytes from an offset on, and what they are
+-- A line of a segment: `count` of its bytes from offset `at`, and their description.
 abbrev pub stored : List ℕ → ℕ → ℕ → ℕ → List ℕ → Listed
 stored segment procedure at count what =
     record { procedure = procedure; at = at; bytes = take count (drop at segment); what = what }
 
--- items that stand one behind another from an offset on
+-- Adjacent items from offset `at` on.
 abbrev pub stored_items : List ℕ → ℕ → ℕ → List (Item ℕ) → List Listed
 stored_items segment number at [] = []
 stored_items segment number at (item ∷ items) =
     stored segment number at (size at item) (shown_item item)
     ∷ stored_items segment number (at + size at item) items
 
--- a jump table from its lowest word upward, so its last entry comes first
+-- A jump table from its lowest word upward. The last entry comes first.
 abbrev pub stored_entries : List ℕ → ℕ → ℕ → List ℕ → List Listed
 stored_entries segment number at [] = []
 stored_entries segment number at (place ∷ places) =
     stored segment number at 2 (entry_line place) ∷ stored_entries segment number (at + 2) places
 
--- the procedure of a table, by the number in it: its items, its jump table and its attributes
+-- The procedure of an attribute table, with the number in it: its items, its jump table and its attributes.
 abbrev pub stored_procedure : List ℕ → Attributes → Procedure → List Listed
 stored_procedure segment a p =
     stored_items segment a.procedure a.enter p.items
     ++ (stored_entries segment a.procedure (a.jtab - 8 - 2 * length p.entries) (reverse p.entries)
     ++ stored segment a.procedure (a.jtab - 8) 10 (codes ".ATTR") ∷ [])
 
--- What is listed for a procedure by its table: of one whose exit code lies before its code the comment alone.
+-- The listing of a procedure from its attribute table. If its exit code is before its code, it is only the comment.
 abbrev pub table_listing : ℕ → List ℕ → Attributes → List ℕ
 table_listing slot segment a =
     if nat_lt a.exit a.enter then joined (missing_line a.procedure)
@@ -47,40 +47,40 @@ abbrev pub table_listing_or : ℕ → List ℕ → ℕ → Option Attributes →
 table_listing_or slot segment p None = joined (missing_line p)
 table_listing_or slot segment p (Some a) = table_listing slot segment a
 
--- so many procedures of a segment, from procedure p on
+-- The listing of `count` procedures of a segment, from number `p` on.
 abbrev pub tables_listing : ℕ → List ℕ → ℕ → ℕ → List ℕ
 tables_listing slot segment p zero = []
 tables_listing slot segment p (suc count) =
     table_listing_or slot segment p (attributes_in segment p) ++ tables_listing slot segment (p + 1) count
 
--- the dictionary of a segment with the highest word
+-- The dictionary of a segment with the highest word.
 abbrev pub stored_dictionary : List ℕ → Listed
 stored_dictionary segment =
     let at = length segment - (2 + 2 * procedures_in segment) in
     stored segment 0 at (length segment - at) (codes ".DICT")
 
--- a slot's segment, if it has one
+-- The segment of a slot, if it has one.
 abbrev pub slot_listing : ℕ → Option (List ℕ) → List ℕ
 slot_listing n None = []
 slot_listing n (Some segment) =
     tables_listing n segment 1 (procedures_in segment) ++ listed_line n (stored_dictionary segment)
 
--- so many slots of a code file, from slot n on
+-- The listing of `count` slots of a code file, from slot `n` on.
 abbrev pub slots_listing : List ℕ → ℕ → ℕ → List ℕ
 slots_listing file n zero = []
 slots_listing file n (suc count) = slot_listing n (segment_in file n) ++ slots_listing file (n + 1) count
 
--- The listing of a code file: its segments by ascending slot.
+-- The listing of a code file: its segments in ascending order of their slots.
 unfoldable pub file_listing : List ℕ → List ℕ
 file_listing file = slots_listing file 0 16
 
--- The bytes of each line of a procedure are those of its segment at the offset that the line names.
+-- The bytes of each line of a procedure are those of its segment at the offset in the line.
 abbrev pub LinesAreStored : Type 0
 LinesAreStored = (segment : List ℕ) (a : Attributes)
     → AllByRecursion (λ l. l.bytes ≡ take (length l.bytes) (drop l.at segment))
     (stored_procedure segment a (procedure_of segment a))
 
--- The listing of the bytes of a program's segment is that of the program, where all its items are instructions.
+-- The listing of the bytes of a program's segment is that of the program, if all its items are instructions.
 abbrev pub ListingIsProgrammed : Type 0
 ListingIsProgrammed = (s : Segment) → IsSegment s → length (segment_bytes s) ≤ 65534
     → AllByRecursion (λ p. AreInstructions p.items) s.procedures

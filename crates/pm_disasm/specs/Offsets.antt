@@ -1,4 +1,4 @@
--- What is read at each offset of a segment.
+-- The instruction at each offset of a segment.
 use Rattle.std.specs.Prelude.{◌≡◌, true, ◌<◌, ◌≤◌, ℕ, ◌+◌, ◌-◌, ◌^◌, ◌&&◌, nat_lt, nat_le, List, [], ◌∷◌}
 use Rattle.std.specs.Prelude.{length, map, drop, get_or, if◌then◌else◌, Option, Some, None, option_map}
 use Rattle.std.specs.List.{list_any}
@@ -10,32 +10,32 @@ use Rattle.pm_code.specs.Program.{entries_used}
 use Rattle.pm_disasm.specs.Split as split
 use Rattle.pm_disasm.specs.Views.{front_seen, has}
 
--- What is read at each offset of bytes, of which the first has this offset.
+-- The instruction at each offset of `bytes`, the first of which has the offset `at`.
 abbrev pub fronts_of : ℕ → List ℕ → List (Option split.Front)
 fronts_of at [] = []
 fronts_of at (b ∷ bytes) = split.front at (b ∷ bytes) ∷ fronts_of (at + 1) bytes
 
--- What was read at each offset of a segment.
+-- The list contains the instruction at each offset of a segment.
 abbrev pub AreFronts : List (Option Front) → List ℕ → Type 0
 AreFronts fronts segment = map (option_map front_seen) fronts ≡ fronts_of 0 segment
 
--- an instruction of at most so many bytes
+-- An instruction, if it has at most `n` bytes.
 abbrev pub up_to : ℕ → Option split.Front → Option split.Front
 up_to n None = None
 up_to n (Some f) = if nat_le f.size n then Some f else None
 
--- What is read in bytes is what was read at the same offset, where it ends within them.
+-- The instruction at an offset of `bytes` is that in the list at the same offset, if it ends inside `bytes`.
 pub record TellFronts (fronts : List (Option Front)) (bytes : List ℕ) : Type 0 where
   pub long : length bytes ≤ length fronts
   pub each : (at : ℕ) → at < length bytes → up_to (length bytes - at) (option_map front_seen (get_or fronts at None))
       ≡ split.front at (drop at bytes)
 
--- A forced place lies strictly between a place and an end exactly where this one lies before the end.
+-- A forced offset is strictly between `at` and `end` if and only if `next` is before `end`.
 abbrev pub IsNextCut : List ℕ → ℕ → ℕ → Type 0
 IsNextCut forced at next =
     (end : ℕ) → end < 2 ^ 64 → list_any (λ place. nat_lt at place && nat_lt place end) forced ≡ nat_lt next end
 
--- how many entries the jump table has to have for what is read at an offset
+-- The number of entries that a jump table needs for the instruction at an offset.
 abbrev pub item_count : Option (Item ℕ) → ℕ
 item_count None = 0
 item_count (Some item) = entries_used item
@@ -44,13 +44,13 @@ abbrev pub front_count : Option split.Front → ℕ
 front_count None = 0
 front_count (Some f) = item_count f.item
 
--- The set has the counts, up to 60, that are taken by what was read, up to an offset.
+-- The set contains the numbers of entries up to 60 that the instructions before the offset `end` use.
 abbrev pub HasCounts : PlaceSet → List (Option Front) → ℕ → Type 0
 HasCounts counts fronts end =
     (at : ℕ) → at < end → front_count (option_map front_seen (get_or fronts at None)) ≤ 60
     → has counts (front_count (option_map front_seen (get_or fronts at None))) ≡ true
 
--- What was read in a segment, and the counts that it takes.
+-- The instructions of a segment, and the numbers of entries that they use.
 pub record IsDecoded (d : Decoded) (segment : List ℕ) : Type 0 where
   pub fronts : AreFronts d.fronts.items segment
   pub counts : HasCounts d.counts d.fronts.items (length d.fronts.items)

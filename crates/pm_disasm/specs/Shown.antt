@@ -11,28 +11,29 @@ use Rattle.pm_disasm.specs.Split.{procedure_of}
 use Rattle.pm_code.specs.Shown.{joined, procedure_lines, segment_line}
 use Rattle.pm_code.specs.Laws.{name_of}
 
--- a procedure that cannot be shown
+-- The comment for a procedure that cannot be shown.
 abbrev pub missing_line : ℕ → List (List ℕ)
 missing_line number = (codes "; procedure " ++ decimal number) ∷ []
 
--- What is shown for a procedure by its table: one whose exit code lies before its code by its number alone.
+-- The lines of a procedure from its attribute table. If its exit code is before its code, it is a comment with its
+-- number.
 abbrev pub table_lines : List ℕ → Attributes → List (List ℕ)
 table_lines segment a =
     if nat_lt a.exit a.enter then missing_line a.procedure else procedure_lines a.procedure (procedure_of segment a)
 
--- What is shown for procedure p of a segment: by its number alone where it has no table.
+-- The lines of procedure `p` of a segment. If it has no attribute table, it is a comment with its number.
 abbrev pub table_lines_or : List ℕ → ℕ → Option Attributes → List (List ℕ)
 table_lines_or segment p None = missing_line p
 table_lines_or segment p (Some a) = table_lines segment a
 
--- so many procedures of a segment, from procedure p on
+-- The lines of `count` procedures of a segment, from number `p` on.
 abbrev pub tables_lines : List ℕ → ℕ → ℕ → List (List ℕ)
 tables_lines segment p zero = []
 tables_lines segment p (suc count) =
     table_lines_or segment p (attributes_in segment p) ++ tables_lines segment (p + 1) count
 
--- A name in a code file without the spaces at its end, its strange bytes as question marks; an empty one is one
--- question mark.
+-- A name in a code file without the spaces at its end. Bytes that are not allowed are shown as question marks. An empty
+-- name is shown as one question mark.
 abbrev pub cut : List ℕ → List ℕ
 cut [] = []
 cut (c ∷ cs) = if c == 32 then cut cs else c ∷ cs
@@ -44,17 +45,17 @@ or_mark (c ∷ cs) = c ∷ cs
 abbrev pub shown_name : List ℕ → List ℕ
 shown_name name = or_mark (map (λ c. if is_name_character c then c else 63) (reverse (cut (reverse name))))
 
--- a slot's segment, if it has one
+-- The segment of a slot, if it has one.
 abbrev pub slot_lines : ℕ → List ℕ → Option (List ℕ) → List (List ℕ)
 slot_lines n name None = []
 slot_lines n name (Some segment) = segment_line n (shown_name name) ∷ tables_lines segment 1 (procedures_in segment)
 
--- The first line of the segment of slot n, with a line feed; nothing without a segment.
+-- The first line of the segment of slot `n`, with a line feed. Without a segment it is empty.
 abbrev pub slot_head : ℕ → List ℕ → Option (List ℕ) → List ℕ
 slot_head n name None = []
 slot_head n name (Some segment) = joined (segment_line n (shown_name name) ∷ [])
 
--- so many slots of a code file, from slot n on
+-- The lines of `count` slots of a code file, from slot `n` on.
 abbrev pub slots_lines : List ℕ → ℕ → ℕ → List (List ℕ)
 slots_lines file n zero = []
 slots_lines file n (suc count) =
@@ -64,6 +65,6 @@ slots_lines file n (suc count) =
 unfoldable pub procedure_text : List ℕ → Attributes → List ℕ
 procedure_text segment a = joined (table_lines segment a)
 
--- The text of a code file: its segments by ascending slot.
+-- The text of a code file: its segments in ascending order of their slots.
 unfoldable pub file_text : List ℕ → List ℕ
 file_text file = joined (slots_lines file 0 16)

@@ -1,9 +1,9 @@
--- Tables of a segment with their texts.
+-- Attribute tables of a segment with their texts.
 use Rattle.std.specs.Prelude.{◌≡◌, ℕ, List, string_bytes}
 use Rattle.pm_disasm.specs.declared.shown_tables.ShownTable.{ShownTable}
 use Rattle.pm_code.specs.Shown.{joined}
 use Rattle.pm_disasm.specs.Shown.{table_lines}
 
--- A table with the text that is shown for it in this segment.
+-- The text of an attribute table is that of its procedure in this segment.
 abbrev pub IsShownTable : List ℕ → ShownTable → Type 0
 IsShownTable segment s = string_bytes s.text ≡ joined (table_lines segment s.table)

@@ -1,4 +1,4 @@
--- The text of what stands in memory.
+-- The text of an address in memory.
 use Rattle.std.specs.Prelude.{ℕ, List, ◌++◌, codes, slice_index, Result, Ok, Err}
 use Rattle.std.specs.Fmt.{decimal}
 use Rattle.pm_opcode.specs.declared.instr.Instr.{Instr}
@@ -8,19 +8,19 @@ use Rattle.pm_opcode.specs.Reading.{reading}
 use Rattle.pm_words.specs.Words.{bytes_of}
 use Rattle.pm_code.specs.Text.{item_text}
 
--- a byte that begins no instruction
+-- A byte that is no instruction.
 abbrev pub byte_text : ℕ → List ℕ
 byte_text byte = codes ".BYTE " ++ decimal byte
 
--- what stands at a place of the bytes, as it was read: an instruction, or a byte
+-- The text of an offset from its decoded instruction, or a byte if there is none.
 abbrev pub shown : Result Instr Decode → List ℕ → ℕ → List ℕ
 shown (Ok i) bytes at = item_text i (named_by i bytes)
 shown (Err fault) bytes at = byte_text (slice_index bytes at)
 
--- The text of what stands at a place of the bytes.
+-- The text of an offset of `bytes`.
 unfoldable pub text_at : List ℕ → ℕ → List ℕ
 text_at bytes at = shown (reading bytes at) bytes at
 
--- The text of what stands at an address of memory.
+-- The text of an address in memory.
 unfoldable pub line_text : List ℕ → ℕ → List ℕ
 line_text words address = text_at (bytes_of words) address

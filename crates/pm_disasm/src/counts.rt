@@ -1,4 +1,4 @@
-//! The count of entries of a procedure's jump table, which its bytes do not say.
+//! The number of entries of a procedure's jump table, which the code file does not store.
 
 ghost use Rattle.std.specs.Prelude.{◌≡◌, ◌<◌, ◌≤◌, ◌^◌, ◌+◌, ◌-◌, ◌*◌, ◌∷◌, [], ◌&&◌};
 ghost use Rattle.std.specs.Prelude.{ℕ, nat_le, true, false, is_some, length, IfOk, IfSome};
@@ -15,18 +15,18 @@ use byteorder::{ByteOrder, LittleEndian};
 use pm_codefile::Attributes;
 use std::alloc::{AllocError, Global};
 
-/// A procedure's code as it is read with a count of entries.
+/// A procedure's code, read under the assumption of a number of jump table entries.
 #[derive(Drop)]
 pub(crate) struct Reading<'a> {
-    /// The exit code, and the places of the entries.
+    /// The offset of the exit code, followed by the targets of the entries.
     pub forced: Vec<u16>,
-    /// Where the code ends.
+    /// The offset after the code.
     pub end: usize,
-    /// The code in parts.
+    /// The code, divided into parts.
     pub code: Code<'a>,
 }
 
-/// The word at a place, its low byte first.
+/// Returns the word at `place`, whose low byte is first.
 #[tactic(auto, unfolding(pm_codefile::specs::Dictionary::word_in))]
 fn word(bytes: &[u8], place: usize) -> u16
     requires within { place + 2 ≤ length bytes.now }
@@ -35,15 +35,15 @@ fn word(bytes: &[u8], place: usize) -> u16
     LittleEndian::read_u16(&bytes[place..])
 }
 
-/// Whether a place so far below a word lies in the code.
+/// Whether the offset `at - distance` is in the code from `enter` to `end`.
 fn leads_inside(enter: u16, end: u16, at: u16, distance: u16) -> bool
     ensures inside { result ≡ (nat_le (enter + distance) at && nat_le (at - distance) end) }
 {
     u32::from(enter) + u32::from(distance) <= u32::from(at) && at - distance <= end
 }
 
-/// The exit code and the places that the first entries of a jump table name; None if an entry leads before the code or
-/// behind its end.
+/// Returns the offset of the exit code, followed by the targets of the first `count` jump table entries. Returns `None`
+/// if a target is before the code or after its end.
 fn forced_places(
     alloc: Global,
     segment: &[u8],
@@ -70,8 +70,8 @@ fn forced_places(
     Ok(Some(forced))
 }
 
-/// The exit code and the places of the entries with a count of entries, if code can be read so: no entry leads
-/// elsewhere, and the exit code does not lie behind the code's end.
+/// Returns the offset of the exit code, followed by the targets of `count` entries. Returns `None` if the table does
+/// not fit, if a target is outside the code, or if the exit code is after the end of the code.
 fn places_within(
     alloc: Global,
     segment: &[u8],
@@ -91,7 +91,8 @@ fn places_within(
     forced_places(alloc, segment, a, count)
 }
 
-/// The code as it is read with a count of entries, whose places are these, if no short jump takes more entries.
+/// Returns the code, read with `count` entries whose offsets are `forced`. Returns `None` if a short jump uses an entry
+/// after these.
 fn read_with<'a>(
     alloc: Global,
     segment: &'a [u8],
@@ -119,7 +120,8 @@ fn read_with<'a>(
     Ok(Some(Reading { forced, end, code }))
 }
 
-/// The code as it is read with a count of entries, if that fits: as many entries are taken by what is written.
+/// Returns the code, read with `count` entries, if this count fits. It fits if the resulting items use exactly `count`
+/// entries.
 fn fitting<'a>(
     alloc: Global,
     segment: &'a [u8],
@@ -156,12 +158,12 @@ fn fitting<'a>(
 pub(crate) struct Shown<'a> {
     /// The code.
     pub reading: Reading<'a>,
-    /// Whether jumps through an entry are written.
+    /// Whether jumps through an entry are shown as instructions.
     pub allowed: bool,
 }
 
-/// The code as it is shown: with the least count of entries from 0 to 60 that fits; where none does, without entries,
-/// and no jump through one is written.
+/// Returns the code as it is shown. It is read with the lowest number of entries from 0 to 60 that fits. If no number
+/// fits, it is read without entries, and jumps through an entry are shown as bytes.
 pub(crate) fn shown_code<'a>(
     alloc: Global,
     segment: &'a [u8],

@@ -1,18 +1,18 @@
-//! Forced places, met one after another.
+//! Forced offsets, searched in ascending order. An instruction may not extend over a forced offset.
 
 ghost use Rattle.std.specs.Prelude.{◌≡◌, ◌≤◌, ℕ};
 ghost use Rattle.pm_disasm.specs.Offsets.{IsNextCut};
 
-/// Forced places, and the least of them behind a place.
+/// Forced offsets, and the lowest of them after an offset.
 #[derive(Clone, Copy)]
 pub(crate) struct Cuts<'a> {
-    /// The forced places, in any order.
+    /// The forced offsets, in any order.
     pub forced: &'a [u16],
-    /// The least of them behind a place; the greatest number where none lies behind it.
+    /// The lowest forced offset after the given one, or `usize::MAX` if there is none.
     pub next: usize,
 }
 
-/// The least forced place behind a place; the greatest number where none lies behind it.
+/// Returns the lowest forced offset after `at`, or `usize::MAX` if there is none.
 fn next_cut(forced: &[u16], at: usize) -> usize
     ensures next { IsNextCut forced.now at result }
 {
@@ -27,7 +27,7 @@ fn next_cut(forced: &[u16], at: usize) -> usize
 }
 
 impl<'a> Cuts<'a> {
-    /// The forced places, and the least of them behind this place.
+    /// Returns the forced offsets, with the lowest of them after `at`.
     pub fn new(forced: &'a [u16], at: usize) -> Cuts<'a>
         ensures forced { result.forced.now ≡ forced.now }
         ensures next { IsNextCut forced.now at result.next }
@@ -36,7 +36,7 @@ impl<'a> Cuts<'a> {
         Cuts { forced, next }
     }
 
-    /// The same places, and the least of them behind this place, which does not lie before the one so far.
+    /// Returns the same forced offsets, with the lowest of them after `at`. `at` must not be lower than before.
     pub fn moved(self, at: usize) -> Cuts<'a>
         requires before { (before : ℕ) × (before ≤ at) × IsNextCut self.forced.now before self.next }
         ensures forced { result.forced.now ≡ self.entry.forced.now }

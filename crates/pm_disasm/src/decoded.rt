@@ -1,4 +1,4 @@
-//! What is read at each offset of a segment.
+//! The instruction at each offset of a segment.
 
 ghost use Rattle.std.specs.Prelude.{◌≡◌, ◌<◌, ◌≤◌, ◌+◌, true, drop, length, option_map, IfOk, IfSome};
 ghost use Rattle.pm_disasm.specs.Offsets.{AreFronts, HasCounts, IsDecoded, TellFronts, front_count};
@@ -10,16 +10,16 @@ use crate::places::PlaceSet;
 use crate::written::entries_used;
 use std::alloc::{AllocError, Global};
 
-/// A segment as it is decoded.
+/// A decoded segment.
 #[derive(Drop)]
 pub struct Decoded<'a> {
-    /// What is read at each offset, be there code or not.
+    /// The instruction at each offset, also where there is no code.
     pub(crate) fronts: Vec<Option<Front<'a>>>,
-    /// The counts of jump entries that this takes, and 0: no other count fits a procedure.
+    /// The numbers of entries that instructions of the segment use, and 0. No other number fits a procedure.
     pub(crate) counts: PlaceSet,
 }
 
-/// What is read at each offset of a segment.
+/// Returns the instruction at each offset of a segment.
 fn fronts_of(alloc: Global, segment: &[u8]) -> Result<Vec<Option<Front<'_>>>, AllocError>
     requires short { length segment.now ≤ 65534 }
     ensures fronts { IfOk result (λ fronts. AreFronts fronts.items segment.now) }
@@ -31,7 +31,7 @@ fn fronts_of(alloc: Global, segment: &[u8]) -> Result<Vec<Option<Front<'_>>>, Al
     Ok(fronts)
 }
 
-/// How many entries a jump table has to have for what is read at an offset.
+/// Returns the number of entries that a jump table needs for an instruction.
 fn front_count(front: Option<Front<'_>>) -> usize
     ensures count { result ≡ front_count (option_map front_seen front.entry) }
 {
@@ -46,7 +46,7 @@ fn front_count(front: Option<Front<'_>>) -> usize
     }
 }
 
-/// The counts up to 60 that are taken by what is read at each offset, and 0.
+/// Returns the numbers of entries up to 60 that the instructions use, and 0.
 fn counts_of(alloc: Global, fronts: &[Option<Front<'_>>]) -> Result<PlaceSet, AllocError>
     ensures counts { IfOk result (λ counts. HasCounts counts fronts.now (length fronts.now)) }
     ensures none { IfOk result (λ counts. has counts 0 ≡ true) }
@@ -62,7 +62,8 @@ fn counts_of(alloc: Global, fronts: &[Option<Front<'_>>]) -> Result<PlaceSet, Al
     Ok(counts)
 }
 
-/// What is read at each offset of a segment, and the counts of entries that this takes.
+/// Decodes a segment: returns the instruction at each offset, and the numbers of entries that these use. The segment
+/// may have at most 65,534 bytes.
 pub fn decode_segment(alloc: Global, segment: &[u8]) -> Result<Decoded<'_>, AllocError>
     requires short { length segment.now ≤ 65534 }
     ensures decoded { IfOk result (λ decoded. IsDecoded decoded segment.now) }
@@ -72,7 +73,8 @@ pub fn decode_segment(alloc: Global, segment: &[u8]) -> Result<Decoded<'_>, Allo
     Ok(Decoded { fronts, counts })
 }
 
-/// The instruction at a place of code that ends with these bytes, if one stands there, by what was read at each offset.
+/// Returns the instruction at `at` in code that ends with `bytes`, if there is one. `fronts` contains the instruction
+/// at each offset.
 pub(crate) fn front_in<'a>(
     bytes: &[u8],
     fronts: &[Option<Front<'a>>],

@@ -1,4 +1,4 @@
-//! What is found at a place of code.
+//! Instructions found in code.
 
 ghost use Rattle.std.specs.Prelude.{◌≡◌, ◌<◌, ◌%◌, ◌+◌, ◌-◌, ◌*◌, ◌^◌, IfOk};
 ghost use Rattle.pm_code.specs.Views.{placed_item};
@@ -10,16 +10,16 @@ use pm_code::{Item, Target};
 use pm_opcode::Instr;
 use std::alloc::{AllocError, Global};
 
-/// The table of a case jump: words that stand from a place of the segment on.
+/// The table of a case jump.
 #[derive(Clone, Copy)]
 pub(crate) struct Table<'a> {
-    /// The place of the first word.
+    /// The offset of its first word in the segment.
     pub at: u32,
-    /// The bytes of the words.
+    /// The bytes of its words.
     pub words: &'a [u8],
 }
 
-/// The place that a word of a table names: so far below the word, modulo 65,536.
+/// Returns the target of a table word: `word` bytes before the word itself, modulo 65,536.
 pub(crate) fn table_place(at: u32, index: usize, word: u16) -> usize
     requires index { 2 * index < 2 ^ 63 }
     ensures place { result ≡ (at + 2 * index + 65536 - word) % 65536 }
@@ -28,7 +28,7 @@ pub(crate) fn table_place(at: u32, index: usize, word: u16) -> usize
 }
 
 impl Table<'_> {
-    /// The places that its words name.
+    /// Returns the targets of its words.
     fn places(self, alloc: Global) -> Result<Vec<usize>, AllocError>
         ensures places { IfOk result (λ places. places.items
             ≡ table_places self.entry.at (words_of self.entry.words.now)) }
@@ -44,19 +44,19 @@ impl Table<'_> {
     }
 }
 
-/// An instruction that is found: an item of a program, if it is written as one. It borrows the bytes that it names.
+/// An instruction found in code. It is shown as an item if its jumps can be shown. It borrows the bytes that it names.
 #[derive(Clone, Copy)]
 pub(crate) enum Found<'a> {
-    /// An instruction that names no place, and the bytes that it names.
+    /// An instruction that names no offset, and the bytes that it names.
     Plain(Instr, &'a [u8]),
-    /// A short jump: its opcode and where it leads.
+    /// A short jump: its opcode and its target.
     Jump(u8, Target<usize>),
-    /// A case jump: its bounds, where the jump out of them leads, and its table.
+    /// A case jump: its bounds, the target for other values, and its table.
     Case(u16, u16, Target<usize>, Table<'a>),
 }
 
 impl Found<'_> {
-    /// The item that it is.
+    /// Returns the instruction as an item.
     pub(crate) fn item(self, alloc: Global) -> Result<Item<usize>, AllocError>
         ensures item { IfOk result (λ item. placed_item item ≡ found_seen self.entry) }
     {

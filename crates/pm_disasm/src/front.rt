@@ -1,4 +1,4 @@
-//! The instruction at a place of code.
+//! The instruction at an offset of code.
 
 ghost use Rattle.std.specs.Prelude.{◌≡◌, ◌<◌, ◌≤◌, ◌^◌, ◌+◌, ◌-◌, ◌*◌, drop, length, option_map, slice_index, IfSome};
 ghost use Rattle.pm_opcode.specs.Standing.{IsSpelledAt};
@@ -14,16 +14,17 @@ use crate::place::named_bytes;
 use pm_code::{JUMP, Target};
 use pm_opcode::{Form, Instr, decode, form_at};
 
-/// What is read at a place of code.
+/// The instruction at an offset of code.
 #[derive(Clone, Copy)]
 pub(crate) struct Front<'a> {
-    /// How many bytes the instruction has.
+    /// The size of the instruction, in bytes.
     pub size: usize,
-    /// The item that it is; None where a jump of it leads neither forward nor through an entry.
+    /// The instruction as an item. `None` if a jump of it leads neither forward nor through an entry, or if it is a
+    /// case jump whose third word is no UJP.
     pub item: Option<Found<'a>>,
 }
 
-/// The target of a short jump by its byte, which counts from a place.
+/// Returns the target of a short jump from its distance byte. `next` is the offset of the next instruction.
 fn target_of(next: usize, byte: u8) -> Option<Target<usize>>
     requires next { next < 2 ^ 32 }
     ensures target { option_map placed_target result ≡ target_of next byte }
@@ -50,14 +51,14 @@ fn has_zero_padding(instr: Instr, bytes: &[u8], at: usize) -> bool
     }
 }
 
-/// The byte at a place, 0 past the end.
+/// Returns the byte at `place`, or 0 after the end.
 fn byte_or_zero(bytes: &[u8], place: usize) -> u8
     ensures byte { result ≡ slice_index bytes.now place }
 {
     bytes.get(place).copied().unwrap_or(0)
 }
 
-/// The item of a case jump, whose bytes end before a place.
+/// Returns the item of a case jump whose bytes end before the offset `end`.
 fn case_of<'a>(instr: Instr, named: &'a [u8], end: usize) -> Option<Found<'a>>
     requires end { end < 2 ^ 32 }
     requires table { instr.count ≤ end }
@@ -76,7 +77,7 @@ fn case_of<'a>(instr: Instr, named: &'a [u8], end: usize) -> Option<Found<'a>>
     Some(Found::Case(instr.a, instr.b, otherwise, words))
 }
 
-/// The item of an instruction that names these bytes and ends before a place.
+/// Returns the item of an instruction that names the bytes `named` and ends before the offset `end`.
 fn item_of<'a>(instr: Instr, named: &'a [u8], end: usize) -> Option<Found<'a>>
     requires end { end < 2 ^ 32 }
     requires table { instr.count ≤ end }
@@ -99,7 +100,7 @@ fn item_of<'a>(instr: Instr, named: &'a [u8], end: usize) -> Option<Found<'a>>
     }
 }
 
-/// The instruction at a place of code that ends with these bytes, if one stands there.
+/// Returns the instruction at `at` in code that ends with `bytes`, if there is one.
 pub(crate) fn front_at(bytes: &[u8], at: usize) -> Option<Front<'_>>
     requires short { length bytes.now < 2 ^ 32 }
     ensures front { option_map front_seen result ≡ front at (drop at bytes.now) }

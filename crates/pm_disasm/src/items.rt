@@ -20,7 +20,7 @@ use pm_code::{Item, Procedure};
 use pm_codefile::Attributes;
 use std::alloc::{AllocError, Global};
 
-/// Adds bytes, each as an item of its own.
+/// Appends each byte as an item.
 fn add_bytes(items: &mut Vec<Item<usize>>, bytes: &[u8]) -> Result<(), AllocError>
     ensures items { OnOk result (map placed_item items.new.items
         ≡ map placed_item items.old.items ++ map OneByte bytes.now) }
@@ -31,7 +31,7 @@ fn add_bytes(items: &mut Vec<Item<usize>>, bytes: &[u8]) -> Result<(), AllocErro
     Ok(())
 }
 
-/// Adds the item or the bytes that are written for a part.
+/// Appends the item `found`, or the bytes if there is none.
 fn add_part(
     alloc: Global,
     items: &mut Vec<Item<usize>>,
@@ -49,7 +49,7 @@ fn add_part(
     Ok(())
 }
 
-/// The items that are written for parts.
+/// Returns the items for parts.
 fn items_of(
     alloc: Global,
     parts: &[Part<'_>],
@@ -67,7 +67,7 @@ fn items_of(
     Ok(items)
 }
 
-/// Places as offsets.
+/// Returns offsets as `usize`.
 fn offsets_of(alloc: Global, places: &[u16]) -> Result<Vec<usize>, AllocError>
     ensures offsets { IfOk result (λ offsets. offsets.items ≡ places.now) }
 {
@@ -78,10 +78,14 @@ fn offsets_of(alloc: Global, places: &[u16]) -> Result<Vec<usize>, AllocError>
     Ok(offsets)
 }
 
-/// A procedure of a segment by its table, as its text shows it: with the least count of jump entries that fits, and
-/// what is no instruction, or jumps between instructions, as bytes. The table has to be that of a procedure of it,
-/// which has at most 65,534 bytes, and its exit code may not lie before its code. `decoded` is what `decode_segment`
-/// reads of that segment.
+/// Returns a procedure of a segment from its attribute table, as its text shows it. It is read with the lowest number
+/// of jump table entries that fits, or without entries if no number from 0 to 60 fits.
+///
+/// Bytes that are no instruction are shown as bytes. The same holds for jumps that lead neither to the beginning of a
+/// part nor to the end of the code.
+///
+/// `attributes` must be those of a procedure of the segment, and the exit code must not be before the code. The segment
+/// may have at most 65,534 bytes. `decoded` is the result of `decode_segment` for the segment.
 pub fn code<'a>(
     alloc: Global,
     segment: &'a [u8],

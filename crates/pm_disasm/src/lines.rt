@@ -16,16 +16,16 @@ use pm_code::Label;
 use std::alloc::{AllocError, Global};
 use std::fmt::Write;
 
-/// Which places have lines of their own.
+/// The offsets that have additional lines.
 #[derive(Clone, Copy)]
 pub(crate) struct Marks<'a> {
-    /// The places with a label.
+    /// The offsets with a label.
     pub named: &'a PlaceSet,
-    /// The place of the exit code.
+    /// The offset of the exit code.
     pub exit: usize,
 }
 
-/// Adds the label of a place, if it has one, and the exit code, if it is there.
+/// Appends the label of an offset, if it has one, and `.EXIT` if the exit code is there.
 fn push_place(text: &mut String, place: usize, marks: Marks<'_>) -> Result<(), AllocError>
     ensures text { OnOk result (string_bytes text.new
         ≡ string_bytes text.old ++ joined (lines_at_by (has marks.entry.named.now) marks.entry.exit place [])) }
@@ -40,7 +40,7 @@ fn push_place(text: &mut String, place: usize, marks: Marks<'_>) -> Result<(), A
     Ok(())
 }
 
-/// Adds bytes that stand from a place on.
+/// Appends the lines of bytes, the first of which is at offset `at`.
 fn push_bytes(
     text: &mut String,
     bytes: &[u8],
@@ -62,7 +62,7 @@ fn push_bytes(
     Ok(())
 }
 
-/// Adds an instruction that stands at a place.
+/// Appends the line of an instruction at offset `at`.
 fn push_item(
     alloc: Global,
     text: &mut String,
@@ -82,7 +82,7 @@ fn push_item(
     Ok(())
 }
 
-/// Adds the items or bytes that are written for a part.
+/// Appends the lines of the item or of the bytes of a part.
 fn push_part(
     alloc: Global,
     text: &mut String,
@@ -105,7 +105,7 @@ fn push_part(
     Ok(())
 }
 
-/// Adds the lines of code, which begins and ends at these places.
+/// Appends the lines of code. `end` is the offset after the code.
 pub(crate) fn push_code(
     alloc: Global,
     text: &mut String,

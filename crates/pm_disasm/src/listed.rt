@@ -1,4 +1,4 @@
-//! The listing of a code file: its own bytes at their own offsets, whatever laid them out.
+//! The listing of a code file: its own bytes at their own offsets, for any layout of the file.
 
 ghost use Rattle.std.specs.Prelude.{◌≡◌, ◌<◌, ◌≤◌, ◌+◌, ◌*◌, ◌%◌, ◌++◌, ◌∷◌, [], List, ℕ, Some};
 ghost use Rattle.std.specs.Prelude.{IfOk, IfSome, OnOk, length, map, option_map, reverse, string_bytes};
@@ -30,7 +30,7 @@ use pm_codefile::{Attributes, CodeFile, attributes, procedures};
 use std::alloc::{AllocError, Global};
 use std::fmt::{self, Write};
 
-/// The bytes of a segment, its slot, and the number of the procedure that a line speaks of.
+/// A segment, its slot, and the number of the procedure of a line.
 #[derive(Clone, Copy)]
 struct Stored<'a> {
     segment: &'a [u8],
@@ -38,7 +38,7 @@ struct Stored<'a> {
     procedure: u8,
 }
 
-/// A hexadecimal digit.
+/// Returns a hexadecimal digit, in upper case.
 fn upper_digit(value: u8) -> u8
     requires digit { value < 16 }
     ensures digit { result ≡ upper_digit value }
@@ -47,7 +47,7 @@ fn upper_digit(value: u8) -> u8
     if value < 10 { 48 + value } else { 55 + value }
 }
 
-/// Adds bytes as pairs of digits, each behind a space.
+/// Appends each byte as a space and two hexadecimal digits.
 fn push_pairs(text: &mut String, bytes: &[u8]) -> Result<(), AllocError>
     ensures text { OnOk result (string_bytes text.new ≡ string_bytes text.old ++ pairs_text bytes.now) }
 {
@@ -59,7 +59,7 @@ fn push_pairs(text: &mut String, bytes: &[u8]) -> Result<(), AllocError>
     Ok(())
 }
 
-/// What stands before the bytes of a line: the slot in two digits, the procedure in three, the offset in five.
+/// The beginning of a line: the slot in two digits, the procedure in three, and the offset in five.
 #[derive(Clone, Copy)]
 struct Columns {
     slot: u8,
@@ -79,7 +79,8 @@ impl fmt::Display for Columns {
     }
 }
 
-/// Adds the line of so many bytes from an offset on, up to what they are, which a line feed ends.
+/// Appends the beginning of a line for `count` bytes from offset `at`: its columns and its bytes. The description and a
+/// line feed must follow.
 fn push_front(
     text: &mut String,
     from: Stored<'_>,
@@ -102,7 +103,7 @@ fn push_front(
     Ok(())
 }
 
-/// Adds the line of an item.
+/// Appends the line of an item.
 fn list_item(
     text: &mut String,
     from: Stored<'_>,
@@ -119,7 +120,7 @@ fn list_item(
     Ok(())
 }
 
-/// Adds the lines of bytes that begin no instruction.
+/// Appends the lines of bytes that are no instruction.
 fn list_bytes(
     text: &mut String,
     from: Stored<'_>,
@@ -140,7 +141,7 @@ fn list_bytes(
     Ok(())
 }
 
-/// Adds the lines of the item or the bytes that are written for a part.
+/// Appends the lines of the item or of the bytes of a part.
 fn list_part(
     alloc: Global,
     text: &mut String,
@@ -167,7 +168,7 @@ fn list_part(
     Ok(())
 }
 
-/// Adds the lines of code.
+/// Appends the lines of code.
 fn list_code(
     alloc: Global,
     text: &mut String,
@@ -189,7 +190,7 @@ fn list_code(
     Ok(())
 }
 
-/// Adds the lines of a jump table that begins at an offset, the last entry first.
+/// Appends the lines of a jump table that begins at offset `at`. The last entry comes first.
 fn list_entries(
     text: &mut String,
     from: Stored<'_>,
@@ -209,7 +210,7 @@ fn list_entries(
     Ok(())
 }
 
-/// Adds the lines of a procedure whose exit code does not lie before its code.
+/// Appends the lines of a procedure whose exit code is not before its code.
 fn list_shown<'a>(
     alloc: Global,
     text: &mut String,
@@ -234,7 +235,7 @@ fn list_shown<'a>(
     Ok(())
 }
 
-/// Adds what is listed for a procedure by its table.
+/// Appends the listing of a procedure from its attribute table.
 fn list_table<'a>(
     alloc: Global,
     text: &mut String,
@@ -262,7 +263,8 @@ fn list_table<'a>(
     list_shown(alloc, text, from, decoded, a)
 }
 
-/// Adds what is listed for a procedure by its table, a copy where the same table was listed before, and keeps it.
+/// Appends the listing of a procedure from its attribute table, and stores it. If the same table was listed before, the
+/// stored listing is copied.
 fn list_table_once<'a>(
     alloc: Global,
     text: &mut String,
@@ -295,7 +297,7 @@ fn list_table_once<'a>(
     Ok(())
 }
 
-/// Adds the lines of a segment's procedures.
+/// Appends the lines of a segment's procedures.
 fn list_tables(alloc: Global, text: &mut String, segment: &[u8], slot: u8) -> Result<(), AllocError>
     requires even { length segment.now % 2 ≡ 0 }
     requires short { length segment.now ≤ 65534 }
@@ -314,7 +316,7 @@ fn list_tables(alloc: Global, text: &mut String, segment: &[u8], slot: u8) -> Re
     Ok(())
 }
 
-/// Adds the line of a segment's dictionary and its highest word.
+/// Appends the line of a segment's dictionary, including its highest word.
 fn list_dictionary(text: &mut String, segment: &[u8], slot: u8) -> Result<(), AllocError>
     ensures text { OnOk result (string_bytes text.new
         ≡ string_bytes text.old ++ listed_line slot (stored_dictionary segment.now)) }
@@ -332,7 +334,7 @@ fn list_dictionary(text: &mut String, segment: &[u8], slot: u8) -> Result<(), Al
     Ok(())
 }
 
-/// Adds the lines of the segment of slot n, if it has one.
+/// Appends the lines of the segment of slot `n`, if it has one.
 fn list_slot(alloc: Global, text: &mut String, file: &CodeFile<'_>, n: u8) -> Result<(), AllocError>
     requires slot { n < 16 }
     ensures text { OnOk result (string_bytes text.new
@@ -345,12 +347,12 @@ fn list_slot(alloc: Global, text: &mut String, file: &CodeFile<'_>, n: u8) -> Re
     list_dictionary(text, segment, n)
 }
 
-/// The listing of a procedure of a segment that is decoded already: its lines in [`listing`]. A caller that writes the
-/// procedures of a segment one after the other decodes it once and needs memory for one text.
+/// Returns the lines of one procedure in [`listing`]. The segment must be decoded. A caller that writes the procedures
+/// of a segment one after another decodes it only once, and needs memory for one text at a time.
 ///
 /// # Errors
 ///
-/// `AllocError` if there is no memory.
+/// `AllocError` if memory runs out.
 pub fn procedure_listing<'a>(
     alloc: Global,
     segment: &'a [u8],
@@ -368,11 +370,11 @@ pub fn procedure_listing<'a>(
     Ok(text)
 }
 
-/// The line of a segment's dictionary and its highest word in [`listing`].
+/// Returns the line of a segment's dictionary, including its highest word, in [`listing`].
 ///
 /// # Errors
 ///
-/// `AllocError` if there is no memory.
+/// `AllocError` if memory runs out.
 pub fn dictionary_line(alloc: Global, segment: &[u8], slot: u8) -> Result<String, AllocError>
     ensures text { IfOk result (λ text. string_bytes text ≡ listed_line slot (stored_dictionary segment.now)) }
 {
@@ -381,11 +383,18 @@ pub fn dictionary_line(alloc: Global, segment: &[u8], slot: u8) -> Result<String
     Ok(text)
 }
 
-/// The listing of a code file: its segments by ascending slot, of each its procedures in the order of its dictionary,
-/// and its dictionary. A line is the slot in two digits, the number in the procedure's table in three, the offset in
-/// the segment in five, the bytes that stand there, and what they are: an item as `file` writes it, an entry of a jump
-/// table, the last first (`.JUMP label`), attributes (`.ATTR`), the dictionary and the highest word (`.DICT`, as
-/// procedure 000). A procedure that `file` writes as a comment is the same here.
+/// Returns the listing of a code file. The segments are in ascending order of their slots. Each segment has its
+/// procedures in the order of its dictionary, followed by the dictionary.
+///
+/// A line has the slot in two digits, the number in the procedure's table in three, the offset in the segment in five,
+/// the bytes, and their description. The descriptions are:
+///
+/// - An item, as `file` shows it.
+/// - `.JUMP label`: an entry of a jump table. The last entry comes first.
+/// - `.ATTR`: the attributes of a procedure.
+/// - `.DICT`: the dictionary and the highest word. The procedure number is 000.
+///
+/// A procedure that `file` shows as a comment is shown as the same comment here.
 #[tactic(auto, unfolding(crate::specs::Listing::file_listing))]
 pub fn listing(alloc: Global, file: &CodeFile<'_>) -> Result<String, AllocError>
     ensures text { IfOk result (λ text. string_bytes text ≡ file_listing file.now) }

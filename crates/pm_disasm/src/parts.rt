@@ -1,4 +1,4 @@
-//! Code as parts.
+//! Code divided into parts.
 
 ghost use Rattle.std.specs.Prelude.{◌≡◌, ◌<◌, ◌≤◌, ◌^◌, ◌+◌, ◌-◌, drop, length, map, option_map, IfOk, IfSome};
 ghost use Rattle.pm_disasm.specs.Follow.{Follow};
@@ -16,15 +16,15 @@ use std::alloc::{AllocError, Global};
 /// A part of code.
 #[derive(Clone, Copy)]
 pub(crate) struct Part<'a> {
-    /// Its place.
+    /// Its offset.
     pub at: usize,
     /// Its bytes.
     pub bytes: &'a [u8],
-    /// The item that it is if its jumps lead to boundaries; without one it is written as bytes.
+    /// Its item, which is shown if all its jumps lead to boundaries. Without an item, the part is shown as bytes.
     pub item: Option<Found<'a>>,
 }
 
-/// The instruction at a place, unless a forced place lies strictly inside.
+/// Returns the instruction at an offset, unless a forced offset is strictly inside it.
 fn taken<'a>(
     bytes: &'a [u8],
     fronts: &[Option<Front<'a>>],
@@ -45,7 +45,7 @@ fn taken<'a>(
     Some(front)
 }
 
-/// The part at a place: the instruction that is taken, else one byte.
+/// Returns the part at an offset: the instruction there, or one byte if there is none.
 pub(crate) fn part_at<'a>(
     bytes: &'a [u8],
     fronts: &[Option<Front<'a>>],
@@ -76,16 +76,17 @@ pub(crate) fn part_at<'a>(
     }
 }
 
-/// Code in parts.
+/// Code divided into parts.
 #[derive(Drop)]
 pub(crate) struct Code<'a> {
-    /// The parts, one behind another.
+    /// The adjacent parts.
     pub parts: Vec<Part<'a>>,
-    /// Where they begin, and the end of the code.
+    /// The boundaries: the offsets at which parts begin, and the end of the code.
     pub boundaries: PlaceSet,
 }
 
-/// The parts of code that begins at a place and ends with these bytes, by what was read at each offset.
+/// Divides code into parts. The code begins at `begin` and ends with `bytes`. `fronts` contains the instruction at each
+/// offset.
 pub(crate) fn split<'a>(
     alloc: Global,
     bytes: &'a [u8],

@@ -1,4 +1,4 @@
-//! What stands at an address of memory, as text.
+//! The text of an address in memory.
 
 ghost use Rattle.std.specs.Prelude.{◌≡◌, length, IsTrue, Some};
 ghost use Rattle.pm_opcode.specs.Spelling.{has_spelling, named_by};
@@ -9,18 +9,18 @@ use pm_opcode::{Form, Instr, decode, form_at};
 use pm_words::Memory;
 use std::fmt;
 
-/// What stands at an address of memory: shown as the instruction that begins there, or as a
-/// `.BYTE` of the byte where none does.
+/// The text of an address in memory: the instruction that begins there, or `.BYTE` with the byte if there is no
+/// instruction.
 #[derive(Clone, Copy)]
 pub struct Line<'a> {
-    /// The memory that it stands in.
+    /// The memory.
     pub memory: &'a Memory,
-    /// Its address, odd or even.
+    /// The address, odd or even.
     pub address: u16,
 }
 
 impl<'a> Line<'a> {
-    /// The line at an address.
+    /// Creates the line of an address.
     pub fn new(memory: &'a Memory, address: u16) -> Line<'a>
         ensures memory { result.memory.now ≡ memory.now }
         ensures address { result.address ≡ address }
@@ -50,7 +50,7 @@ impl fmt::Display for Line<'_> {
     }
 }
 
-/// The bytes that an instruction names.
+/// Returns the bytes that an instruction names.
 pub(crate) fn named_bytes<'a>(instr: &Instr, bytes: &'a [u8]) -> &'a [u8]
     requires spelling { IsTrue (has_spelling instr.now (length bytes.now)) }
     ensures named { result.now ≡ named_by instr.now bytes.now }

@@ -1,21 +1,21 @@
-//! Sets of places of code.
+//! Sets of code offsets.
 
 ghost use Rattle.std.specs.Prelude.{◌≡◌, ◌==◌, ◌<◌, ◌≤◌, ◌^◌, ◌+◌, ◌-◌, ◌||◌, ℕ, false, length, IfOk};
 ghost use Rattle.pm_disasm.specs.Views.{IsAlike, IsInside, has};
 
 use std::alloc::{AllocError, Global};
 
-/// A set of places from the begin of code to its end.
+/// A set of offsets from the beginning of code to its end.
 #[derive(Drop)]
 pub(crate) struct PlaceSet {
-    /// The first place that may be in it.
+    /// The lowest offset that the set can contain.
     pub begin: usize,
-    /// Whether it has the places from the begin on.
+    /// Whether each offset from `begin` on is in the set.
     pub marks: Vec<bool>,
 }
 
 impl PlaceSet {
-    /// No place, of those from `begin` to `end`.
+    /// Creates an empty set for the offsets from `begin` to `end`.
     pub fn new(alloc: Global, begin: usize, end: usize) -> Result<PlaceSet, AllocError>
         requires order { begin ≤ end }
         requires end { end < 2 ^ 32 }
@@ -27,7 +27,7 @@ impl PlaceSet {
         Ok(PlaceSet { begin, marks })
     }
 
-    /// Whether a place is in it.
+    /// Whether an offset is in the set.
     pub fn contains(&self, place: usize) -> bool
         ensures has { result ≡ has self.now place }
     {
@@ -37,7 +37,7 @@ impl PlaceSet {
         self.marks.get(place - self.begin).copied().unwrap_or(false)
     }
 
-    /// Adds a place.
+    /// Adds an offset.
     pub fn add(&mut self, place: usize)
         requires inside { IsInside self.old place }
         ensures has { (p : ℕ) → has self.new p ≡ ((place == p) || has self.old p) }

@@ -25,7 +25,7 @@ use std::alloc::{AllocError, Global};
 use std::fmt;
 use std::fmt::Write;
 
-/// A level, a byte, as a signed number.
+/// A level, stored as a byte and shown as a signed number.
 #[derive(Clone, Copy)]
 struct Level(u8);
 
@@ -43,7 +43,7 @@ impl fmt::Display for Level {
     }
 }
 
-/// What the line of a procedure's beginning says.
+/// The content of a `.PROC` line.
 #[derive(Clone, Copy)]
 struct Header {
     number: u8,
@@ -65,7 +65,7 @@ impl fmt::Display for Header {
     }
 }
 
-/// The places of the entries among the forced places: all but the exit code, which is the first.
+/// Returns the targets of the entries from the forced offsets: all except the first, which is that of the exit code.
 pub(crate) fn entries_of(forced: &[u16]) -> &[u16]
     ensures entries { result.now ≡ drop 1 forced.now }
 {
@@ -75,7 +75,7 @@ pub(crate) fn entries_of(forced: &[u16]) -> &[u16]
     }
 }
 
-/// Adds the lines of the entries of a jump table.
+/// Appends the lines of jump table entries.
 fn push_entries(text: &mut String, entries: &[u16]) -> Result<(), AllocError>
     ensures text { OnOk result (string_bytes text.new ≡ string_bytes text.old ++ joined (map entry_line entries.now)) }
 {
@@ -86,7 +86,7 @@ fn push_entries(text: &mut String, entries: &[u16]) -> Result<(), AllocError>
     Ok(())
 }
 
-/// The places that the items of a procedure and its entries name.
+/// Returns the offsets that the items of a procedure and its entries name.
 fn places_shown(
     alloc: Global,
     segment: &[u8],
@@ -106,7 +106,7 @@ fn places_shown(
     Ok(named)
 }
 
-/// Adds a procedure whose exit code does not lie before its code.
+/// Appends a procedure whose exit code is not before its code.
 fn push_shown<'a>(
     alloc: Global,
     text: &mut String,
@@ -148,8 +148,8 @@ fn push_shown<'a>(
     Ok(())
 }
 
-/// Adds what is shown for a procedure by its table in a segment as it was decoded: one whose exit code lies before its
-/// code by its number alone.
+/// Appends the lines of a procedure from its attribute table. If its exit code is before its code, it is a comment with
+/// its number.
 pub(crate) fn push_table<'a>(
     alloc: Global,
     text: &mut String,

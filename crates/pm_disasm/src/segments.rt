@@ -21,7 +21,7 @@ use pm_codefile::{Attributes, CodeFile, attributes, procedures};
 use std::alloc::{AllocError, Global};
 use std::fmt::Write;
 
-/// A name without the spaces at its end.
+/// Returns a name without the spaces at its end.
 fn without_spaces(name: &[u8]) -> &[u8]
     ensures cut { result.now ≡ reverse (cut (reverse name.now)) }
 {
@@ -32,7 +32,7 @@ fn without_spaces(name: &[u8]) -> &[u8]
     &name[..count]
 }
 
-/// Adds the bytes of a name, each that may not stand in one as a question mark.
+/// Appends the bytes of a name. Bytes that are not allowed in a name are shown as question marks.
 fn push_marked(text: &mut String, name: &[u8]) -> Result<(), AllocError>
     ensures text { OnOk result (string_bytes text.new
         ≡ string_bytes text.old ++ map (λ c. if is_name_character c then c else 63) name.now) }
@@ -48,7 +48,7 @@ fn push_marked(text: &mut String, name: &[u8]) -> Result<(), AllocError>
     Ok(())
 }
 
-/// Adds a segment's name as it stands in a code file.
+/// Appends a segment's name from a code file. An empty name is shown as a question mark.
 fn push_name(text: &mut String, name: &[u8]) -> Result<(), AllocError>
     ensures text { OnOk result (string_bytes text.new ≡ string_bytes text.old ++ shown_name name.now) }
 {
@@ -59,7 +59,7 @@ fn push_name(text: &mut String, name: &[u8]) -> Result<(), AllocError>
     push_marked(text, name)
 }
 
-/// Adds the procedures of a segment.
+/// Appends the procedures of a segment.
 fn push_tables(alloc: Global, text: &mut String, segment: &[u8]) -> Result<(), AllocError>
     requires even { length segment.now % 2 ≡ 0 }
     requires short { length segment.now ≤ 65534 }
@@ -78,12 +78,12 @@ fn push_tables(alloc: Global, text: &mut String, segment: &[u8]) -> Result<(), A
     Ok(())
 }
 
-/// The first line of the segment of a slot, `.SEG`, the slot and the segment's name, with a line feed. The slot has to
-/// be below 16. Without a segment the text is empty.
+/// Returns the first line of the segment of slot `n`: `.SEG`, the slot and the segment's name, with a line feed. `n`
+/// must be less than 16. Without a segment the text is empty.
 ///
 /// # Errors
 ///
-/// `AllocError` if there is no memory.
+/// `AllocError` if memory runs out.
 pub fn slot_line(alloc: Global, file: &CodeFile<'_>, n: u8) -> Result<String, AllocError>
     requires slot { n < 16 }
     ensures text { IfOk result (λ text. string_bytes text
@@ -102,7 +102,7 @@ pub fn slot_line(alloc: Global, file: &CodeFile<'_>, n: u8) -> Result<String, Al
     Ok(text)
 }
 
-/// Adds the segment of slot n, if it has one.
+/// Appends the segment of slot `n`, if it has one.
 fn push_slot(alloc: Global, text: &mut String, file: &CodeFile<'_>, n: u8) -> Result<(), AllocError>
     requires slot { n < 16 }
     ensures text { OnOk result (string_bytes text.new
@@ -116,9 +116,11 @@ fn push_slot(alloc: Global, text: &mut String, file: &CodeFile<'_>, n: u8) -> Re
     push_tables(alloc, text, segment)
 }
 
-/// The text of a code file: its segments by ascending slot, each with its procedures. A slot without a length gives
-/// nothing. A procedure without a table that can be read, or whose exit code lies before its code, is a comment with
-/// its number.
+/// Returns the text of a code file: its segments in ascending order of their slots, each with its procedures. A slot
+/// without a segment has no text.
+///
+/// A procedure is shown as a comment with its number if it has no readable attribute table, or if its exit code is
+/// before its code.
 #[tactic(auto, unfolding(crate::specs::Shown::file_text))]
 pub fn file(alloc: Global, file: &CodeFile<'_>) -> Result<String, AllocError>
     ensures text { IfOk result (λ text. string_bytes text ≡ file_text file.now) }
@@ -130,9 +132,10 @@ pub fn file(alloc: Global, file: &CodeFile<'_>) -> Result<String, AllocError>
     Ok(text)
 }
 
-/// The text of a procedure of a segment, by its table: its lines from `.PROC` to `.END`, each with a line feed. Where
-/// its exit code lies before its code it is a comment with the number in the table. The table has to be that of a
-/// procedure of the segment, which has at most 65,534 bytes.
+/// Returns the text of a procedure from its attribute table: its lines from `.PROC` to `.END`, each with a line feed.
+/// If its exit code is before its code, the text is a comment with the number in the table.
+///
+/// `attributes` must be those of a procedure of the segment, which may have at most 65,534 bytes.
 #[tactic(auto, unfolding(crate::specs::Shown::procedure_text))]
 pub fn procedure(
     alloc: Global,
@@ -149,12 +152,12 @@ pub fn procedure(
     Ok(text)
 }
 
-/// The text of a procedure of a segment that is decoded already, as [`procedure`] returns it. A caller that writes the
-/// procedures of a segment one after the other decodes it once and needs memory for one text.
+/// Returns the text of a procedure as [`procedure`] does, for a segment that is already decoded. A caller that writes
+/// the procedures of a segment one after another decodes it only once, and needs memory for one text at a time.
 ///
 /// # Errors
 ///
-/// `AllocError` if there is no memory.
+/// `AllocError` if memory runs out.
 #[tactic(auto, unfolding(crate::specs::Shown::procedure_text))]
 pub fn decoded_procedure<'a>(
     alloc: Global,
@@ -172,9 +175,11 @@ pub fn decoded_procedure<'a>(
     Ok(text)
 }
 
-/// The text of the instruction at an offset of a segment, without spaces before it and without a line feed. A short
-/// jump is shown with the label of its place or with its entry, as in the text of a procedure. An instruction that a
-/// text can spell has to stand there, and the segment to have fewer than 2^32 bytes.
+/// Returns the text of the instruction at an offset of a segment, without leading spaces and without a line feed. A
+/// short jump is shown with its label or its entry, as in the text of a procedure.
+///
+/// There must be an instruction at the offset that the text of a procedure can show. The segment must have fewer than
+/// 2^32 bytes.
 #[tactic(auto, unfolding(crate::specs::Laws::item_at))]
 pub fn item(alloc: Global, segment: &[u8], at: u16) -> Result<String, AllocError>
     requires short { length segment.now < 2 ^ 32 }

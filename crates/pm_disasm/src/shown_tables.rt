@@ -1,4 +1,4 @@
-//! Tables of a segment that were shown already.
+//! Attribute tables of a segment that were already shown.
 
 ghost use Rattle.std.specs.Prelude.{◌≡◌, ◌≤◌, ◌++◌, List, ℕ, length, string_bytes, IfSome, OnOk};
 ghost use Rattle.std.specs.List.{AllByRecursion};
@@ -14,16 +14,16 @@ use crate::procedures::push_table;
 use pm_codefile::Attributes;
 use std::alloc::{AllocError, Global};
 
-/// A procedure's table, and the text that is shown for it.
+/// A procedure's attribute table, and its text.
 #[derive(Drop)]
 pub(crate) struct ShownTable {
-    /// The table.
+    /// The attribute table.
     pub table: Attributes,
-    /// The text.
+    /// The text of its procedure.
     pub text: String,
 }
 
-/// The text that is shown for a table, if it is among those that were shown.
+/// Returns the text of an attribute table if it was already shown.
 pub(crate) fn text_of<'a>(shown: &'a [ShownTable], a: &Attributes) -> Option<&'a str>
     ensures text { (shows : Attributes → List ℕ) → AllByRecursion (λ s. string_bytes s.text ≡ shows s.table) shown.now
         → IfSome result (λ text. text.now ≡ shows a.now) }
@@ -36,8 +36,8 @@ pub(crate) fn text_of<'a>(shown: &'a [ShownTable], a: &Attributes) -> Option<&'a
     None
 }
 
-/// Adds what is shown for a procedure by its table, a copy where the same table was shown before, and keeps it. Many
-/// words of a dictionary may lead to one table.
+/// Appends the text of a procedure from its attribute table, and stores it. If the same table was shown before, the
+/// stored text is copied. Several words of a dictionary may refer to one table.
 pub(crate) fn push_table_once<'a>(
     alloc: Global,
     text: &mut String,

@@ -1,4 +1,4 @@
-//! Whether code takes more entries of a jump table than there are, before its parts are kept.
+//! A fast check, before parts are stored, whether code uses more jump table entries than there are.
 
 ghost use Rattle.std.specs.Prelude.{◌≡◌, ◌<◌, ◌≤◌, ◌^◌, ◌-◌, ℕ, Bool, List, true, drop, length, option_map};
 ghost use Rattle.pm_code.specs.Program.{entries_needed};
@@ -13,8 +13,8 @@ use crate::front::Front;
 use crate::parts::part_at;
 use pm_code::Target;
 
-/// How many entries a jump table has to have for a short jump through one, which is written wherever boundaries lie; 0
-/// for all else.
+/// Returns the number of entries that a jump table needs for a short jump through an entry. Such a jump is shown for
+/// any boundaries. Returns 0 for all other items.
 fn surely_used(item: Option<Found<'_>>) -> usize
     ensures used { (test : ℕ → Bool) (bytes : List ℕ) → result ≤ entries_needed
         (items_or_bytes bytes (item_led test true (option_map found_seen item.entry))) }
@@ -25,8 +25,8 @@ fn surely_used(item: Option<Found<'_>>) -> usize
     }
 }
 
-/// Whether a short jump of code, which begins at a place and ends with these bytes, leads through an entry behind the
-/// first `count`: then so many entries do not fit. If not, no other instruction was looked at.
+/// Whether a short jump in code uses an entry after the first `count` ones. In this case, `count` entries do not fit.
+/// The code begins at `begin` and ends with `bytes`. Other instructions are not checked.
 pub(crate) fn takes_more<'a>(
     bytes: &'a [u8],
     fronts: &[Option<Front<'a>>],

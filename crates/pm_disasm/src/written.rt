@@ -1,4 +1,4 @@
-//! What is written for the parts of code.
+//! The items that are shown for the parts of code.
 
 ghost use Rattle.std.specs.Prelude.{◌≡◌, ◌<◌, ◌≤◌, ◌+◌, ◌-◌, ◌||◌, ◌&&◌, ◌++◌};
 ghost use Rattle.std.specs.Prelude.{ℕ, true, length, map, option_map, IfSome};
@@ -17,7 +17,7 @@ use crate::parts::Part;
 use crate::places::PlaceSet;
 use pm_code::Target;
 
-/// Whether a jump can be written: by a label at a boundary, or through an entry where that is allowed.
+/// Whether a jump can be shown: by a label at a boundary, or through an entry if `allowed` is true.
 fn target_leads(target: Target<usize>, boundaries: &PlaceSet, allowed: bool) -> bool
     ensures leads { result ≡ (is_allowed allowed (placed_target target)
         && list_all (has boundaries.now) (target_places (placed_target target))) }
@@ -28,7 +28,7 @@ fn target_leads(target: Target<usize>, boundaries: &PlaceSet, allowed: bool) -> 
     }
 }
 
-/// Whether all places of a table are boundaries.
+/// Whether all targets of a table are boundaries.
 fn table_leads(table: Table<'_>, boundaries: &PlaceSet) -> bool
     ensures leads { result ≡ list_all (has boundaries.now)
         (table_places table.entry.at (words_of table.entry.words.now)) }
@@ -44,7 +44,7 @@ fn table_leads(table: Table<'_>, boundaries: &PlaceSet) -> bool
     true
 }
 
-/// Whether the jumps of an item can be written.
+/// Whether the jumps of an item can be shown.
 fn leads(item: Found<'_>, boundaries: &PlaceSet, allowed: bool) -> bool
     ensures leads { result ≡ leading (has boundaries.now) allowed (found_seen item.entry) }
 {
@@ -57,7 +57,7 @@ fn leads(item: Found<'_>, boundaries: &PlaceSet, allowed: bool) -> bool
     }
 }
 
-/// The item that is written for a part; None where it is written as bytes.
+/// Returns the item that is shown for a part, or `None` if the part is shown as bytes.
 pub(crate) fn item_led<'a>(
     part: Part<'a>,
     boundaries: &PlaceSet,
@@ -73,7 +73,7 @@ pub(crate) fn item_led<'a>(
     Some(item)
 }
 
-/// How many entries a jump table has to have for an item.
+/// Returns the number of entries that a jump table needs for an item.
 pub(crate) fn entries_used(item: Found<'_>) -> usize
     ensures entries { result ≡ entries_used (found_seen item.entry) }
 {
@@ -84,7 +84,7 @@ pub(crate) fn entries_used(item: Found<'_>) -> usize
     }
 }
 
-/// How many entries a jump table has to have for a jump.
+/// Returns the number of entries that a jump table needs for a jump.
 fn entries_for(target: Target<usize>) -> usize
     ensures entries { result ≡ entries_for (placed_target target) }
 {
@@ -94,7 +94,7 @@ fn entries_for(target: Target<usize>) -> usize
     }
 }
 
-/// How many entries the jumps of code take that are written.
+/// Returns the number of entries that a jump table needs for the jumps that are shown.
 pub(crate) fn entries_needed(parts: &[Part<'_>], boundaries: &PlaceSet) -> usize
     ensures entries { result ≡ entries_needed (written_by (has boundaries.now) true (map part_seen parts.now)) }
 {

@@ -1,18 +1,18 @@
 //! Shares of the stack.
 
-/// What is taken off the stack, or left there.
+/// A part of the stack that an operation takes or leaves.
 #[derive(Clone, Copy)]
 pub enum Share {
-    /// So many words.
+    /// This number of words.
     Words(u16),
-    /// A set: the count of its words, and below it so many words.
+    /// A set: a word with its size in words, and below it that many words.
     Set,
 }
 
-/// What an operation takes off the stack and leaves there.
+/// What an operation takes from the stack and leaves there.
 #[derive(Clone, Copy)]
 pub struct Effect {
-    /// What it takes first.
+    /// What it takes at the top of the stack.
     pub top: Share,
     /// What it takes below that.
     pub below: Share,

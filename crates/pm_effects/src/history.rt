@@ -1,4 +1,5 @@
-//! What instructions take and leave that this machine answers with error 11, as the historical machine had them.
+//! The stack effects that instructions had on the historical machine, for instructions that cause error 11 on this
+//! machine.
 
 ghost use Rattle.std.specs.Prelude.{◌≡◌};
 ghost use Rattle.pm_effects.specs.History as history;
@@ -8,7 +9,7 @@ use crate::table::{effect_of, words};
 use pm_families::{Kind, Value};
 use pm_opcode::{Instr, Operation};
 
-/// Of an opcode: of real numbers, which have two words, and of the variables of other segments.
+/// Returns the effect of an opcode for real numbers, which have two words, or for variables of other segments.
 #[tactic(auto, unfolding(crate::specs::History::opcode_effect, crate::specs::History::opcode_effects))]
 fn of_opcode(op: u8) -> Option<Effect>
     ensures value { result ≡ history.opcode_effect op }
@@ -24,7 +25,7 @@ fn of_opcode(op: u8) -> Option<Effect>
     }
 }
 
-/// Of a standard procedure, by its number: the functions of a real number, and the power of ten.
+/// Returns the effect of a standard procedure by its number: the functions on real numbers, and the power of ten.
 #[tactic(auto, unfolding(crate::specs::History::standard_effect, crate::specs::History::standard_effects))]
 fn of_standard(number: u8) -> Option<Effect>
     ensures value { result ≡ history.standard_effect number }
@@ -37,7 +38,7 @@ fn of_standard(number: u8) -> Option<Effect>
     }
 }
 
-/// What an instruction takes and leaves that this machine does not do.
+/// Returns the historical effect of an instruction that this machine does not execute.
 fn historical_effect(what: Operation, op: u8) -> Option<Effect>
     ensures value { result ≡ history.historical_effect what op }
 {
@@ -49,8 +50,11 @@ fn historical_effect(what: Operation, op: u8) -> Option<Effect>
     }
 }
 
-/// What an instruction takes and leaves: by the table of this machine, else as the historical machine had it. None of a
-/// call, of `IDSEARCH` and `TREESEARCH`, of a standard procedure of another number, and of what is not assigned.
+/// Returns the stack effect of an instruction. It is that of this machine or, if this machine has none, that of the
+/// historical machine.
+///
+/// Returns `None` for calls, for `IDSEARCH` and `TREESEARCH`, for standard procedures with other numbers, and for
+/// opcodes that are not assigned.
 pub fn instruction_effect(i: &Instr) -> Option<Effect>
     ensures value { result ≡ history.instruction_effect i.now }
 {

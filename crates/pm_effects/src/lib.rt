@@ -1,4 +1,4 @@
-//! How many words each instruction takes off the stack, and how many it leaves there.
+//! The stack effects of instructions: how many words each instruction takes from the stack, and how many it leaves.
 #![tactic(auto)]
 
 mod effect;

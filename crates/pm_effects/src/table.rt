@@ -1,4 +1,4 @@
-//! What operations take off the stack and leave there.
+//! The stack effects of operations.
 
 ghost use Rattle.std.specs.Prelude.{◌≡◌, ◌<◌, ◌≤◌};
 ghost use Rattle.pm_effects.specs.Effects as effects;
@@ -9,7 +9,7 @@ use pm_families::{
 };
 use pm_opcode::Operation;
 
-/// So many words are taken, and so many left.
+/// Returns the effect of taking `takes` words and leaving `leaves` words.
 pub fn words(takes: u16, leaves: u16) -> Effect
     ensures value { result ≡ effects.words takes leaves }
 {
@@ -20,7 +20,7 @@ pub fn words(takes: u16, leaves: u16) -> Effect
     }
 }
 
-/// So many words are taken, and a set is left.
+/// Returns the effect of taking `takes` words and leaving a set.
 fn makes_set(takes: u16) -> Effect
     ensures value { result ≡ effects.makes_set takes }
 {
@@ -31,7 +31,7 @@ fn makes_set(takes: u16) -> Effect
     }
 }
 
-/// A set is taken and something below it.
+/// Returns the effect of taking a set and the share `below` it, and leaving `leaves`.
 fn takes_set(below: Share, leaves: Share) -> Effect
     ensures value { result ≡ effects.takes_set below leaves }
 {
@@ -139,8 +139,11 @@ fn of_jump(what: Jump) -> Effect
     }
 }
 
-/// What a standard procedure takes and leaves, by its number; none of a number that this machine answers with error 11.
-/// Of `EXIT` (4), and of what loads and unloads a segment (21, 22), it is what is taken off the stack of the caller.
+/// Returns the stack effect of a standard procedure by its number. Returns `None` for a number that causes error 11 on
+/// this machine.
+///
+/// For `EXIT` (4), and for the procedures that load and unload a segment (21, 22), the effect is what is taken from the
+/// caller's stack.
 pub fn standard_effect(number: u8) -> Option<Effect>
     ensures value { result ≡ effects.standard_effect number }
 {
@@ -158,7 +161,8 @@ pub fn standard_effect(number: u8) -> Option<Effect>
     }
 }
 
-/// What an operation takes and leaves; none of a call, and of what the machine answers with error 11.
+/// Returns the stack effect of an operation. Returns `None` for a call, and for operations that cause error 11 on this
+/// machine.
 pub fn effect_of(what: Operation) -> Option<Effect>
     ensures value { result ≡ effects.effect_of what }
 {

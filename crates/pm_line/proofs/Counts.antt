@@ -1,4 +1,4 @@
--- What is ill-formed since there are too few operands, or too many.
+-- Too few or too many operands are malformed.
 use Rattle.std.proofs.Common.{◌≡◌, ℕ, ◌<◌, List, [], ◌∷◌, length, None, Some, refl, arith, Bor}
 use Rattle.std.proofs.lemmas.List.{length-map}
 use Rattle.pm_source.specs.Line.{byte_and_number, byte_operand, case_jump, entry_operands, one_comparison, one_jump, one_long_number, one_number}

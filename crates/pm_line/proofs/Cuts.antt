@@ -10,7 +10,7 @@ use Rattle.pm_line.proofs.Onto.{onto_end, onto_next}
 pieces_on : (q : Bool) (c : ℕ) (cs : List ℕ) → ((c == 44) && not q) ≡ false → pieces q (c ∷ cs) ≡ onto_first c (pieces (if c == 34 then not q else q) cs)
 pieces_on q c cs h = ap (λ b. if b then [] ∷ pieces q cs else onto_first c (pieces (if c == 34 then not q else q) cs)) h
 
--- a character of the piece
+-- A character of the piece.
 pub piece_on : (text : List ℕ) (i : ℕ) (q : Bool) → i < length text → ((get_or text i 0 == 44) && not q) ≡ false
     → onto_piece (take (i + 1) text) (pieces (if get_or text i 0 == 34 then not q else q) (drop (i + 1) text))
     ≡ onto_piece (take i text) (pieces q (drop i text))
@@ -21,7 +21,7 @@ piece_on text i q h n =
     ∙ ap (onto_piece (take i text)) (sym (pieces_on q c (drop (i + 1) text) n))
     ∙ ap (λ cs. onto_piece (take i text) (pieces q cs)) (sym (drop_more text i 0 h))
 
--- the comma behind it
+-- The comma after the piece.
 pub piece_ends : (text : List ℕ) (i : ℕ) → i < length text → get_or text i 0 ≡ 44
     → onto_piece (take i text) (pieces false (drop i text)) ≡ take i text ∷ pieces false (drop (i + 1) text)
 piece_ends text i h e =
@@ -29,7 +29,7 @@ piece_ends text i h e =
     ∙ ap (λ c. onto_piece (take i text) (pieces false (c ∷ drop (i + 1) text))) e
     ∙ onto_end (take i text) (pieces false (drop (i + 1) text))
 
--- no comma behind it
+-- No comma after the piece.
 pub piece_whole : (text : List ℕ) (i : ℕ) (q : Bool) → length text ≤ i → onto_piece (take i text) (pieces q (drop i text)) ≡ text ∷ []
 piece_whole text i q h =
     ap (λ cs. onto_piece (take i text) (pieces q cs)) (drop_all i text h)

@@ -1,4 +1,4 @@
--- Which lines end a procedure.
+-- The lines that end a procedure.
 use Rattle.std.proofs.Common.{◌≡◌, ℕ, Bool, true, false, List, [], ◌∷◌, refl, sym, ap, ◌∙◌, subst, Option, Some, None}
 use Rattle.std.specs.Prelude.{codes, if◌then◌else◌}
 use Rattle.std.specs.List.{list_all}
@@ -19,7 +19,7 @@ use Rattle.pm_source.specs.Line.{size_operand, slot_operand, spoken, uncommented
 use Rattle.pm_source.specs.Line.Keyword.{OfSegment, OfProcedure, OfExit, OfJump, OfEnd, OfBytes, Mnemonic}
 use Rattle.pm_source.specs.Line.Line.{Wrong}
 
--- what is said is the end of a procedure, or it is not
+-- Whether the parsed statement is the end of a procedure.
 abbrev OperandEnds : Bool → Operand Statement → Type 0
 OperandEnds b None = Unit {0}
 OperandEnds b (Some x) = is_end x.0 ≡ b
@@ -102,7 +102,7 @@ labelled_ends n label rest (c ∷ cs) = by (keyword_of (c ∷ cs))
     by None = refl
     by (Some keyword) = named_ends (is_name label) _ (saying_ends false _ (code_ends n (Some label) (items_said keyword rest)))
 
--- the keyword that a word is ends a procedure where the word is `.END`
+-- A keyword ends a procedure if the word is `.END`.
 mnemonic_ends : (op : Option ℕ) → keyword_is_end (mnemonic_keyword op) ≡ false
 mnemonic_ends None = refl
 mnemonic_ends (Some op) = refl
@@ -153,7 +153,7 @@ by_ends n false word rest = refl
 by_ends n true [] rest = refl
 by_ends n true (c ∷ cs) rest = words_end n (record { word = c ∷ cs; rest = rest }) (label_of (c ∷ cs)) refl
 
--- A line ends a procedure where its first word is `.END`.
+-- A line ends a procedure if and only if its first word is `.END`.
 pub ends_by_word : (n : ℕ) (text : List ℕ) → ends (line_of n text) ≡ bytes_eq (cut (uncommented false text)).word (codes ".END")
 unfolding line_of
 ends_by_word n text =

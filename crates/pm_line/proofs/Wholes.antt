@@ -1,4 +1,4 @@
--- A line whose characters may all stand in it, and that is not blank.
+-- A line that has only allowed characters and is not empty.
 use Rattle.std.proofs.Common.{◌≡◌, ℕ, true, false, List, [], ◌∷◌, length, refl, ap, sym, ◌∙◌}
 use Rattle.std.specs.Prelude.{◌==◌}
 use Rattle.std.specs.List.{list_all}

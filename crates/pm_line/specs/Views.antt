@@ -1,4 +1,4 @@
--- What the values of the code stand for.
+-- The values of the code, as values of the specification.
 use Rattle.std.specs.Prelude.{ℕ, ◌+◌, Bool, true, not, List, [], ◌∷◌, ◌++◌, ◌&&◌, Vec, Option}
 use Rattle.std.specs.Prelude.{Some, None, map, length, option_map, false, if◌then◌else◌}
 use Rattle.std.specs.Borrow.{Bor}
@@ -40,14 +40,14 @@ texts_seen ts = map text_seen ts
 abbrev pub labelled_target : Target (Bor (List ℕ)) → model.Target Name
 labelled_target target = target_seen text_seen target
 
--- An item by its labels.
+-- An item with its labels.
 abbrev pub labelled_item : Item (Bor (List ℕ)) → model.Item Name
 labelled_item item = item_seen text_seen item
 
 abbrev pub items_seen : {R : Type 0} → Vec (Item (Bor (List ℕ))) R → List (model.Item Name)
 items_seen list = map labelled_item list.items
 
--- The items that a line says.
+-- The items of a line.
 abbrev pub said_items_seen : SaidItems → List (model.Item Name)
 said_items_seen (alone.One item) = labelled_item item ∷ []
 said_items_seen (alone.Many list) = items_seen list
@@ -69,7 +69,7 @@ flaw_seen flaws.NoFlaw = NoFlaw
 flaw_seen flaws.OutOfRange = OutOfRange
 flaw_seen flaws.UnknownType = UnknownType
 
--- What a line of the code says.
+-- A parsed line.
 abbrev pub line_seen : Line → text.Line
 line_seen lines.Blank = Blank
 line_seen (lines.Wrong ends) = Wrong ends
@@ -88,7 +88,7 @@ keyword_seen (keywords.Mnemonic op) = Mnemonic op
 abbrev pub number_seen : Number → ℕ × Bool
 number_seen n = (n.value, n.long)
 
--- An operand, or what a keyword says, by what it stands for.
+-- An operand, or a parsed statement, with its value converted by `f`.
 abbrev pub pair_seen : {A B C : Type 0} → (A → B) → A × C → B × C
 pair_seen f x = (f x.0, x.1)
 
@@ -107,67 +107,67 @@ vec_seen list = list.items
 abbrev pub labels_seen : {R : Type 0} → Vec (Bor (List ℕ)) R → List Name
 labels_seen list = texts_seen list.items
 
--- whether a keyword is a directive with words behind it
+-- Whether a keyword is a directive whose operands are words.
 abbrev pub is_directive : text.Keyword → Bool
 is_directive OfBytes = false
 is_directive (Mnemonic op) = false
 is_directive _ = true
 
--- the pieces behind a comma, if there is one
+-- The pieces after a comma, if there is one.
 abbrev pub pieces_behind : Option (List ℕ) → List (List ℕ)
 pieces_behind None = []
 pieces_behind (Some rest) = pieces false rest
 
--- A word and what stands behind it.
+-- A word and the text after it.
 abbrev pub cut_seen : List ℕ → List ℕ → Cut
 cut_seen word rest = record { word = word; rest = rest }
 
--- Not one text.
+-- The list does not have exactly one text.
 abbrev pub IsNotOne : List (List ℕ) → Type 0
 IsNotOne (t ∷ []) = ⊥
 IsNotOne _ = Unit {0}
 
--- Not two texts.
+-- The list does not have exactly two texts.
 abbrev pub IsNotTwo : List (List ℕ) → Type 0
 IsNotTwo (t ∷ u ∷ []) = ⊥
 IsNotTwo _ = Unit {0}
 
--- Not four texts.
+-- The list does not have exactly four texts.
 abbrev pub IsNotFour : List (List ℕ) → Type 0
 IsNotFour (t ∷ u ∷ v ∷ w ∷ []) = ⊥
 IsNotFour _ = Unit {0}
 
--- whether a text begins with no blank
+-- Whether a text begins with a character that is neither a space nor a tab.
 abbrev pub begins_solid : List ℕ → Bool
 begins_solid [] = false
 begins_solid (c ∷ cs) = not (is_blank c)
 
--- how much is left to cut into pieces
+-- A measure of the text that is still to be divided into pieces.
 abbrev pub left : Option (List ℕ) → ℕ
 left None = 0
 left (Some rest) = 1 + length rest
 
--- a piece that goes on with what the first of others begins with
+-- Prepends characters to the first of several pieces.
 abbrev pub onto_piece : List ℕ → List (List ℕ) → List (List ℕ)
 onto_piece [] ps = ps
 onto_piece (c ∷ cs) ps = onto_first c (onto_piece cs ps)
 
--- bytes before others, where there are others
+-- Prepends bytes to other bytes, if there are any.
 abbrev pub onto_bytes : List ℕ → Option (List ℕ) → Option (List ℕ)
 onto_bytes bs None = None
 onto_bytes bs (Some cs) = Some (bs ++ cs)
 
--- what characters stand for whose first byte is this, if there is one
+-- The bytes of a text, by its first byte and its remaining characters.
 abbrev pub first_unescaped : Option (ℕ × List ℕ) → Option (List ℕ)
 first_unescaped None = None
 first_unescaped (Some x) = onto_bytes (x.0 ∷ []) (text.unescaped x.1)
 
--- what characters between quotes stand for, if there are quotes
+-- The bytes of the text between quotes, if there are quotes.
 abbrev pub unescaped_if : Option (List ℕ) → Option (List ℕ)
 unescaped_if None = None
 unescaped_if (Some cs) = text.unescaped cs
 
--- operands before others, where there are others
+-- Prepends operands to other operands, if these are well-formed.
 abbrev pub onto_operands : {A : Type 0} → List A → Bool → Operand (List A) → Operand (List A)
 onto_operands xs good None = None
 onto_operands xs good (Some more) = Some (xs ++ more.0, good && more.1)

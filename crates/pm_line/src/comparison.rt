@@ -1,4 +1,4 @@
-//! Comparisons, whose operand is a type word, with a size behind it where the type has one.
+//! Comparisons. Their operand is a type word, which is followed by a size for some types.
 
 ghost use Rattle.std.specs.Prelude.{◌≡◌, option_map, IfOk};
 ghost use Rattle.std.specs.Map.{lookup};
@@ -16,10 +16,10 @@ use pm_code::Item;
 use pm_opcode::{Form, Instr};
 use std::alloc::{AllocError, Global};
 
-/// What may be ill-formed, with its flaw; and a want of memory.
+/// A parsed value and its flaw, `None` if the text is malformed, or `AllocError` if memory runs out.
 pub(crate) type Said<T> = Result<Option<(T, Flaw)>, AllocError>;
 
-/// The flaw of what is in range or not.
+/// Returns `NoFlaw` if a value is in range, else `OutOfRange`.
 pub(crate) fn flaw_of(in_range: bool) -> Flaw
     ensures flaw { flaw_seen result ≡ range_flaw in_range }
 {
@@ -30,7 +30,7 @@ pub(crate) fn flaw_of(in_range: bool) -> Flaw
     }
 }
 
-/// The type byte of a type word that has no size.
+/// Returns the type byte of a type word without a size.
 fn unsized_type(word: &[u8]) -> Option<u8>
     ensures type_byte { result ≡ lookup (bytes_eq word.now) type_words }
 {
@@ -43,7 +43,7 @@ fn unsized_type(word: &[u8]) -> Option<u8>
     }
 }
 
-/// The type byte of a type word that has a size.
+/// Returns the type byte of a type word with a size.
 fn sized_type(word: &[u8]) -> Option<u8>
     ensures type_byte { result ≡ lookup (bytes_eq word.now) sized_type_words }
 {
@@ -54,7 +54,8 @@ fn sized_type(word: &[u8]) -> Option<u8>
     }
 }
 
-/// A comparison of a type that has a size, or of none, by the words behind the type.
+/// Returns a comparison of the type `sized`, whose size is the only word in `others`. If `sized` is `None`, the type is
+/// unknown.
 #[tactic(auto, using(crate::proofs::Counts::no_sized))]
 fn sized_comparison<'a>(
     alloc: Global,
@@ -78,7 +79,7 @@ fn sized_comparison<'a>(
     Some((plain(alloc, instr), flaw_of(in_range)))
 }
 
-/// A comparison by the words of its operand.
+/// Returns a comparison from the words of its operand. Returns `None` if the operand is malformed.
 fn comparison<'a>(alloc: Global, op: u8, words: &[&'a [u8]]) -> Option<(Item<&'a [u8]>, Flaw)>
     ensures item { said_seen labelled_item result ≡ comparison op (texts_seen words.now) }
 {
@@ -115,7 +116,7 @@ fn one_comparison<'a>(alloc: Global, op: u8, texts: &[&'a [u8]]) -> Said<Item<&'
     Ok(comparison(alloc, op, &words))
 }
 
-/// An instruction by the form of its operands.
+/// Returns an instruction from its operands, by the form of its opcode.
 pub(crate) fn instruction_said<'a>(
     alloc: Global,
     form: Form,

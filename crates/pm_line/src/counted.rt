@@ -1,9 +1,9 @@
-//! Operands in a fixed number.
+//! A fixed number of operands.
 
 ghost use Rattle.std.specs.Prelude.{◌≡◌, ◌∷◌, [], IfSome, IsNone};
 ghost use Rattle.pm_line.specs.Views.{IsNotFour, IsNotOne, IsNotTwo, texts_seen};
 
-/// The operand, where there is just one.
+/// Returns the operand if there is exactly one.
 pub(crate) fn only<'a>(texts: &[&'a [u8]]) -> Option<&'a [u8]>
     ensures one { IfSome result (λ text. texts_seen texts.now ≡ text.now ∷ []) }
     ensures other { IsNone result → IsNotOne (texts_seen texts.now) }
@@ -14,7 +14,7 @@ pub(crate) fn only<'a>(texts: &[&'a [u8]]) -> Option<&'a [u8]>
     }
 }
 
-/// The operands, where there are just two.
+/// Returns the operands if there are exactly two.
 pub(crate) fn pair<'a>(texts: &[&'a [u8]]) -> Option<(&'a [u8], &'a [u8])>
     ensures two { IfSome result (λ pair. texts_seen texts.now ≡ pair.0.now ∷ pair.1.now ∷ []) }
     ensures other { IsNone result → IsNotTwo (texts_seen texts.now) }
@@ -28,7 +28,7 @@ pub(crate) fn pair<'a>(texts: &[&'a [u8]]) -> Option<(&'a [u8], &'a [u8])>
 /// Four operands.
 type Four<'a> = (&'a [u8], &'a [u8], &'a [u8], &'a [u8]);
 
-/// The operands, where there are just four.
+/// Returns the operands if there are exactly four.
 pub(crate) fn four<'a>(texts: &[&'a [u8]]) -> Option<Four<'a>>
     ensures four { IfSome result (λ four. texts_seen texts.now
         ≡ four.0.now ∷ four.1.now ∷ four.2.now ∷ four.3.now ∷ []) }

@@ -1,4 +1,4 @@
-//! The words in front of a line.
+//! The first words of a line.
 
 ghost use Rattle.std.specs.Prelude.{◌≡◌, option_map};
 ghost use Rattle.pm_line.specs.Fronts.{front_of, front_seen, keyword_in};
@@ -9,17 +9,17 @@ use crate::pieces::uncommented;
 use crate::spoken::label_of;
 use crate::words::cut;
 
-/// The words in front of a line.
+/// The first words of a line.
 #[derive(Clone, Copy)]
 pub struct Front<'a> {
-    /// The first word without its colon, if it has one.
+    /// The label, without its colon, if the first word is one.
     pub label: Option<&'a [u8]>,
-    /// The word behind that, or else the first one; of no letters where there is none.
+    /// The first word that is not the label. It is empty if there is none.
     pub word: &'a [u8],
 }
 
 impl Front<'_> {
-    /// The mnemonic or directive that its word is.
+    /// Returns the mnemonic or directive that `word` is.
     pub fn keyword(&self) -> Option<Keyword>
         ensures keyword { option_map keyword_seen result ≡ keyword_in (front_seen self.now) }
     {
@@ -27,7 +27,7 @@ impl Front<'_> {
     }
 }
 
-/// The words in front of a line, by its characters without the line feed.
+/// Returns the first words of a line. `text` is the line without its line feed.
 #[tactic(auto, unfolding(crate::specs::Fronts::front_of))]
 pub fn front_of(text: &[u8]) -> Front<'_>
     ensures front { front_seen result ≡ front_of text.now }

@@ -1,7 +1,7 @@
-//! Instructions by the forms of their operands, but for comparisons.
+//! Instructions by the forms of their operands, except comparisons.
 //!
-//! Each function answers None where the operands are ill-formed, and else the item and whether its numbers, lengths and
-//! counts are in range.
+//! Each function returns `None` if the operands are malformed. Otherwise it returns the item and whether its numbers,
+//! lengths and counts are in range.
 
 ghost use Rattle.std.specs.Prelude.{◌≡◌, ◌<◌, ◌≤◌, ◌+◌, option_map, IfOk, IfSome};
 ghost use Rattle.pm_source.specs.Line.{bare_instruction, byte_and_number, byte_operand, case_jump};
@@ -19,17 +19,17 @@ use pm_code::Item;
 use pm_opcode::{Form, Instr, jumps_between};
 use std::alloc::{AllocError, Global};
 
-/// An operand that may be ill-formed, with whether it is in range; and a want of memory.
+/// A parsed operand and whether it is in range, `None` if it is malformed, or `AllocError` if memory runs out.
 pub(crate) type Operand<T> = Result<Option<(T, bool)>, AllocError>;
 
-/// An item that names no bytes.
+/// Returns an item that names no bytes.
 pub(crate) fn plain<'a>(alloc: Global, instr: Instr) -> Item<&'a [u8]>
     ensures item { labelled_item result ≡ plain instr }
 {
     Item::Plain(instr, Vec::new(alloc))
 }
 
-/// An item with one number, as byte or word.
+/// Returns an item with one operand, which is a byte or a word.
 fn with_number<'a>(alloc: Global, op: u8, a: u16) -> Item<&'a [u8]>
     ensures item { labelled_item result ≡ plain (record (bare op) { a = a }) }
 {
@@ -37,7 +37,8 @@ fn with_number<'a>(alloc: Global, op: u8, a: u16) -> Item<&'a [u8]>
     plain(alloc, Instr { a, ..bare })
 }
 
-/// The least and the greatest number that the opcodes of one name stand for, for the first of these opcodes.
+/// Returns the lowest and the highest number that the opcodes of one mnemonic include. `op` is the first of these
+/// opcodes.
 pub fn short_range(op: u8) -> Option<(u8, u8)>
     ensures range { result ≡ short_range op }
     ensures small { IfSome result (λ range. (range.1 ≤ 127) × (op + range.1 < 256)) }
@@ -50,7 +51,7 @@ pub fn short_range(op: u8) -> Option<(u8, u8)>
     }
 }
 
-/// An instruction whose number stands in its opcode.
+/// Parses an instruction whose opcode includes its number.
 #[tactic(auto, using(crate::proofs::Counts::no_short))]
 fn short_instruction<'a>(
     alloc: Global,
@@ -70,7 +71,7 @@ fn short_instruction<'a>(
     Some((plain(alloc, Instr::bare(op)), in_range))
 }
 
-/// An instruction without operands, or one whose number stands in its opcode.
+/// Parses an instruction without operands, or one whose opcode includes its number.
 fn bare_instruction<'a>(alloc: Global, op: u8, texts: &[&'a [u8]]) -> Option<(Item<&'a [u8]>, bool)>
     ensures item { operand_seen labelled_item result ≡ bare_instruction op (short_range op) (texts_seen texts.now) }
 {
@@ -146,7 +147,7 @@ fn byte_and_number<'a>(alloc: Global, op: u8, texts: &[&'a [u8]]) -> Option<(Ite
     Some((plain(alloc, instr), first_good && second_good))
 }
 
-/// An instruction with a text of at most 255 bytes; a longer one is out of range.
+/// Parses an instruction with a string of at most 255 bytes. A longer string is out of range.
 #[tactic(auto, using(crate::proofs::Counts::no_text))]
 fn one_text<'a>(alloc: Global, op: u8, texts: &[&'a [u8]]) -> Operand<Item<&'a [u8]>>
     ensures item { IfOk result (λ item. operand_seen labelled_item item ≡ one_text op (texts_seen texts.now)) }
@@ -168,7 +169,7 @@ fn one_text<'a>(alloc: Global, op: u8, texts: &[&'a [u8]]) -> Operand<Item<&'a [
     Ok(Some((Item::Plain(instr, bytes), true)))
 }
 
-/// An instruction with at most 255 words; more are out of range.
+/// Parses an instruction with at most 255 words. A higher count is out of range.
 fn many_words<'a>(alloc: Global, op: u8, texts: &[&'a [u8]]) -> Operand<Item<&'a [u8]>>
     ensures item { IfOk result (λ item. operand_seen labelled_item item ≡ many_words op (texts_seen texts.now)) }
 {
@@ -196,7 +197,7 @@ fn one_jump<'a>(op: u8, texts: &[&'a [u8]]) -> Option<(Item<&'a [u8]>, bool)>
     Some((Item::Jump(op, target), in_range))
 }
 
-/// A case jump: its bounds, where it leads out of bounds, and a label for each number from bound to bound.
+/// Parses a case jump: its bounds, its target for other values, and a label for each value from bound to bound.
 #[tactic(auto, using(crate::proofs::Counts::no_case_texts))]
 fn case_jump<'a>(alloc: Global, texts: &[&'a [u8]]) -> Operand<Item<&'a [u8]>>
     ensures item { IfOk result (λ item. operand_seen labelled_item item ≡ case_jump (texts_seen texts.now)) }
@@ -224,7 +225,7 @@ fn case_jump<'a>(alloc: Global, texts: &[&'a [u8]]) -> Operand<Item<&'a [u8]>>
     Ok(Some((item, low_good && high_good && target_good && is_counted)))
 }
 
-/// An instruction by the form of its operands.
+/// Parses the operands of an instruction, by the form of its opcode.
 pub(crate) fn instruction<'a>(
     alloc: Global,
     form: Form,

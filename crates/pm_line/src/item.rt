@@ -1,4 +1,4 @@
-//! What lines say.
+//! The results of parsing a line.
 
 ghost use Rattle.std.specs.Prelude.{◌≡◌, map};
 ghost use Rattle.pm_line.specs.Views.{labelled_item, row_seen};
@@ -10,9 +10,9 @@ use std::slice::from_ref;
 /// A line of a procedure's code.
 #[derive(Drop)]
 pub enum Row<'a> {
-    /// One item, with a label before it or without. It takes no memory besides.
+    /// One item, with or without a label. The variant needs no memory for a list.
     One {
-        /// The line's number.
+        /// The line number.
         line: usize,
         /// The label before the item.
         label: Option<&'a [u8]>,
@@ -21,19 +21,19 @@ pub enum Row<'a> {
     },
     /// A label, items, or both.
     Items {
-        /// The line's number.
+        /// The line number.
         line: usize,
         /// The label before the items.
         label: Option<&'a [u8]>,
         /// The items, in order.
         items: Vec<Item<&'a [u8]>>,
     },
-    /// The place of the exit code.
+    /// The directive `.EXIT`: the exit code begins here.
     Exit,
 }
 
 impl<'a> Row<'a> {
-    /// Its items, in order. The place of the exit code has none.
+    /// Returns the items of the line, in order. `Exit` has none.
     pub fn items(&self) -> &[Item<&'a [u8]>]
         ensures items { map labelled_item result.now ≡ row_items (row_seen self.now) }
     {
@@ -45,63 +45,63 @@ impl<'a> Row<'a> {
     }
 }
 
-/// A well-formed line that is not blank.
+/// A well-formed line that is not empty.
 #[derive(Drop)]
 pub enum Statement<'a> {
-    /// The head of a segment.
+    /// The beginning of a segment.
     Segment {
-        /// Its number; 16 where the text's is out of range.
+        /// Its number, or 16 if the number in the text is out of range.
         number: u8,
         /// Its name, 1 to 8 bytes.
         name: &'a [u8],
     },
-    /// The head of a procedure.
+    /// The beginning of a procedure.
     Begin {
         /// Its number.
         number: u8,
-        /// Its level, a byte in two's complement.
+        /// Its level, as a byte in two's complement.
         level: u8,
         /// The size of its parameters, in bytes.
         parameters: u16,
         /// The size of its locals, in bytes.
         locals: u16,
     },
-    /// Code of a procedure.
+    /// A line of code of a procedure.
     Code(Row<'a>),
     /// An entry of a procedure's jump table.
     Entry {
-        /// The line's number.
+        /// The line number.
         line: usize,
-        /// The label that it names.
+        /// The label to which the entry refers.
         label: &'a [u8],
     },
     /// The end of a procedure.
     End,
 }
 
-/// What is wrong in a well-formed line.
+/// An error in a well-formed line.
 #[derive(Clone, Copy)]
 pub enum Flaw {
-    /// Nothing.
+    /// No error.
     NoFlaw,
-    /// A number is out of its range, or a length or count is.
+    /// A number, a length or a count is out of range.
     OutOfRange,
     /// A comparison has an unknown type word.
     UnknownType,
 }
 
-/// What a line is.
+/// The result of parsing a line.
 #[derive(Drop)]
 pub enum Line<'a> {
-    /// It says nothing: it is empty, or a comment.
+    /// The line is empty or only a comment.
     Blank,
-    /// It is ill-formed.
+    /// The line is malformed.
     Wrong {
-        /// Its first word is `.END`, so it ends its procedure all the same.
+        /// Whether the first word is `.END`. If so, the line ends its procedure.
         ends: bool,
     },
-    /// Its mnemonic or directive is unknown.
+    /// The mnemonic or directive is unknown.
     Strange,
-    /// It is well-formed.
+    /// The line is well-formed.
     Says(Statement<'a>, Flaw),
 }

@@ -1,4 +1,4 @@
-//! The first word of a line, or the one behind a label.
+//! The keyword of a line: its first word, or the word after its label.
 
 ghost use Rattle.std.specs.Prelude.{◌≡◌, option_map};
 ghost use Rattle.std.specs.Map.{lookup};
@@ -8,7 +8,7 @@ ghost use Rattle.pm_line.specs.Views.{keyword_seen};
 
 use pm_opcode::row_at;
 
-/// What such a word can be.
+/// A keyword.
 #[derive(Clone, Copy)]
 pub enum Keyword {
     /// `.SEG`.
@@ -23,11 +23,11 @@ pub enum Keyword {
     End,
     /// `.BYTE`.
     Bytes,
-    /// The first opcode of a mnemonic.
+    /// A mnemonic, represented by the first opcode that has it.
     Mnemonic(u8),
 }
 
-/// The first opcode that has a name.
+/// Returns the first opcode that has this mnemonic.
 fn opcode_named(name: &[u8]) -> Option<u8>
     ensures opcode { result ≡ named_from name.now 0 256 }
 {
@@ -40,7 +40,7 @@ fn opcode_named(name: &[u8]) -> Option<u8>
     None
 }
 
-/// The directive that a word is.
+/// Returns the directive that a word is.
 #[tactic(auto, unfolding(pm_source::specs::Line::directives))]
 fn directive_named(word: &[u8]) -> Option<Keyword>
     ensures directive { option_map keyword_seen result ≡ lookup (bytes_eq word.now) directives }
@@ -56,7 +56,7 @@ fn directive_named(word: &[u8]) -> Option<Keyword>
     }
 }
 
-/// The directive or mnemonic that a word is.
+/// Returns the directive or mnemonic that a word is.
 #[tactic(auto, unfolding(pm_source::specs::Line::keyword_of))]
 pub(crate) fn keyword_of(word: &[u8]) -> Option<Keyword>
     ensures keyword { option_map keyword_seen result ≡ keyword_of word.now }

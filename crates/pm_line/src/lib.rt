@@ -1,8 +1,8 @@
-//! Lines of the assembler's text: what each says.
+//! Lines of assembler source text.
 //!
-//! `line` reads one line. What it answers borrows from the text: names and labels are slices of the line. `line_ends`
-//! tells alone whether it ends a procedure, and `front_of` which words stand in front of it. `text_operand` reads a
-//! text between quotes by itself.
+//! `line` parses one line. Its result borrows from the text: names and labels are slices of the line. `line_ends` only
+//! tests whether a line ends a procedure. `front_of` returns the first words of a line. `text_operand` parses a quoted
+//! string.
 #![tactic(auto)]
 
 mod comparison;

@@ -1,4 +1,4 @@
-//! Operands in any number.
+//! Any number of operands.
 
 ghost use Rattle.std.specs.Prelude.{◌≡◌, length, map, option_map, IfOk};
 ghost use Rattle.pm_code.specs.Item.Item.{OneByte};
@@ -9,7 +9,7 @@ use crate::operand::{byte_operand, label_operand, word_operand};
 use pm_code::Item;
 use std::alloc::{AllocError, Global};
 
-/// Words, and whether each is in range.
+/// Parses words, and returns whether all are in range. Returns `None` if an operand is malformed.
 #[tactic(auto, using(crate::proofs::Onto::onto_more, crate::proofs::Onto::onto_none))]
 pub(crate) fn word_operands(
     alloc: Global,
@@ -30,7 +30,7 @@ pub(crate) fn word_operands(
     Ok(Some((words, in_range)))
 }
 
-/// Bytes, and whether each is in range.
+/// Parses bytes, and returns whether all are in range. Returns `None` if an operand is malformed.
 #[tactic(auto, using(crate::proofs::Onto::onto_more, crate::proofs::Onto::onto_none))]
 pub(crate) fn byte_operands(
     alloc: Global,
@@ -51,7 +51,7 @@ pub(crate) fn byte_operands(
     Ok(Some((bytes, in_range)))
 }
 
-/// Labels.
+/// Parses labels. Returns `None` if an operand is malformed. Labels are always in range.
 #[tactic(auto, using(crate::proofs::Onto::onto_more, crate::proofs::Onto::onto_none))]
 pub(crate) fn label_operands<'a>(
     alloc: Global,
@@ -72,7 +72,7 @@ pub(crate) fn label_operands<'a>(
     Ok(Some((labels, in_range)))
 }
 
-/// The bytes of words, each with its low byte first.
+/// Returns the bytes of words, the low byte first.
 pub(crate) fn flat_words(alloc: Global, words: &[u16]) -> Result<Vec<u8>, AllocError>
     ensures bytes { IfOk result (λ bytes. bytes.items ≡ flat_words words.now) }
 {
@@ -84,7 +84,7 @@ pub(crate) fn flat_words(alloc: Global, words: &[u16]) -> Result<Vec<u8>, AllocE
     Ok(bytes)
 }
 
-/// Bytes as items.
+/// Returns each byte as an item.
 pub(crate) fn byte_items<'a>(alloc: Global, bytes: &[u8]) -> Result<Vec<Item<&'a [u8]>>, AllocError>
     ensures items { IfOk result (λ items. items_seen items ≡ map OneByte bytes.now) }
 {

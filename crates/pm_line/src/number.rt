@@ -1,4 +1,4 @@
-//! Numbers of a text.
+//! Numbers in source text.
 
 ghost use Rattle.std.specs.Prelude.{◌≡◌, ◌<◌};
 ghost use Rattle.std.specs.Char.{is_ascii_digit, is_ascii_hexdigit};
@@ -20,7 +20,7 @@ fn are_hexadecimal(digits: &[u8]) -> bool
     digits.iter().all(|digit| digit.is_ascii_hexdigit())
 }
 
-/// The number that decimal digits are.
+/// Parses decimal digits. Returns `None` if there are none or another character occurs.
 fn decimal_number(negative: bool, digits: &[u8]) -> Option<Numeral>
     ensures number { result ≡ decimal_number negative digits.now }
 {
@@ -34,7 +34,7 @@ fn decimal_number(negative: bool, digits: &[u8]) -> Option<Numeral>
     })
 }
 
-/// The number that one to four hexadecimal digits are.
+/// Parses one to four hexadecimal digits.
 #[tactic(auto, using(pm_code::proofs::Capped::four_digits))]
 fn hexadecimal_number(digits: &[u8]) -> Option<Numeral>
     ensures number { result ≡ hexadecimal_number digits.now }
@@ -49,7 +49,7 @@ fn hexadecimal_number(digits: &[u8]) -> Option<Numeral>
     })
 }
 
-/// The number that a text is.
+/// Parses a number: decimal digits, `-` and decimal digits, or `$` and hexadecimal digits.
 pub(crate) fn number(text: &[u8]) -> Option<Numeral>
     ensures number { result ≡ number text.now }
 {
@@ -60,7 +60,7 @@ pub(crate) fn number(text: &[u8]) -> Option<Numeral>
     }
 }
 
-/// Whether a number lies from the negative of `below` to `above`.
+/// Whether a number is between `-below` and `above`, inclusive.
 pub(crate) fn is_within(below: u32, above: u32, n: Numeral) -> bool
     ensures within { result ≡ within below above n }
 {
@@ -71,7 +71,7 @@ pub(crate) fn is_within(below: u32, above: u32, n: Numeral) -> bool
     }
 }
 
-/// A number as one of so many values, from 0 on.
+/// Returns a number modulo `values`. A negative number whose magnitude is at least `values` results in 0.
 pub(crate) fn stored(values: u32, n: Numeral) -> u32
     requires some { 0 < values }
     ensures value { result ≡ stored values n }

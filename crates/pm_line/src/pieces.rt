@@ -8,7 +8,7 @@ ghost use Rattle.pm_line.specs.Views.{pieces_behind, texts_seen};
 use crate::words::{trimmed, unindented};
 use std::alloc::{AllocError, Global};
 
-/// What stands before the `;` that is not in quotes.
+/// Returns the text before the first `;` that is not in quotes, or the whole text if there is none.
 pub(crate) fn uncommented(text: &[u8]) -> &[u8]
     ensures text { result.now ≡ uncommented false text.now }
 {
@@ -24,7 +24,7 @@ pub(crate) fn uncommented(text: &[u8]) -> &[u8]
     text
 }
 
-/// What stands before the first comma that is not in quotes, and what stands behind it, if there is one.
+/// Returns the text before the first comma that is not in quotes, and the text after that comma, if there is one.
 #[tactic(auto, using(crate::proofs::Onto::onto_next, crate::proofs::Onto::onto_end))]
 fn first_piece(text: &[u8]) -> (&[u8], Option<&[u8]>)
     ensures pieces { pieces false text.now ≡ result.0.now ∷ pieces_behind (option_map (λ rest. rest.now) result.1) }
@@ -42,7 +42,7 @@ fn first_piece(text: &[u8]) -> (&[u8], Option<&[u8]>)
     (text, None)
 }
 
-/// The pieces between the commas outside quotes, each without the blanks at its ends.
+/// Returns the pieces between the commas outside quotes, each without spaces and tabs at its ends.
 fn pieces<'a>(alloc: Global, text: &'a [u8]) -> Result<Vec<&'a [u8]>, AllocError>
     ensures pieces { IfOk result (λ list. texts_seen list.items ≡ map trimmed (pieces false text.now)) }
 {
@@ -56,7 +56,7 @@ fn pieces<'a>(alloc: Global, text: &'a [u8]) -> Result<Vec<&'a [u8]>, AllocError
     Ok(list)
 }
 
-/// The operands behind a mnemonic; none where nothing but blanks stands there.
+/// Returns the operands after a mnemonic. There are none if the text has only spaces and tabs.
 pub(crate) fn operands<'a>(alloc: Global, text: &'a [u8]) -> Result<Vec<&'a [u8]>, AllocError>
     ensures operands { IfOk result (λ list. texts_seen list.items ≡ operands text.now) }
 {

@@ -1,4 +1,4 @@
-//! What a line says.
+//! Parsing a line.
 
 ghost use Rattle.std.specs.Prelude.{◌≡◌, ℕ, List, true, option_map, IfOk};
 ghost use Rattle.std.specs.List.{list_all};
@@ -20,14 +20,14 @@ use pm_code::Item;
 use pm_opcode::form_at;
 use std::alloc::{AllocError, Global};
 
-/// The items that a line says: one needs no list.
+/// The items of a line. One item needs no list.
 #[derive(Drop)]
 enum SaidItems<'a> {
     One(Item<&'a [u8]>),
     Many(Vec<Item<&'a [u8]>>),
 }
 
-/// The items that `.BYTE` says.
+/// Parses the operands of `.BYTE`.
 fn bytes_said<'a>(alloc: Global, texts: &[&'a [u8]]) -> Said<SaidItems<'a>>
     ensures items { IfOk result (λ list. said_seen said_items_seen list ≡ checked (bytes_said (texts_seen texts.now))) }
 {
@@ -44,7 +44,7 @@ fn bytes_said<'a>(alloc: Global, texts: &[&'a [u8]]) -> Said<SaidItems<'a>>
     Ok(Some((items, flaw_of(in_range))))
 }
 
-/// The items that a keyword and the text behind it say.
+/// Parses the items of a keyword and the text after it. Returns `None` if the keyword defines no items.
 fn items_said<'a>(alloc: Global, keyword: Keyword, rest: &'a [u8]) -> Said<SaidItems<'a>>
     ensures items { IfOk result (λ list. said_seen said_items_seen list ≡ items_said (keyword_seen keyword) rest.now) }
 {
@@ -61,7 +61,7 @@ fn items_said<'a>(alloc: Global, keyword: Keyword, rest: &'a [u8]) -> Said<SaidI
     }
 }
 
-/// A line of code by its items.
+/// Returns the line of code with these items.
 fn code_said<'a>(
     line: usize,
     label: Option<&'a [u8]>,
@@ -78,7 +78,7 @@ fn code_said<'a>(
     Some((Statement::Code(row), flaw))
 }
 
-/// What a directive and the words behind it say; None for what is no directive but `.BYTE`.
+/// Parses a directive from the words after it. Returns `None` for `.BYTE` and for mnemonics.
 fn directive<'a>(line: usize, keyword: Keyword, texts: &[&'a [u8]]) -> Option<(Statement<'a>, bool)>
     requires directive { is_directive (keyword_seen keyword) ≡ true }
     ensures said { (rest : List ℕ) → texts_seen texts.now ≡ words rest
@@ -94,7 +94,7 @@ fn directive<'a>(line: usize, keyword: Keyword, texts: &[&'a [u8]]) -> Option<(S
     }
 }
 
-/// What a keyword and the text behind it say.
+/// Parses a keyword and the text after it.
 fn said<'a>(alloc: Global, line: usize, keyword: Keyword, rest: &'a [u8]) -> Said<Statement<'a>>
     ensures said { IfOk result (λ s. said_seen statement_seen s ≡ said line (keyword_seen keyword) rest.now) }
 {
@@ -108,7 +108,7 @@ fn said<'a>(alloc: Global, line: usize, keyword: Keyword, rest: &'a [u8]) -> Sai
     Ok(Some((said, flaw_of(in_range))))
 }
 
-/// A line without a label, by the keyword at its front.
+/// Parses a line without a label. `keyword` is its first word, or `None` if this is unknown.
 fn spoken<'a>(
     alloc: Global,
     line: usize,
@@ -127,7 +127,7 @@ fn spoken<'a>(
     })
 }
 
-/// A line with a label, by the word behind it and what follows.
+/// Parses a line with a label. `word` is the word after the label, and `rest` is the text after that word.
 fn labelled<'a>(
     alloc: Global,
     line: usize,
@@ -154,7 +154,7 @@ fn labelled<'a>(
     })
 }
 
-/// The label before the `:` at a word's end.
+/// Returns the label before a `:` at the end of a word.
 pub(crate) fn label_of(word: &[u8]) -> Option<&[u8]>
     ensures label { option_map text_seen result ≡ label_of word.now }
 {
@@ -164,7 +164,7 @@ pub(crate) fn label_of(word: &[u8]) -> Option<&[u8]>
     }
 }
 
-/// Whether all characters may stand in a text: tabs, and 32 to 126.
+/// Whether all characters are allowed in source text: tabs, and 32 to 126.
 fn are_characters(text: &[u8]) -> bool
     ensures characters { result ≡ list_all is_character text.now }
 {
@@ -172,7 +172,7 @@ fn are_characters(text: &[u8]) -> bool
         .all(|byte| *byte == b'\t' || (32..=126).contains(byte))
 }
 
-/// A line by its first word and what stands behind it.
+/// Parses a line from its first word and the text after it.
 fn line_of_words<'a>(
     alloc: Global,
     number: usize,
@@ -189,18 +189,21 @@ fn line_of_words<'a>(
     labelled(alloc, number, label, word, rest)
 }
 
-/// Whether a line ends a procedure, whatever else is wrong in it: its first word is `.END`. What else it says is not
-/// read, so that it costs no memory.
+/// Whether a line ends a procedure, even if it is malformed. This holds if and only if its first word is `.END`. The
+/// rest of the line is not parsed, and no memory is allocated.
 pub fn line_ends(text: &[u8]) -> bool
     ensures ends { (number : ℕ) → result ≡ ends (line_of number text.now) }
 {
     cut(uncommented(text)).0 == b".END".as_slice()
 }
 
-/// What a line says, by its number and its characters, without the line feed.
+/// Parses a line. `number` is its line number, and `text` is the line without its line feed.
 ///
-/// Its own errors are in the answer: `Line::Wrong`, `Line::Strange`, and the flaw of `Line::Says`. `AllocError`: memory
-/// could not grow.
+/// Errors in the line are part of the result: `Line::Wrong`, `Line::Strange`, and the flaw of `Line::Says`.
+///
+/// # Errors
+///
+/// `AllocError` if memory runs out.
 #[tactic(auto, unfolding(pm_source::specs::Line::line_of))]
 pub fn line<'a>(alloc: Global, number: usize, text: &'a [u8]) -> Result<Line<'a>, AllocError>
     ensures line { IfOk result (λ l. line_seen l ≡ line_of number text.now) }

@@ -1,4 +1,4 @@
--- Set operations on what stands for all that they take.
+-- Set operations on stand-ins only.
 use Rattle.std.proofs.Common.{◌≡◌, List, ℕ, Some, ap, ◌∙◌}
 use Rattle.std.specs.Prelude.{codes}
 use Rattle.pm_effects.specs.declared.effect.Share.TheVariants as share
@@ -9,7 +9,7 @@ use Rattle.pm_phrases.specs.Missing.{share_text, stand_in}
 use Rattle.pm_phrases.specs.Sets as texts
 use Rattle.pm_phrases.specs.Shown.{Shown, standing, value, value_text}
 
--- an operand with another text and form
+-- An operand with another text and form.
 abbrev with_text : Shown → List ℕ → Form → Shown
 with_text a text form = record { text = text; form = form; words = a.words }
 

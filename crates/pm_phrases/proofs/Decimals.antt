@@ -1,9 +1,9 @@
--- A number by its digits.
+-- The decimal digits of a number.
 use Rattle.std.proofs.Common.{◌≡◌, ◌≤◌, ◌<◌, ℕ, ◌+◌, ◌/◌, ◌%◌, ◌^◌, List, [], ◌∷◌, ◌++◌, append_assoc, ap, sym, ◌∙◌}
 use Rattle.std.specs.Fmt.{decimal}
 use Rattle.std.proofs.lemmas.Fmt.{decimal_step}
 
--- the last digit behind those of the tens
+-- The digits of `n / 10`, followed by the last digit, are the digits of `n`.
 pub digit_added : (n : ℕ) (old tens new : List ℕ) → 10 ≤ n → n < 2 ^ 64 → tens ≡ old ++ decimal (n / 10)
     → new ≡ tens ++ ((48 + n % 10) ∷ []) → new ≡ old ++ decimal n
 digit_added n old tens new high small front behind =

@@ -14,18 +14,18 @@ use Rattle.pm_phrases.specs.Shown.{Shown, constant_strength, standing, value, va
 use Rattle.pm_phrases.specs.Signs.{binary_sign, binary_strength, relation_sign}
 use Rattle.pm_phrases.specs.Spelled.{marks}
 
--- an operator between its operands; what stands to its right holds together more, since operators of one strength are
--- done from left to right
+-- An operator between its operands. The right operand needs a higher precedence, because operators of equal precedence
+-- are applied from left to right.
 unfoldable pub between : Shown → List ℕ → ℕ → Shown → Shown
 between a sign strength b =
     value strength (value_text a strength ++ (codes " " ++ (sign ++ (codes " " ++ value_text b (strength + 1)))))
 
--- a comparison, in which a number beside a byte may be a character
+-- A comparison. A number that is compared with a byte may be shown as a character.
 unfoldable pub compared : Shown → List ℕ → Shown → Shown
 compared a sign b =
     value 1 (beside b.form a 1 ++ (codes " " ++ (sign ++ (codes " " ++ beside a.form b 2))))
 
--- a number that is not in its shortest spelling is no constant of a set, and no character
+-- The form of a number `w`. It is a constant only in its shortest encoding.
 abbrev pub constant_form : Spelling → ℕ → Form
 constant_form spelling.Shortest w = form.Constant w
 constant_form _ w = form.Value (constant_strength w)
@@ -56,7 +56,7 @@ abbrev pub unless_set : Form → Option Shown → Option Shown
 unless_set (form.Set k) shown = None
 unless_set _ shown = shown
 
--- ADI and its kin, EQUI and its kin. Of sets the same signs say something else.
+-- ADI and similar, EQUI and similar. Sets are excluded, because the same operators have another meaning for them.
 unfoldable pub arithmetic_two : Arithmetic → Shown → Shown → Option Shown
 arithmetic_two o a b = unless_set a.form (words_two o a b)
 

@@ -5,11 +5,11 @@ use Rattle.pm_code.specs.Shown.{label_text, target_text}
 use Rattle.pm_code.specs.Text.{signed_text}
 use Rattle.pm_phrases.specs.Shown.{Shown, value, value_text}
 
--- behind -1, which is 65,535 as a word, stands 0
+-- The next case value. The value after 65,535 (-1) is 0.
 abbrev pub next_value : ℕ → ℕ
 next_value v = if v == 65535 then 0 else v + 1
 
--- a value and the place that it leads to
+-- A case value and its label.
 unfoldable pub arm_text : ℕ → ℕ → List ℕ
 arm_text v place = signed_text v ++ (codes ": " ++ label_text place)
 
@@ -17,7 +17,7 @@ abbrev pub more_arms : ℕ → List ℕ → List ℕ
 more_arms v [] = []
 more_arms v (place ∷ places) = codes "; " ++ (arm_text v place ++ more_arms (next_value v) places)
 
--- the values from the low bound on; an empty table has its bounds in braces
+-- The arms for the values from `low`. For an empty table, its bounds in braces.
 unfoldable pub table_text : ℕ → ℕ → List ℕ → List ℕ
 table_text low high [] = codes "{" ++ (signed_text low ++ (codes ", " ++ (signed_text high ++ codes "}")))
 table_text low high (place ∷ places) = arm_text low place ++ more_arms (next_value low) places

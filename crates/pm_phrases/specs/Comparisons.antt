@@ -8,7 +8,7 @@ use Rattle.pm_phrases.specs.Shown.{Shown, place_text, value, value_text}
 use Rattle.pm_phrases.specs.Signs.{relation_sign}
 use Rattle.pm_phrases.specs.Spelled.{marked}
 
--- what is compared, with its size where it has one
+-- The kind of a comparison, with its size if it has one.
 unfoldable pub kind_text : Spelling → Kind → List ℕ
 kind_text s kind.Real = codes "real"
 kind_text s kind.String = codes "str"
@@ -26,7 +26,8 @@ values_compared name r a b = compared name r (value_text a 2) (value_text b 2)
 unfoldable pub places_compared : List ℕ → Relation → Shown → Shown → Shown
 places_compared name r a b = compared name r (place_text a) (place_text b)
 
--- EQU and its kin: real numbers, truth values and sets stand on the stack, of the others the addresses
+-- EQU and similar. Real numbers, truth values and sets are compared as values. The other kinds are compared through
+-- their addresses.
 unfoldable pub compare_two : Spelling → Relation → Kind → Shown → Shown → Shown
 compare_two s r kind.Real a b = values_compared (kind_text s kind.Real) r a b
 compare_two s r kind.Boolean a b = values_compared (kind_text s kind.Boolean) r a b

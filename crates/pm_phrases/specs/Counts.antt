@@ -1,4 +1,5 @@
--- Items by the number of their operands, and by families. None has no text of its own.
+-- The text of an item, by the number of its operands and by family. The result is `None` if the item has no text of its
+-- own.
 use Rattle.std.specs.Prelude.{ℕ, List, [], ◌∷◌, Option, Some, None}
 use Rattle.pm_families.specs.declared.families.Value.TheVariants as value
 use Rattle.pm_opcode.specs.declared.instr.Instr.{Instr}
@@ -25,7 +26,7 @@ use Rattle.pm_phrases.specs.Shown.{Shown}
 use Rattle.pm_phrases.specs.Spelled.{spelling_of}
 use Rattle.pm_phrases.specs.Variables.{variable_alone, variable_one}
 
--- an operation without operands, which names these bytes
+-- An operation without operands. `named` contains the bytes that it names.
 abbrev pub alone_by : Around → Spelling → List ℕ → Operation → Option Shown
 alone_by around s named (operation.Arithmetic o) = arithmetic_alone s o
 alone_by around s named (operation.Variable o) = variable_alone around s o
@@ -64,7 +65,7 @@ four_by a b c d (operation.Value (value.Field o)) = field_four o a b c d
 four_by a b c d (operation.Value (value.Set o)) = set_four o a b c d
 four_by a b c d _ = None
 
--- instructions, each by what it does and how it is spelled
+-- Instructions, by their operation and encoding.
 unfoldable pub plain_none : Around → Instr → List ℕ → Option Shown
 plain_none around i named = alone_by around (spelling_of i (operation_of i)) named (operation_of i)
 
@@ -90,7 +91,7 @@ of_two (Plain i named) a b = plain_two i a b
 of_two (Jump op target) a b = jump_two op target a b
 of_two _ a b = None
 
--- what the instruction of an item does; nothing where it is none, or a jump
+-- The operation of the item's instruction, or `Nothing` if the item is not a plain instruction.
 unfoldable pub operation_in : Item ℕ → Operation
 operation_in (Plain i named) = operation_of i
 operation_in _ = operation.Nothing
@@ -109,7 +110,7 @@ by_count around item (a ∷ b ∷ c ∷ []) = of_three item a b c
 by_count around item (a ∷ b ∷ c ∷ d ∷ []) = of_four item a b c d
 by_count around item (a ∷ b ∷ c ∷ d ∷ e ∷ more) = None
 
--- operands that stand for what is missing, the first one first
+-- The stand-ins for missing operands, the first one first.
 abbrev pub in_order : Pops → List Shown
 in_order pops.None = []
 in_order (pops.One p) = p.now ∷ []

@@ -15,7 +15,7 @@ abbrev pub condition_in : Operation → Option Condition
 condition_in (operation.Jump (jump.Short c offset)) = Some c
 condition_in _ = None
 
--- when the jump of an opcode is taken
+-- The condition of the short jump with this opcode.
 unfoldable pub condition_of : ℕ → Option Condition
 condition_of op = condition_in (operation_of (bare op))
 

@@ -1,4 +1,4 @@
--- What stands in the code.
+-- Constants that are stored in the code.
 use Rattle.std.specs.Prelude.{ℕ, ◌/◌, ◌%◌, Bool, false, ◌==◌, ◌&&◌, ◌||◌, nat_le, nat_lt, if◌then◌else◌}
 use Rattle.std.specs.Prelude.{List, [], ◌∷◌, ◌++◌, codes, Option, Some, None}
 use Rattle.std.specs.List.{flat_map}
@@ -14,15 +14,15 @@ use Rattle.pm_phrases.specs.declared.operand.Form.{Form}
 use Rattle.pm_phrases.specs.declared.operand.Form.TheVariants as form
 use Rattle.pm_phrases.specs.Shown.{Shown, standing, value_text}
 
--- 32..126 but the apostrophe and the backslash stand for themselves between apostrophes
+-- Bytes 32 to 126, except the apostrophe and the backslash, are shown unchanged between apostrophes.
 abbrev pub is_own : ℕ → Bool
 is_own byte = if (byte == 39) || (byte == 92) then false else nat_le 32 byte && nat_le byte 126
 
--- a backslash and two digits
+-- A backslash and two hexadecimal digits.
 unfoldable pub escape : ℕ → List ℕ
 escape byte = 92 ∷ hex_digit (byte / 16) ∷ hex_digit (byte % 16) ∷ []
 
--- an apostrophe is doubled
+-- An apostrophe is doubled.
 abbrev pub apostrophed : ℕ → List ℕ
 apostrophed byte =
     if is_own byte then byte ∷ []
@@ -42,7 +42,7 @@ abbrev pub words_by : Operation → List ℕ → Option (List ℕ)
 words_by (operation.Literal (literal.Words start count)) named = Some named
 words_by _ named = None
 
--- the bytes of the words of LDC
+-- The bytes of the words of LDC.
 abbrev pub words_in : Item ℕ → Option (List ℕ)
 words_in (Plain i named) = words_by (operation_of i) named
 words_in _ = None
@@ -52,7 +52,8 @@ character_by (form.Constant c) s strength =
     if nat_lt c 256 && is_own c then codes "CHR'" ++ c ∷ codes "'" else value_text s strength
 character_by _ s strength = value_text s strength
 
--- Beside a byte a number is shown as the character that it may be.
+-- An operand of an operation whose other operand has the given form. Next to a byte, a constant is shown as a character
+-- if it is printable.
 unfoldable pub beside : Form → Shown → ℕ → List ℕ
 beside form.Byte s strength = character_by s.form s strength
 beside _ s strength = value_text s strength

@@ -12,7 +12,7 @@ use Rattle.pm_phrases.specs.declared.operand.Form.TheVariants as form
 use Rattle.pm_phrases.specs.Literals.{beside}
 use Rattle.pm_phrases.specs.Shown.{Shown, place_text, standing, value, value_text}
 
--- what is stored to a part of what an address leads to, which is a byte or bits
+-- A store to the byte or the bits `a`.
 unfoldable pub part_stored : Form → Shown → Shown → Shown
 part_stored kind a v = value 0 (a.text ++ (codes " := " ++ beside kind v 0))
 
@@ -24,12 +24,12 @@ abbrev pub if_bits : Form → Shown → Option Shown
 if_bits form.Bits s = Some s
 if_bits _ s = None
 
--- LDB behind IXS
+-- LDB after IXS.
 unfoldable pub byte_one : Byte → Shown → Option Shown
 byte_one byte.Load a = if_character a.form (standing form.Byte a.text)
 byte_one byte.Store a = None
 
--- LDB of an address and an index; STB behind IXS
+-- LDB of an address and an index. STB after IXS.
 unfoldable pub byte_two : Byte → Shown → Shown → Option Shown
 byte_two byte.Load a i =
     Some (standing form.Byte (place_text a ++ (codes ".byte[" ++ (value_text i 0 ++ codes "]"))))
@@ -48,7 +48,7 @@ text_two text.Index a i =
 text_two (text.Assign n) a b =
     value 0 (place_text a ++ (codes " := string[" ++ (decimal n ++ (codes "] " ++ place_text b))))
 
--- LDP behind IXP
+-- LDP after IXP.
 unfoldable pub field_one : Field → Shown → Option Shown
 field_one field.Load a = if_bits a.form (value 9 a.text)
 field_one _ a = None
@@ -58,17 +58,17 @@ packed per_word width a i =
     standing form.Bits (place_text a ++ (codes ".packed[" ++ (value_text i 0 ++ (codes ": "
     ++ (decimal per_word ++ (codes " of " ++ (decimal width ++ codes " bits]")))))))
 
--- IXP; STP behind it
+-- IXP. STP after IXP.
 unfoldable pub field_two : Field → Shown → Shown → Option Shown
 field_two (field.Index per_word width) a i = Some (packed per_word width a i)
 field_two field.Store a v = if_bits a.form (part_stored form.Bits a v)
 field_two field.Load a i = None
 
--- what an address leads to, so many bits of it, from a bit on, without the bracket behind them
+-- `r` bits from bit `k` of the word at an address, without the closing bracket.
 abbrev pub bits_text : Shown → Shown → Shown → List ℕ
 bits_text a k r = place_text a ++ (codes ".bits[" ++ (value_text k 0 ++ (codes ": " ++ value_text r 0)))
 
--- LDP of an address, so many bits, from a bit on
+-- LDP of an address, a first bit and a count of bits.
 unfoldable pub field_three : Field → Shown → Shown → Shown → Option Shown
 field_three field.Load a k r = Some (value 9 (bits_text a k r ++ codes "]"))
 field_three _ a k r = None

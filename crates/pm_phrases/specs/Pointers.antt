@@ -10,8 +10,8 @@ use Rattle.pm_phrases.specs.declared.spelling.Spelling.TheVariants as spelling
 use Rattle.pm_phrases.specs.Shown.{Shown, place_text, standing, stored_text, value, value_text}
 use Rattle.pm_phrases.specs.Spelled.{marked}
 
--- Whether a word is shown without its number: it is the first, but for that of a variable and of a field, since `x` and
--- `x.k` alone are their own values.
+-- Whether the word `n` is shown without its number. This holds for word 0, except of a variable or a field, because `x`
+-- and `x.k` are values themselves.
 unfoldable pub is_unnumbered : Spelling → Form → ℕ → Bool
 is_unnumbered s form.Variable n = false
 is_unnumbered s form.Place n = false
@@ -35,7 +35,7 @@ unfoldable pub is_by_word : Spelling → ℕ → Bool
 is_by_word spelling.Shortest n = n == 1
 is_by_word _ n = false
 
--- IXA: the words of an item are shown where they are more than one
+-- IXA. The size of an element is shown if it is not one word.
 unfoldable pub indexed : Spelling → ℕ → Shown → Shown → Shown
 indexed s n a b =
     if is_by_word s n then standing form.Element (place_text a ++ (codes "[" ++ (value_text b 0 ++ codes "]")))

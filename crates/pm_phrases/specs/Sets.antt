@@ -1,5 +1,5 @@
--- Sets. One that stands on the stack as a set is one operand; another is its words and their count, two operands where
--- the words are one.
+-- Sets. A set on the stack is one operand. Otherwise a set is given by its words and their count, which are two
+-- operands if the words are one operand.
 use Rattle.std.specs.Prelude.{ℕ, zero, suc, ◌+◌, ◌-◌, ◌*◌, ◌/◌, ◌%◌, ◌^◌, ◌==◌, ◌&&◌, ◌||◌, nat_le, nat_lt}
 use Rattle.std.specs.Prelude.{Bool, true, false, if◌then◌else◌, length, slice_index_or}
 use Rattle.std.specs.Prelude.{List, [], ◌++◌, codes, Option, Some, None}
@@ -15,8 +15,8 @@ use Rattle.pm_phrases.specs.Shown.{Shown, standing, value, value_text}
 
 -- ---- sets that are constants
 
--- Whether a number is in the set of these bytes: it is bit e mod 16 of the word that stands e div 16 before the last,
--- which is pushed last and so has the least numbers.
+-- Whether `e` is a member of the set with these bytes. It is bit `e` mod 16 of a word, counted backwards from the last
+-- word by `e` div 16. The last word is pushed last and contains the lowest numbers.
 unfoldable pub is_member : List ℕ → ℕ → Bool
 is_member bytes e = nat_lt (e / 8) (length bytes)
     && (slice_index_or bytes (2 * (length bytes / 2 - (e / 16 + 1)) + e / 8 % 2) 0 / 2 ^ (e % 8) % 2 == 1)
@@ -26,8 +26,8 @@ behind_next b true = behind.Member
 behind_next behind.Nothing false = behind.Nothing
 behind_next _ false = behind.Gap
 
--- a number by what stands before it, whether it is a member, and whether the next one is: the first of several that
--- follow one another is shown, and the last behind `..`
+-- The text of the number `e` in a list of members. Of consecutive members, the first is shown, and the last is shown
+-- after `..`.
 abbrev pub member_text : Behind → Bool → Bool → ℕ → List ℕ
 member_text behind.Nothing true next e = decimal e
 member_text behind.Gap true next e = codes ", " ++ decimal e
@@ -37,18 +37,18 @@ member_text _ _ _ e = []
 abbrev pub no_member : Behind
 no_member = behind.Nothing
 
--- the members among so many numbers, from one on
+-- The members among the `n` numbers from `e`.
 abbrev pub members_from : List ℕ → Behind → ℕ → ℕ → List ℕ
 members_from bytes before e zero = []
 members_from bytes before e (suc n) = member_text before (is_member bytes e) (is_member bytes (e + 1)) e
     ++ members_from bytes (behind_next before (is_member bytes e)) (e + 1) n
 
--- the count of the words, where the highest one has no member, and fewer would do
+-- The size in words, if the highest word is 0, so that fewer words would suffice.
 abbrev pub count_text : List ℕ → ℕ → List ℕ
 count_text bytes n =
     if (slice_index_or bytes 0 0 == 0) && (slice_index_or bytes 1 0 == 0) then codes "#" ++ decimal n else []
 
--- a set of so many words by its members
+-- A set of `n` words, shown by its members.
 unfoldable pub members_text : List ℕ → ℕ → List ℕ
 members_text bytes n =
     codes "[" ++ (members_from bytes no_member 0 (16 * n) ++ (codes "]" ++ count_text bytes n))
@@ -62,7 +62,8 @@ constant_by None (form.Constant w) (form.Constant n) =
     if n == 1 then Some (members_text (to_le_bytes w16 w) 1) else None
 constant_by _ _ _ = None
 
--- the set of words and their count, where both are constants: one word is a number, more are those of LDC
+-- The set that is given by words and their count, if both are constants. One word is a number. Several words are those
+-- of LDC.
 abbrev pub constant_set : Shown → Shown → Option (List ℕ)
 constant_set words n = constant_by words.words words.form n.form
 
@@ -70,7 +71,7 @@ abbrev pub or_counted : Option (List ℕ) → Shown → Shown → List ℕ
 or_counted (Some text) words n = text
 or_counted None words n = codes "SET(" ++ (value_text words 0 ++ (codes ", " ++ (value_text n 0 ++ codes ")")))
 
--- a set of words and their count
+-- A set that is given by its words and their count.
 unfoldable pub counted_text : Shown → Shown → List ℕ
 counted_text words n = or_counted (constant_set words n) words n
 
@@ -78,7 +79,7 @@ abbrev pub is_constant : Form → Bool
 is_constant (form.Constant w) = true
 is_constant _ = false
 
--- Behind what makes a set of constants stands a mark, since without it the text is that of a set that is a constant.
+-- A set that is computed from constants is marked with `!`. Without the mark its text would be that of a constant set.
 abbrev pub constant_mark : Form → Form → List ℕ
 constant_mark a b = if is_constant a && is_constant b then codes "!" else []
 
@@ -86,7 +87,7 @@ abbrev pub is_no_words : Form → Bool
 is_no_words (form.Constant w) = w == 0
 is_no_words _ = false
 
--- a set that is one operand: a count of 0 is the empty set
+-- A set that is one operand. The number 0 is the empty set.
 unfoldable pub set_text : Shown → ℕ → List ℕ
 set_text s k = if is_no_words s.form then codes "[]" else value_text s k
 
@@ -96,7 +97,7 @@ is_set f = is_no_words f
 
 -- ---- operations
 
--- the sign between two sets that make a third
+-- The operator of an operation that makes a set of two sets.
 abbrev pub set_sign : Set → Option (List ℕ)
 set_sign set.Union = Some (codes "+")
 set_sign set.Difference = Some (codes "-")
@@ -107,7 +108,7 @@ abbrev pub set_strength : Set → ℕ
 set_strength set.Intersection = 3
 set_strength _ = 2
 
--- two sets by their texts
+-- The text of two sets with an operator.
 abbrev pub joined : ℕ → List ℕ → List ℕ → List ℕ → Shown
 joined strength a sign b = standing (form.Set strength) (a ++ (codes " " ++ (sign ++ (codes " " ++ b))))
 
@@ -124,7 +125,7 @@ joined_by k a b (Some sign) = if is_set a.form && is_set b.form
     else None
 joined_by k a b None = None
 
--- Integers have the same signs, so both have to be sets.
+-- Both operands must be sets, because the operators of integers look the same.
 unfoldable pub sets_joined : Set → Shown → Shown → Option Shown
 sets_joined o a b = joined_by (set_strength o) a b (set_sign o)
 
@@ -142,7 +143,7 @@ counted_by k a b c (Some sign) (form.Set m) _ = Some (joined k (value_text a k) 
 counted_by k a b c (Some sign) _ (form.Set n) = Some (joined k (counted_text a b) sign (value_text c (k + 1)))
 counted_by k a b c _ _ _ = None
 
--- one that stands there as a set, and one of words
+-- An operation on two sets: one set is a single operand, and the other set is words and their count.
 unfoldable pub one_counted : Set → Shown → Shown → Shown → Option Shown
 one_counted o a b c = counted_by (set_strength o) a b c (set_sign o) a.form c.form
 
@@ -154,7 +155,8 @@ abbrev pub four_by : ℕ → Shown → Shown → Shown → Shown → Option (Lis
 four_by k a b c d (Some sign) = Some (joined k (counted_text a b) sign (counted_text c d))
 four_by k a b c d None = None
 
--- both of words; beside one that stands there as a set the words of the other are two operands, and their count a third
+-- An operation on two sets, both given by words and their count. If the first or the last operand is a set, there is no
+-- text: the words of the other set are two operands.
 unfoldable pub set_four : Set → Shown → Shown → Shown → Shown → Option Shown
 set_four o a b c d =
     if is_set a.form || is_set d.form then None else four_by (set_strength o) a b c d (set_sign o)

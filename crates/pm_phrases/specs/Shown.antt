@@ -1,4 +1,4 @@
--- How a text stands as an operand.
+-- What the text of an operand denotes, and how it is used.
 use Rattle.std.specs.Prelude.{ℕ, Bool, true, false, List, [], ◌∷◌, ◌++◌, nat_lt, if◌then◌else◌, codes, Option, None}
 use Rattle.std.specs.List.{flat_map}
 use Rattle.pm_code.specs.Item.{Item}
@@ -6,17 +6,17 @@ use Rattle.pm_code.specs.Shown.{shown_item}
 use Rattle.pm_phrases.specs.declared.operand.Form.{Form}
 use Rattle.pm_phrases.specs.declared.operand.Form.TheVariants as form
 
--- A text as an operand, how it stands, and the bytes of the words in the code that it is, if it is such.
+-- The text of an operand, what it denotes, and the bytes of the words if it is an LDC.
 pub record Shown : Type 0 where
   pub text : List ℕ
   pub form : Form
   pub words : Option (List ℕ)
 
--- a number with a minus is weaker
+-- A negative number has a lower precedence, because of its minus sign.
 abbrev pub constant_strength : ℕ → ℕ
 constant_strength w = if nat_lt w 32768 then 9 else 4
 
--- how strongly it holds together as a value: 9 needs no brackets anywhere
+-- The precedence of an operand that is used as a value. An operand of precedence 9 never needs parentheses.
 abbrev pub strength_of : Form → ℕ
 strength_of (form.Value k) = k
 strength_of (form.Set k) = k
@@ -29,7 +29,7 @@ strength_of form.Element = 8
 strength_of form.Character = 8
 strength_of form.Bits = 8
 
--- the text of a place with `@` is its address
+-- The prefix that makes a value of the text: `@` if the text denotes what is at an address.
 abbrev pub lead_of : Form → List ℕ
 lead_of (form.Value k) = codes ""
 lead_of (form.Set k) = codes ""
@@ -42,7 +42,7 @@ lead_of form.Element = codes "@"
 lead_of form.Character = codes "@"
 lead_of form.Bits = codes "@"
 
--- whether the text is what an address leads to
+-- Whether the text denotes what is at an address.
 abbrev pub is_place : Form → Bool
 is_place (form.Value k) = false
 is_place (form.Set k) = false
@@ -55,17 +55,18 @@ is_place form.Element = true
 is_place form.Character = false
 is_place form.Bits = false
 
--- as a value beside something of a strength: in brackets where it holds together less
+-- An operand as a value next to an operator of the precedence `beside`. It is put in parentheses if its own precedence
+-- is lower.
 unfoldable pub value_text : Shown → ℕ → List ℕ
 value_text s beside =
     if nat_lt (strength_of s.form) beside then codes "(" ++ (lead_of s.form ++ (s.text ++ codes ")"))
     else lead_of s.form ++ s.text
 
--- what it leads to, which is an address: `^` behind a value
+-- What is at the address that the operand denotes. A value is followed by `^`.
 unfoldable pub place_text : Shown → List ℕ
 place_text s = if is_place s.form then s.text else value_text s 9 ++ codes "^"
 
--- what a word is stored to by its address: `(@x)^` of a variable, since `x := a` is what stores to it without one
+-- The target of a store by address. For a variable it is `(@x)^`, because `x := a` is the store to the variable itself.
 abbrev pub stored_by : Form → Shown → List ℕ
 stored_by form.Variable s = value_text s 9 ++ codes "^"
 stored_by _ s = place_text s
@@ -79,7 +80,7 @@ standing form text = record { text = text; form = form; words = None }
 abbrev pub value : ℕ → List ℕ → Shown
 value strength text = standing (form.Value strength) text
 
--- operands behind a name
+-- Operands as an argument list.
 abbrev pub further : Shown → List ℕ
 further s = codes ", " ++ value_text s 0
 
@@ -87,6 +88,6 @@ abbrev pub arguments : List Shown → List ℕ
 arguments [] = []
 arguments (s ∷ ss) = codes "(" ++ (value_text s 0 ++ (flat_map further ss ++ codes ")"))
 
--- an item as its line of the disassembly in braces, with its operands behind it
+-- An item in braces as in the disassembly, followed by its operands.
 abbrev pub braced : Item ℕ → List Shown → List ℕ
 braced item operands = codes "{" ++ (shown_item item ++ (codes "}" ++ arguments operands))

@@ -1,4 +1,4 @@
--- Operators, and how strongly they hold their operands together, as in Pascal: the more, the earlier.
+-- Operators and their precedence, as in Pascal. The operator of the highest precedence is applied first.
 use Rattle.std.specs.Prelude.{ℕ, List, codes}
 use Rattle.pm_families.specs.declared.families.Binary.{Binary}
 use Rattle.pm_families.specs.declared.families.Binary.TheVariants as binary

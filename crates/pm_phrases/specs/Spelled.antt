@@ -1,4 +1,4 @@
--- Which spellings are not the shortest.
+-- Encodings that are not the shortest ones.
 use Rattle.std.specs.Prelude.{ℕ, Bool, true, false, ◌&&◌, nat_lt, nat_le, List, [], ◌++◌, codes, is_none}
 use Rattle.std.specs.Fmt.{decimal}
 use Rattle.pm_families.specs.declared.families.Scope.TheVariants as scope
@@ -17,11 +17,11 @@ marks spelling.Shortest = []
 marks spelling.Longer = codes "!"
 marks spelling.Longest = codes "!!"
 
--- a number with the marks of its spelling
+-- A number with the marks of its encoding.
 abbrev pub marked : ℕ → Spelling → List ℕ
 marked n s = decimal n ++ marks s
 
--- SLDC has 0 to 127 in its opcode, SLDL and SLDO have 1 to 16, SIND has 0 to 7
+-- SLDC includes 0 to 127 in its opcode, SLDL and SLDO include 1 to 16, and SIND includes 0 to 7.
 unfoldable pub fits_opcode : Operation → Bool
 fits_opcode (operation.Arithmetic (arithmetic.Constant n)) = nat_lt n 128
 fits_opcode (operation.Variable (variable.Load scope.Global n)) = nat_le 1 n && nat_le n 16
@@ -37,7 +37,7 @@ spelling_by false false = spelling.Shortest
 spelling_by true true = spelling.Longest
 spelling_by _ _ = spelling.Longer
 
--- An instruction that is this operation: one mark for a number in two bytes where one would do, one for an opcode with
--- an operand where one without does the same.
+-- The encoding of an instruction whose operation is `what`. One mark is for a number in two bytes although one
+-- suffices. One mark is for an opcode with an operand although one without exists.
 unfoldable pub spelling_of : Instr → Operation → Spelling
 spelling_of i what = spelling_by i.long (has_shorter i what)

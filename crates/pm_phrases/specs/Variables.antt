@@ -11,7 +11,7 @@ use Rattle.pm_phrases.specs.declared.spelling.Spelling.{Spelling}
 use Rattle.pm_phrases.specs.Shown.{Shown, standing, value, value_text}
 use Rattle.pm_phrases.specs.Spelled.{marked}
 
--- the first variables of a procedure are its parameters
+-- The first variables of a procedure are its parameters.
 unfoldable pub local_word : Around → ℕ → List ℕ
 local_word around n = if nat_le 1 n && nat_le n around.parameters then codes "param" else codes "local"
 
@@ -20,7 +20,7 @@ variable_text around scope.Global n s = codes "global" ++ marked n s
 variable_text around scope.Local n s = local_word around n ++ marked n s
 variable_text around (scope.Intermediate links) n s = codes "up" ++ (decimal links ++ (codes "_" ++ marked n s))
 
--- LAO, LLA, LDA; LDO, LDL, LOD
+-- LAO, LLA, LDA, LDO, LDL, LOD.
 unfoldable pub variable_alone : Around → Spelling → Variable → Option Shown
 variable_alone around s (variable.Address scope n) = Some (standing form.Variable (variable_text around scope n s))
 variable_alone around s (variable.Load scope n) = Some (value 9 (variable_text around scope n s))

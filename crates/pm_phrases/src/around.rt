@@ -1,4 +1,4 @@
-//! What stands around an operation: its procedure, and operands that are not there.
+//! The context of an operation: its procedure, and operands that are missing.
 
 ghost use Rattle.std.specs.Prelude.{◌≡◌, ◌++◌, OnOk, string_bytes};
 ghost use Rattle.pm_phrases.specs.Missing as missing;
@@ -9,23 +9,23 @@ use crate::operand::{Form, Phrase, leafed, push_further, push_listed};
 use pm_effects::Share;
 use std::alloc::AllocError;
 
-/// The procedure around an operation.
+/// The procedure that contains an operation.
 #[derive(Clone, Copy)]
 pub struct Around {
-    /// How many words of parameters it has.
+    /// The size of its parameters, in words.
     pub parameters: u16,
 }
 
-/// What no operand leaves, of what an operation takes.
+/// The part of an operation's input that no operand supplies. It is taken from the stack in two shares.
 #[derive(Clone, Copy)]
 pub struct Missing {
-    /// Below the other.
+    /// The share below the other one.
     pub below: Share,
-    /// At the top.
+    /// The share at the top of the stack.
     pub top: Share,
 }
 
-/// Operands that stand for what is missing.
+/// The stand-ins for missing operands, in order.
 #[derive(Clone, Copy)]
 pub(crate) enum Pops<'a> {
     None,
@@ -33,7 +33,7 @@ pub(crate) enum Pops<'a> {
     Two(&'a Phrase, &'a Phrase),
 }
 
-/// The operand that stands for a share that is missing.
+/// Returns the operand that represents a missing share.
 pub(crate) fn stand_in(share: Share) -> Phrase
     ensures stand_in { result ≡ missing.stand_in share }
 {
@@ -44,7 +44,10 @@ pub(crate) fn stand_in(share: Share) -> Phrase
     leafed(Leaf::StandIn(share), form)
 }
 
-/// Adds operands behind a name: those that stand for what is missing, and the others.
+/// Appends an argument list in parentheses: first the stand-ins for missing operands, then `operands`. Appends nothing
+/// if the list is empty.
+///
+/// If `known` is false, the stand-in is `?`, for any `what`.
 #[tactic(auto, unfolding(crate::specs::Shown::value_text))]
 pub(crate) fn push_arguments(
     out: &mut String,

@@ -13,7 +13,7 @@ use pm_notes::{standard_name, system_name};
 use pm_opcode::Operation;
 use std::alloc::{AllocError, Global};
 
-/// Adds an instruction and a number of it.
+/// Appends a name followed by a number.
 fn push_numbered(out: &mut String, name: &str, number: u8) -> Result<(), AllocError>
     ensures text { OnOk result (string_bytes out.new ≡ string_bytes out.old ++ (name.now ++ decimal number)) }
 {
@@ -21,7 +21,7 @@ fn push_numbered(out: &mut String, name: &str, number: u8) -> Result<(), AllocEr
     push_number(out, u32::from(number))
 }
 
-/// Adds what a call calls, by its name or its numbers.
+/// Appends the name of the called procedure, or its instruction and numbers if it has no name.
 #[tactic(auto, unfolding(crate::specs::Calls::called_text, crate::specs::Calls::external_name))]
 fn push_called(out: &mut String, call: Call) -> Result<(), AllocError>
     ensures text { OnOk result (string_bytes out.new ≡ string_bytes out.old ++ texts.called_text call) }

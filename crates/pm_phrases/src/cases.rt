@@ -10,14 +10,14 @@ use pm_code::{Label, Signed, Target};
 use std::alloc::{AllocError, Global};
 use std::fmt;
 
-/// The number behind another, the first behind the last.
+/// Returns the next case value. The value after 65,535 (-1) is 0.
 fn next_value(value: u16) -> u16
     ensures next { result ≡ texts.next_value value }
 {
     if value == 65535 { 0 } else { value + 1 }
 }
 
-/// A value of a case and the place that it leads to.
+/// A case value and the offset of its label.
 #[derive(Clone, Copy)]
 struct Arm(u16, usize);
 
@@ -30,7 +30,7 @@ impl fmt::Display for Arm {
     }
 }
 
-/// Further arms of a case, from a value on.
+/// The further arms of a case: `value` is that of the first of `places`.
 #[derive(Clone, Copy)]
 struct MoreArms<'a> {
     value: u16,
@@ -52,7 +52,7 @@ impl fmt::Display for MoreArms<'_> {
     }
 }
 
-/// What a case jump leads to: its bounds and the places of its table.
+/// The jump table of a case: its bounds and the offsets of its labels.
 #[derive(Clone, Copy)]
 pub(crate) struct Table<'a> {
     pub low: u16,

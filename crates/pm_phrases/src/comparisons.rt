@@ -10,7 +10,7 @@ use crate::spelling::{Spelling, marks_of};
 use pm_families::{Kind, Relation};
 use std::alloc::{AllocError, Global};
 
-/// Adds what is compared, with its size where it has one.
+/// Appends the kind of a comparison, with its size if it has one.
 #[tactic(auto, unfolding(crate::specs::Comparisons::kind_text))]
 fn push_kind(out: &mut String, spelling: Spelling, kind: Kind) -> Result<(), AllocError>
     ensures text { OnOk result (string_bytes out.new ≡ string_bytes out.old ++ texts.kind_text spelling kind) }
@@ -35,7 +35,8 @@ fn push_kind(out: &mut String, spelling: Spelling, kind: Kind) -> Result<(), All
     }
 }
 
-/// A comparison of values on the stack, or of what two addresses lead to.
+/// Returns the text of a comparison. Real numbers, truth values and sets are compared as values. The other kinds are
+/// compared through two addresses.
 #[tactic(auto, unfolding(crate::specs::Comparisons::compare_two, crate::specs::Comparisons::values_compared, crate::specs::Comparisons::places_compared))]
 pub(crate) fn compare_two(
     alloc: Global,

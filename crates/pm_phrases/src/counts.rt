@@ -1,4 +1,4 @@
-//! Items by the number of their operands, and by families.
+//! The text of an item, by the number of its operands and by the family of its operation.
 
 ghost use Rattle.std.specs.Prelude.{◌≡◌, ◌++◌, IfOk};
 ghost use Rattle.pm_code.specs.Views.{placed_item};
@@ -156,7 +156,7 @@ fn of_two(
     }
 }
 
-/// What the instruction of an item does; nothing where it is none, or a jump.
+/// Returns the operation of the item's instruction, or `Nothing` if the item is a jump, a case or a single byte.
 #[tactic(auto, unfolding(crate::specs::Counts::operation_in))]
 pub(crate) fn operation_in(item: &Item<usize>) -> Operation
     ensures operation { result ≡ texts.operation_in (placed_item item.now) }
@@ -202,7 +202,8 @@ fn of_four(
     }
 }
 
-/// An item by the number of its operands, behind those that stand for what is missing.
+/// Returns the text of an item applied to the stand-ins `pops` followed by `operands`. Returns `None` if the item has
+/// no text of its own for that number of operands.
 #[tactic(auto, unfolding(crate::specs::Counts::by_count, crate::specs::Counts::of_three, crate::specs::Counts::of_four))]
 pub(crate) fn by_count(
     alloc: Global,

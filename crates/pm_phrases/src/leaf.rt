@@ -1,4 +1,4 @@
-//! Texts of operands, of which most need no memory.
+//! The texts of operands. Most of them need no memory.
 
 ghost use Rattle.std.specs.Prelude.{◌≡◌, ◌++◌, IfSome, None, OnOk, string_bytes};
 ghost use Rattle.std.specs.Fmt.{decimal};
@@ -19,40 +19,41 @@ use pm_families::Scope;
 use pm_opcode::{Form, Instr, Operation, form_at, implied_number, row_at};
 use std::alloc::AllocError;
 
-/// An item that names no bytes and no places.
+/// An item that names no bytes and no offsets.
 #[derive(Clone, Copy, Drop)]
 pub(crate) enum Bare {
-    /// An instruction: its opcode, its first two operands, and whether it spells a number by two bytes.
+    /// An instruction: its opcode, its first two operands, and whether its number is encoded in two bytes although one
+    /// suffices.
     Instruction(u8, u16, u16, bool),
-    /// A byte that is none.
+    /// A byte that is no instruction.
     OneByte(u8),
 }
 
-/// A text that is written where it is shown.
+/// A text that is generated when it is appended.
 #[derive(Clone, Copy, Drop)]
 pub(crate) enum Leaf {
-    /// A number in its shortest spelling.
+    /// A number in its shortest encoding, shown as a signed integer.
     Number(u16),
-    /// A variable by its scope and number, with the marks of a spelling.
+    /// A variable: its procedure, scope and number, and the encoding that its marks show.
     Variable(Around, Scope, u16, Spelling),
-    /// A text that is always the same.
+    /// A constant text.
     Fixed(&'static str),
-    /// What stands for a share that is missing.
+    /// The stand-in for a missing share.
     StandIn(Share),
-    /// An item in braces, on what stands for all that it takes: whether that is known, and how much it is.
+    /// An item in braces with stand-ins only: the item, whether its input is known, and what is missing.
     Braced(Bare, bool, Missing),
 }
 
 /// The text of an operand.
 #[derive(Drop)]
 pub(crate) enum Text {
-    /// In memory.
+    /// A text in memory.
     Written(String),
-    /// Without memory.
+    /// A text that needs no memory.
     Leaf(Leaf),
 }
 
-/// An item that does this, where it names no bytes and no places.
+/// Returns the item as a `Bare`, or `None` if it names bytes or offsets.
 #[tactic(auto, unfolding(pm_code::specs::Shown::shown_item, crate::specs::Counts::operation_in))]
 pub(crate) fn bare_in(item: &Item<usize>, what: Operation) -> Option<Bare>
     requires what { what ≡ operation_in (placed_item item.now) }
@@ -69,7 +70,7 @@ pub(crate) fn bare_in(item: &Item<usize>, what: Operation) -> Option<Bare>
     }
 }
 
-/// Adds a number by its digits.
+/// Appends a number in decimal.
 #[tactic(auto, using(std::proofs::lemmas::Fmt::decimal_digit, crate::proofs::Decimals::digit_added))]
 pub(crate) fn push_number(out: &mut String, number: u32) -> Result<(), AllocError>
     ensures text { OnOk result (string_bytes out.new ≡ string_bytes out.old ++ decimal number) }
@@ -82,7 +83,7 @@ pub(crate) fn push_number(out: &mut String, number: u32) -> Result<(), AllocErro
     Ok(())
 }
 
-/// Adds an item that names no bytes and no places.
+/// Appends the line of the disassembly for an item that names no bytes and no offsets.
 #[tactic(auto, unfolding(pm_code::specs::Shown::shown_item, pm_code::specs::Text::item_text))]
 pub(crate) fn push_bare(out: &mut String, bare: Bare) -> Result<(), AllocError>
     ensures text { OnOk result (string_bytes out.new ≡ string_bytes out.old ++ shown_item (leaves.item_of bare)) }
@@ -107,7 +108,7 @@ pub(crate) fn push_bare(out: &mut String, bare: Bare) -> Result<(), AllocError>
     out.write(Instruction { instr, named })
 }
 
-/// Adds what stands for a share that is missing.
+/// Appends the stand-in for a missing share.
 pub(crate) fn push_share(out: &mut String, share: Share) -> Result<(), AllocError>
     ensures text { OnOk result (string_bytes out.new ≡ string_bytes out.old ++ missing.share_text share) }
 {
@@ -121,7 +122,7 @@ pub(crate) fn push_share(out: &mut String, share: Share) -> Result<(), AllocErro
     }
 }
 
-/// Adds what stands for what is missing behind a name; `?` for all that is taken, where that is not known.
+/// Appends the argument list of the stand-ins for what is missing. If `known` is false, the list is `(?)`.
 #[tactic(auto, unfolding(crate::specs::Shown::value_text))]
 fn push_stand_ins(out: &mut String, known: bool, what: Missing) -> Result<(), AllocError>
     ensures text { OnOk result
@@ -147,7 +148,7 @@ fn push_stand_ins(out: &mut String, known: bool, what: Missing) -> Result<(), Al
     }
 }
 
-/// Adds an item in braces, on what stands for all that it takes.
+/// Appends an item in braces, followed by the argument list of its stand-ins.
 fn push_braced(out: &mut String, bare: Bare, known: bool, what: Missing) -> Result<(), AllocError>
     ensures text { OnOk result (string_bytes out.new
         ≡ string_bytes out.old ++ braced (leaves.item_of bare) (missing.stand_ins known what)) }
@@ -158,7 +159,7 @@ fn push_braced(out: &mut String, bare: Bare, known: bool, what: Missing) -> Resu
     push_stand_ins(out, known, what)
 }
 
-/// Adds the text of an operand.
+/// Appends the text of an operand.
 pub(crate) fn push_text(out: &mut String, text: &Text) -> Result<(), AllocError>
     ensures text { OnOk result (string_bytes out.new ≡ string_bytes out.old ++ leaves.bytes_of text.now) }
 {

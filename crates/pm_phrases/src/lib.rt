@@ -1,4 +1,7 @@
-//! An operation on its operands as text.
+//! The text of an operation applied to its operands.
+//!
+//! Functions that append to a `String` fail only if memory runs out. The `String` may then contain a part of the new
+//! text.
 #![tactic(auto)]
 
 mod arithmetic;

@@ -1,4 +1,4 @@
-//! What stands in the code.
+//! Constants that are stored in the code.
 
 ghost use Rattle.std.specs.Prelude.{◌≡◌, ◌∷◌, ◌++◌, IfOk, OnOk, Some, option_map, string_bytes};
 ghost use Rattle.std.specs.List.{flat_map};
@@ -14,14 +14,14 @@ use pm_opcode::Operation;
 use std::alloc::{AllocError, Global};
 use std::fmt;
 
-/// Whether a byte stands for itself between apostrophes.
+/// Whether a byte is shown unchanged between apostrophes.
 fn is_own(byte: u8) -> bool
     ensures own { result ≡ texts.is_own byte }
 {
     byte != b'\'' && byte != b'\\' && byte >= 32 && byte <= 126
 }
 
-/// A byte by its two digits.
+/// A byte as a backslash and two hexadecimal digits.
 #[derive(Clone, Copy)]
 struct Escape(u8);
 
@@ -35,7 +35,7 @@ impl fmt::Display for Escape {
     }
 }
 
-/// A byte between apostrophes.
+/// A byte as it is shown between apostrophes.
 #[derive(Clone, Copy)]
 struct Apostrophed(u8);
 
@@ -54,7 +54,7 @@ impl fmt::Display for Apostrophed {
     }
 }
 
-/// Bytes between apostrophes.
+/// Bytes enclosed in apostrophes.
 #[derive(Clone, Copy)]
 struct Apostrophes<'a>(&'a [u8]);
 
@@ -90,7 +90,7 @@ pub(crate) fn literal_alone(
     Ok(Some(standing(Text::Written(text), Form::Literal)))
 }
 
-/// The bytes of the words of LDC.
+/// Returns the bytes of the words if the item is an LDC, else `None`.
 #[tactic(auto, unfolding(crate::specs::Counts::operation_in))]
 pub(crate) fn words_in(
     alloc: Global,
@@ -110,7 +110,8 @@ pub(crate) fn words_in(
     }
 }
 
-/// Adds an operand beside something of a form, as a character where it is a number beside a byte.
+/// Appends an operand of an operation whose other operand has the form `form`. If the other operand is a byte, a
+/// constant that is a printable character is shown as `CHR'c'`.
 #[tactic(auto, unfolding(crate::specs::Literals::beside))]
 pub(crate) fn push_beside(
     out: &mut String,

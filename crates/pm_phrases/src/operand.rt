@@ -10,10 +10,11 @@ use crate::leaf::{Leaf, Text, push_number, push_text};
 use std::alloc::{AllocError, Global};
 use std::marker::Model;
 
-/// The room that a text has from the start, in bytes.
+/// The initial capacity of a text, in bytes.
 pub(crate) const ROOM: usize = 24;
 
-/// The room for a text of so many bytes and that of an operand.
+/// Returns the capacity in bytes for `room` bytes and the text of an operand. A text that is not in memory is not
+/// counted.
 pub(crate) fn room_for(room: usize, operand: &Phrase) -> usize {
     match operand.as_str() {
         Some(text) => room.saturating_add(text.len()),
@@ -21,39 +22,39 @@ pub(crate) fn room_for(room: usize, operand: &Phrase) -> usize {
     }
 }
 
-/// How a text stands as an operand.
+/// What the text of an operand denotes, and so how it is used as a value.
 #[derive(Clone, Copy, Drop)]
 pub enum Form {
-    /// A value, and how strongly it holds together.
+    /// A value, with the precedence of its outermost operator.
     Value(u8),
-    /// A set, and how strongly it holds together.
+    /// A set, with the precedence of its outermost operator.
     Set(u8),
-    /// A number in its shortest spelling.
+    /// A number in its shortest encoding.
     Constant(u16),
     /// The value of a byte.
     Byte,
-    /// The variable that an address leads to.
+    /// The variable at an address. The operand is the address.
     Variable,
-    /// A word so many words behind the place that an address leads to.
+    /// A word at a constant distance from an address. The operand is the address of that word.
     Place,
-    /// The item of an array that an address leads to.
+    /// An array element. The operand is its address.
     Element,
-    /// Characters in the code, which stand for their address.
+    /// Characters in the code. The text denotes their address.
     Literal,
-    /// The character of a string that its address and its index lead to.
+    /// The character of a string at an index. The operand is the pair of address and index.
     Character,
-    /// The bits of a word that its address, their place and their number lead to.
+    /// Bits of a word. The operand is their address, their position and their count.
     Bits,
 }
 
-/// A text as an operand.
+/// The text of an operand.
 #[derive(Drop)]
 pub struct Phrase {
     /// The text.
     pub(crate) text: Text,
-    /// How it stands.
+    /// What the text denotes.
     pub form: Form,
-    /// The bytes of the words in the code that it is, if it is such.
+    /// The bytes of the words, if the operand is an LDC.
     pub(crate) words: Option<Vec<u8>>,
 }
 
@@ -72,7 +73,7 @@ impl Model for Phrase {
 }
 
 impl Phrase {
-    /// Where its text stands in memory, if it does.
+    /// Returns the text if it is in memory.
     pub fn as_str(&self) -> Option<&str>
         ensures text { IfSome result (λ text. text.now ≡ self.now.text) }
     {
@@ -82,7 +83,7 @@ impl Phrase {
         }
     }
 
-    /// Its text.
+    /// Returns a copy of the text.
     pub fn to_text(&self, alloc: Global) -> Result<String, AllocError>
         ensures text { IfOk result (λ text. string_bytes text ≡ self.now.text) }
     {
@@ -92,7 +93,7 @@ impl Phrase {
     }
 }
 
-/// How strongly a text of a form holds together as a value.
+/// Returns the precedence of a text of this form if it is used as a value.
 pub(crate) fn strength_of(form: Form) -> u8
     ensures strength { result ≡ shown.strength_of form }
 {
@@ -104,8 +105,10 @@ pub(crate) fn strength_of(form: Form) -> u8
     }
 }
 
-/// Adds a text as a value beside something of a strength: in brackets where it is weaker, and with `@` in front where
-/// it is the place that an address leads to.
+/// Appends an operand as a value next to an operator of the precedence `strength`.
+///
+/// The operand is put in parentheses if its own precedence is lower. It is prefixed with `@` if its text denotes what
+/// is at an address.
 #[tactic(auto, unfolding(crate::specs::Shown::value_text))]
 pub(crate) fn push_operand(
     out: &mut String,
@@ -132,14 +135,14 @@ pub(crate) fn push_operand(
     Ok(())
 }
 
-/// Adds a text as a value that stands alone.
+/// Appends an operand as a value, without parentheses.
 pub fn push_value(out: &mut String, phrase: &Phrase) -> Result<(), AllocError>
     ensures text { OnOk result (string_bytes out.new ≡ string_bytes out.old ++ shown.value_text phrase.now 0) }
 {
     push_operand(out, phrase, 0)
 }
 
-/// Adds a word and a number in square brackets behind it, with marks.
+/// Appends a word, a number with marks in square brackets, and a space.
 pub(crate) fn push_sized(
     out: &mut String,
     word: &str,
@@ -156,7 +159,7 @@ pub(crate) fn push_sized(
     out.push_str("] ")
 }
 
-/// Adds an operator between two blanks.
+/// Appends an operator between two spaces.
 pub(crate) fn push_sign(out: &mut String, sign: &str) -> Result<(), AllocError>
     ensures text { OnOk result
         (string_bytes out.new ≡ string_bytes out.old ++ (codes " " ++ (sign.now ++ codes " "))) }
@@ -166,7 +169,7 @@ pub(crate) fn push_sign(out: &mut String, sign: &str) -> Result<(), AllocError>
     out.push(' ')
 }
 
-/// Adds what an operand leads to, which is an address.
+/// Appends what is at the address that an operand denotes.
 #[tactic(auto, unfolding(crate::specs::Shown::place_text))]
 pub(crate) fn push_place(out: &mut String, phrase: &Phrase) -> Result<(), AllocError>
     ensures text { OnOk result (string_bytes out.new ≡ string_bytes out.old ++ shown.place_text phrase.now) }
@@ -187,7 +190,7 @@ pub(crate) fn push_place(out: &mut String, phrase: &Phrase) -> Result<(), AllocE
     }
 }
 
-/// Adds operands, each behind a comma.
+/// Appends each operand after a comma and a space.
 pub(crate) fn push_further(out: &mut String, operands: &[Phrase]) -> Result<(), AllocError>
     ensures text { OnOk result
         (string_bytes out.new ≡ string_bytes out.old ++ flat_map shown.further operands.now) }
@@ -199,7 +202,7 @@ pub(crate) fn push_further(out: &mut String, operands: &[Phrase]) -> Result<(), 
     Ok(())
 }
 
-/// Adds operands behind a name.
+/// Appends operands as an argument list in parentheses. Appends nothing if there are none.
 pub(crate) fn push_listed(out: &mut String, operands: &[Phrase]) -> Result<(), AllocError>
     ensures text { OnOk result
         (string_bytes out.new ≡ string_bytes out.old ++ shown.arguments operands.now) }
@@ -215,7 +218,7 @@ pub(crate) fn push_listed(out: &mut String, operands: &[Phrase]) -> Result<(), A
     }
 }
 
-/// A text as an operand.
+/// Returns a text as an operand of the given form.
 pub(crate) fn standing(text: Text, form: Form) -> Phrase
     ensures standing { result ≡ shown.standing form (bytes_of text) }
 {
@@ -226,14 +229,14 @@ pub(crate) fn standing(text: Text, form: Form) -> Phrase
     }
 }
 
-/// A text that needs no memory as an operand.
+/// Returns a text that needs no memory as an operand.
 pub(crate) fn leafed(leaf: Leaf, form: Form) -> Phrase
     ensures standing { result ≡ shown.standing form (leaf_text leaf) }
 {
     standing(Text::Leaf(leaf), form)
 }
 
-/// A text in memory as a value of a strength.
+/// Returns a text in memory as a value of the given precedence.
 pub(crate) fn valued(text: String, strength: u8) -> Phrase
     ensures value { result ≡ shown.value strength (string_bytes text) }
 {

@@ -11,7 +11,7 @@ use crate::operand::{
 use pm_families::{Byte, Field, Text};
 use std::alloc::{AllocError, Global};
 
-/// Adds the bits of a word that an address, their place and their number lead to, up to the bracket behind them.
+/// Appends the bits of a word, without the closing bracket: `a` is the address, `b` the first bit, `c` the count.
 fn push_bits(out: &mut String, a: &Phrase, b: &Phrase, c: &Phrase) -> Result<(), AllocError>
     ensures text { OnOk result (string_bytes out.new ≡ string_bytes out.old ++ texts.bits_text a.now b.now c.now) }
 {
@@ -22,7 +22,7 @@ fn push_bits(out: &mut String, a: &Phrase, b: &Phrase, c: &Phrase) -> Result<(),
     push_value(out, c)
 }
 
-/// What is stored to a part of what an address leads to.
+/// Returns the text of a store of `b` to the byte or bits `a`.
 #[tactic(auto, unfolding(crate::specs::Parts::part_stored))]
 fn part_stored(alloc: Global, kind: Form, a: &Phrase, b: &Phrase) -> Result<Phrase, AllocError>
     ensures shown { IfOk result (λ p. p ≡ texts.part_stored kind a.now b.now) }

@@ -12,7 +12,8 @@ use crate::spelling::{Spelling, marks_of};
 use pm_families::Pointer;
 use std::alloc::{AllocError, Global};
 
-/// Whether a word is the first of what an address leads to, and is shown without its number.
+/// Whether a loaded word is shown without its number. This holds for word 0 in the shortest encoding, except of a
+/// variable, a field or a literal.
 #[tactic(auto, unfolding(crate::specs::Pointers::is_unnumbered))]
 fn is_unnumbered(spelling: Spelling, form: Form, number: u16) -> bool
     ensures unnumbered { result ≡ texts.is_unnumbered spelling form number }

@@ -18,7 +18,7 @@ use std::fmt;
 /// One word of the stack.
 const ONE: Share = Share::Words(1);
 
-/// Whether a number is in the set of these bytes of words, of which the last has the least numbers.
+/// Whether `number` is a member of the set with these bytes. The last word contains the lowest numbers.
 #[tactic(auto, unfolding(crate::specs::Sets::is_member))]
 fn is_member(bytes: &[u8], number: usize) -> bool
     ensures member { result ≡ texts.is_member bytes.now number }
@@ -31,18 +31,19 @@ fn is_member(bytes: &[u8], number: usize) -> bool
     (byte >> (number % 8)) % 2 == 1
 }
 
-/// What stands before a number that may be a member.
+/// What precedes a number in a list of members.
 #[derive(Clone, Copy)]
 enum Behind {
     /// No member yet.
     Nothing,
-    /// A number that is none, and some member before that.
+    /// A number that is no member, and a member before it.
     Gap,
     /// A member.
     Member,
 }
 
-/// A number by what stands before it, whether it is a member, and whether the next one is.
+/// A number in a list of members: what precedes it, whether it is a member, whether the next number is one, and the
+/// number.
 #[derive(Clone, Copy)]
 struct MemberText(Behind, bool, bool, usize);
 
@@ -60,7 +61,7 @@ impl fmt::Display for MemberText {
     }
 }
 
-/// What stands before the next number.
+/// Returns what precedes the next number.
 fn behind_next(behind: Behind, is_member: bool) -> Behind
     ensures behind { result ≡ texts.behind_next behind is_member }
 {
@@ -71,7 +72,7 @@ fn behind_next(behind: Behind, is_member: bool) -> Behind
     }
 }
 
-/// The members of a set of so many words, by their bytes.
+/// The members of a set: its bytes, and its size in words.
 #[derive(Clone, Copy)]
 struct Members<'a>(&'a [u8], u16);
 
@@ -94,7 +95,7 @@ impl fmt::Display for Members<'_> {
     }
 }
 
-/// A set of so many words, by their bytes, of which the first two are the highest word.
+/// A constant set: its bytes, and its size in words. The first two bytes are the highest word.
 #[derive(Clone, Copy)]
 struct SetConstant<'a>(&'a [u8], u16);
 
@@ -115,7 +116,7 @@ impl fmt::Display for SetConstant<'_> {
     }
 }
 
-/// Adds a set of words and their count.
+/// Appends the set that is given by its words and their count.
 #[tactic(auto, unfolding(crate::specs::Sets::counted_text))]
 fn push_counted(out: &mut String, words: &Phrase, count: &Phrase) -> Result<(), AllocError>
     ensures text { OnOk result
@@ -139,7 +140,7 @@ fn push_counted(out: &mut String, words: &Phrase, count: &Phrase) -> Result<(), 
     }
 }
 
-/// Adds a set that is one operand.
+/// Appends a set that is one operand. A constant 0 is the empty set.
 #[tactic(auto, unfolding(crate::specs::Sets::set_text))]
 fn push_set(out: &mut String, set: &Phrase, strength: u8) -> Result<(), AllocError>
     ensures text { OnOk result
@@ -151,7 +152,7 @@ fn push_set(out: &mut String, set: &Phrase, strength: u8) -> Result<(), AllocErr
     }
 }
 
-/// The mark of a set that is made of constants.
+/// Returns the mark of a set that is computed from the operands `a` and `b`: `!` if both are constants.
 fn constant_mark(a: Form, b: Form) -> &'static str
     ensures mark { result.now ≡ texts.constant_mark a b }
 {
@@ -161,7 +162,8 @@ fn constant_mark(a: Form, b: Form) -> &'static str
     }
 }
 
-/// The sign between two sets that make a third, and how strongly it holds them together.
+/// Returns the operator of an operation that makes a set of two sets, and its precedence. Returns `None` for other
+/// operations.
 fn set_sign(what: Set) -> Option<(&'static str, u8)>
     ensures sign { option_map (λ s. s.0.now) result ≡ texts.set_sign what }
     ensures strength { IfSome result (λ s. s.1 ≡ texts.set_strength what) }
@@ -175,7 +177,7 @@ fn set_sign(what: Set) -> Option<(&'static str, u8)>
     }
 }
 
-/// Whether an operand stands for this share, which is missing.
+/// Whether an operand is the stand-in for this missing share.
 fn stands_for(share: Share, a: &Phrase) -> bool
     ensures text { OnTrue result (a.now.text ≡ share_text share) }
     ensures form { OnTrue result (a.now.form ≡ (stand_in share).form) }
@@ -216,7 +218,7 @@ pub(crate) fn set_one(alloc: Global, what: Set, a: &Phrase) -> Result<Option<Phr
     }
 }
 
-/// Two sets that each are one operand.
+/// Returns the text of an operation on two sets, each of which is one operand.
 #[tactic(auto, unfolding(crate::specs::Sets::sets_joined))]
 fn sets_joined(
     alloc: Global,
@@ -282,7 +284,8 @@ pub(crate) fn set_two(
     }
 }
 
-/// Of two sets one stands on the stack as a set, beside one of words and their count.
+/// Returns the text of a set operation on three operands. For an operator on two sets, one set is a single operand, and
+/// the other set is two operands: its words and their count.
 #[tactic(auto, unfolding(crate::specs::Sets::set_three, crate::specs::Sets::one_counted))]
 pub(crate) fn set_three(
     alloc: Global,

@@ -1,11 +1,11 @@
-//! Operators and how strongly they hold their operands together.
+//! Operators and their precedence.
 
 ghost use Rattle.std.specs.Prelude.{◌≡◌, ◌<◌};
 ghost use Rattle.pm_phrases.specs.Signs as signs;
 
 use pm_families::{Binary, Relation};
 
-/// The sign between two integers, and how strongly it holds them together.
+/// Returns an operator on two integers, and its precedence.
 pub(crate) fn binary_sign(o: Binary) -> (&'static str, u8)
     ensures sign { result.0.now ≡ signs.binary_sign o }
     ensures strength { result.1 ≡ signs.binary_strength o }
@@ -22,7 +22,7 @@ pub(crate) fn binary_sign(o: Binary) -> (&'static str, u8)
     }
 }
 
-/// The sign between two values that are compared.
+/// Returns the operator of a comparison.
 pub(crate) fn relation_sign(r: Relation) -> &'static str
     ensures sign { result.now ≡ signs.relation_sign r }
 {

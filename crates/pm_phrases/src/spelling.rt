@@ -1,4 +1,4 @@
-//! How an instruction is spelled, beside its shortest spelling.
+//! The encoding of an instruction, compared with its shortest encoding.
 
 ghost use Rattle.std.specs.Prelude.{◌≡◌};
 ghost use Rattle.pm_phrases.specs.Spelled as spelled;
@@ -6,18 +6,18 @@ ghost use Rattle.pm_phrases.specs.Spelled as spelled;
 use pm_families::{Arithmetic, Pointer, Scope, Variable};
 use pm_opcode::{Instr, Operation, implied_number};
 
-/// How an instruction is spelled.
+/// How an instruction is encoded.
 #[derive(Clone, Copy)]
 pub(crate) enum Spelling {
-    /// As short as can be.
+    /// The shortest encoding.
     Shortest,
-    /// Its number in two bytes where one would do, or in place of an opcode that has the number in itself.
+    /// A number in two bytes although one suffices, or an operand although an opcode exists that includes the number.
     Longer,
-    /// Both.
+    /// Both of these.
     Longest,
 }
 
-/// The marks of a spelling.
+/// Returns the marks that show an encoding.
 pub(crate) fn marks_of(spelling: Spelling) -> &'static str
     ensures marks { result.now ≡ spelled.marks spelling }
 {
@@ -28,7 +28,7 @@ pub(crate) fn marks_of(spelling: Spelling) -> &'static str
     }
 }
 
-/// How an instruction is spelled that is this operation.
+/// Returns the encoding of an instruction whose operation is `what`.
 #[tactic(auto, unfolding(crate::specs::Spelled::spelling_of, crate::specs::Spelled::has_shorter, crate::specs::Spelled::fits_opcode))]
 pub(crate) fn spelling_of(i: &Instr, what: Operation) -> Spelling
     ensures spelling { result ≡ spelled.spelling_of i.now what }

@@ -10,7 +10,7 @@ use crate::spelling::{Spelling, marks_of};
 use pm_families::{Scope, Variable};
 use std::alloc::{AllocError, Global};
 
-/// What a variable of the procedure is.
+/// Returns the prefix of a local variable's name: `param` or `local`.
 #[tactic(auto, unfolding(crate::specs::Variables::local_word))]
 pub(crate) fn local_word(around: Around, number: u16) -> &'static str
     ensures word { result.now ≡ texts.local_word around number }
@@ -22,7 +22,7 @@ pub(crate) fn local_word(around: Around, number: u16) -> &'static str
     }
 }
 
-/// Adds a variable by its scope and number, with the marks of a spelling.
+/// Appends the name of a variable, with the marks of its encoding.
 #[tactic(auto, unfolding(crate::specs::Variables::variable_text))]
 pub(crate) fn push_name(
     out: &mut String,

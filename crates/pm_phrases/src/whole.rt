@@ -1,4 +1,4 @@
-//! The text of an operation on its operands.
+//! The text of an operation applied to its operands.
 
 ghost use Rattle.std.specs.Prelude.{◌≡◌, ◌++◌, IfOk};
 ghost use Rattle.pm_code.specs.Views.{placed_item};
@@ -17,7 +17,8 @@ use pm_effects::Share;
 use pm_opcode::Operation;
 use std::alloc::{AllocError, Global};
 
-/// The text that an item has of its own, by its operands behind those that stand for what is missing.
+/// Returns the text of an item applied to the stand-ins for what is missing and `operands`. Returns `None` if the item
+/// has no text of its own.
 #[tactic(auto, unfolding(crate::specs::Phrases::template))]
 fn template(
     alloc: Global,
@@ -54,8 +55,11 @@ fn template(
     }
 }
 
-/// The text of an operation on its operands, from the first to the last. Of a call that is not known to take so many,
-/// `?` stands for all.
+/// Returns the text of an operation applied to `operands`, the first one first. The stand-ins for what is missing
+/// precede them.
+///
+/// If `known` is false, the input of the operation is not known, and its only stand-in is `?`. An item that has no text
+/// of its own is shown in braces, as in the disassembly.
 #[tactic(auto, unfolding(crate::specs::Phrases::phrase_of))]
 pub fn phrase(
     alloc: Global,

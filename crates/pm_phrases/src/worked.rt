@@ -1,8 +1,8 @@
-//! What the definitions give for code, computed. The function does nothing.
+//! Worked examples: what the definitions compute for code. The function does nothing.
 
 ghost use Rattle.pm_phrases.specs.Worked as worked;
 
-/// Texts of each family, computed.
+/// The texts of each family.
 #[tactic(auto, using(crate::proofs::Computed::worked_variables, crate::proofs::Computed::worked_operators, crate::proofs::Computed::worked_addresses, crate::proofs::Computed::worked_missing, crate::proofs::Computed::worked_calls, crate::proofs::Computed::worked_jumps, crate::proofs::Computed::worked_others, crate::proofs::Computed::worked_literals, crate::proofs::Computed::worked_comparisons, crate::proofs::Computed::worked_parts, crate::proofs::Computed::worked_sets, crate::proofs::Computed::worked_characters, crate::proofs::Computed::worked_constants))]
 pub fn worked_texts()
     ensures variables { worked.WorkedVariables }

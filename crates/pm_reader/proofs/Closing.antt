@@ -1,4 +1,4 @@
--- A procedure that ends, in the last segment.
+-- The end of a procedure in the last segment.
 use Rattle.std.proofs.Common.{◌≡◌, List, [], ◌∷◌, ◌++◌, ◌∙◌, map, refl, ap, sym}
 use Rattle.std.specs.Prelude.{Option, Some, None}
 use Rattle.std.specs.Option.{option_map}
@@ -23,7 +23,7 @@ reading segments current = record { segments = segments; current = current }
 abbrev pub with_procedures : SourceSegment → List Source → SourceSegment
 with_procedures s ps = record s { procedures = ps }
 
--- a segment with one procedure more, as it is seen
+-- A segment with one more procedure.
 pub one_more : (last : LabelledSegment) (ps : List LabelledProcedure) (p : LabelledProcedure) → ps ≡ last.procedures.items ++ p ∷ []
     → with_procedures (labelled_segment last) (map labelled_procedure ps) ≡ with_procedures (labelled_segment last)
     (map labelled_procedure last.procedures.items ++ labelled_procedure p ∷ [])
@@ -31,7 +31,7 @@ one_more last ps p e =
     ap (λ qs. with_procedures (labelled_segment last) qs)
     (ap (λ qs. map labelled_procedure qs) e ∙ map-append labelled_procedure last.procedures.items (p ∷ []))
 
--- the last segment with the procedure that ended
+-- The last segment with the ended procedure.
 pub ended_last : (olds news kept : List LabelledSegment) (last changed : LabelledSegment) (opened now : Option Current) (o : Current)
     → opened ≡ Some o → now ≡ None → olds ≡ kept ++ last ∷ [] → news ≡ kept ++ changed ∷ []
     → labelled_segment changed ≡ with_procedures (labelled_segment last) (map labelled_procedure last.procedures.items ++ current_seen o ∷ [])

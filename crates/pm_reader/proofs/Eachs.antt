@@ -9,7 +9,7 @@ use Rattle.pm_reader.specs.Each.{first_in, firsts_from}
 use Rattle.pm_reader.specs.Reader.{Answers}
 use Rattle.pm_reader.proofs.Numbering.{front, seen_from}
 
--- an answer that is no want of memory is the first of the faults
+-- An answer other than `NoMemory` is the first of the faults.
 pub first_noted : (answer : Option AsmFault) (faults : List AsmFault) → Answers answer faults → answer ≢ Some NoMemory
     → option_to_list answer ≡ first_in faults
 first_noted None [] is known = refl
@@ -17,7 +17,7 @@ first_noted None (fault ∷ faults) is known = cc
 first_noted (Some fault) [] is known = absurd (let h = is (λ e. known (ap Some e)) in cc)
 first_noted (Some fault) (f ∷ faults) is known = let h = is (λ e. known (ap Some e)) in cc
 
--- what was noted, and what is still to be, are all
+-- The faults so far, followed by those of the remaining lines, are all faults.
 pub firsts_behind : (texts : List (List ℕ)) (n : ℕ) (text : List ℕ) (before behind : Reading) (old new all : List AsmFault)
     → (n < length texts) × (text ≡ get_or texts n text)
     → new ≡ old ++ first_in (line_faults (n + 1) before (line_of (n + 1) text) (seen_from (n + 1) texts))

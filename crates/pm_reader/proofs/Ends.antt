@@ -9,7 +9,7 @@ use Rattle.std.proofs.lemmas.List.Folds.{list_any-append}
 use Rattle.pm_source.specs.Line.{Line}
 use Rattle.pm_source.specs.Faults.{ends}
 
--- so many lines lie up to the last that ends a procedure
+-- The number of lines up to the last one that ends a procedure.
 abbrev pub IsUntil : List Line → ℕ → Type 0
 IsUntil lines until = (at : ℕ) → list_any ends (drop at lines) ≡ nat_lt at until
 

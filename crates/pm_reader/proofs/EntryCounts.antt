@@ -1,4 +1,4 @@
--- How many entries code takes, row by row.
+-- The number of entries that code uses, row by row.
 use Rattle.std.proofs.Common.{◌≡◌, ℕ, List, [], ◌∷◌, ◌++◌, ◌∙◌, max, ap, sym, arith}
 use Rattle.pm_code.specs.Item.{Item}
 use Rattle.pm_code.specs.Program.{entries_needed}
@@ -8,14 +8,14 @@ needed-append : (xs ys : List (Item Name)) → entries_needed (xs ++ ys) ≡ max
 needed-append [] ys = omega arith
 needed-append (x ∷ xs) ys = omega (arith, needed-append xs ys)
 
--- those of a row and those of the rows behind it
+-- The entries that a row and the rows after it use.
 used-cons : (row : Row) (rows : List Row) → entries_used (row ∷ rows) ≡ max (entries_needed (row_items row)) (entries_used rows)
 used-cons row rows = needed-append (row_items row) (items_of rows)
 
 max-assoc : (a b c : ℕ) → max (max a b) c ≡ max a (max b c)
 max-assoc a b c = omega arith
 
--- one row more
+-- One more row.
 pub used-more : (most : ℕ) (row : Row) (rows : List Row) → max (max most (entries_needed (row_items row))) (entries_used rows)
     ≡ max most (entries_used (row ∷ rows))
 used-more most row rows = max-assoc most (entries_needed (row_items row)) (entries_used rows) ∙ ap (max most) (sym (used-cons row rows))

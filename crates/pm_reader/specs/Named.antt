@@ -10,17 +10,17 @@ use Rattle.pm_reader.specs.Views.{labelled_procedure}
 use Rattle.pm_source.specs.Source.{Name, Row, has_label_in}
 use Rattle.pm_source.specs.Source.Row.{Items, Exit}
 
--- whether a label is this name, byte for byte
+-- Whether a label is this name, byte for byte.
 abbrev pub is_name : Name → Option (Bor (List ℕ)) → Bool
 is_name name None = false
 is_name name (Some label) = bytes_eq label.now name
 
--- the label before the items of a line of code, if one stands there
+-- The label before the items of a line of code, if there is one.
 abbrev pub label_in : Row → Option Name
 label_in (Items line label items) = label
 label_in Exit = None
 
--- A table has the labels of a procedure's code, and no other.
+-- The table contains exactly the labels of a procedure's code.
 abbrev pub HasLabelsOf : LabelledProcedure → BTreeMap (Bor (List ℕ)) ℕ → Type 0
 HasLabelsOf p labels = (name : List ℕ)
     → is_some (get_by (λ key. slice_cmp nat_cmp name key.now) labels) ≡ has_label_in name (labelled_procedure p)

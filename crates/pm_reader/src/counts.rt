@@ -1,15 +1,15 @@
-//! What the end of a procedure counts.
+//! The counts at the end of a procedure.
 
-/// What the end of a procedure counts: it is refused where the bytes are odd, or the entries are not as many as are
-/// taken.
+/// The counts at the end of a procedure. The end is rejected if the number of bytes is odd, or if `entries` and `taken`
+/// differ.
 #[derive(Clone, Copy)]
 pub struct Counts {
-    /// The number that the procedure has by its place.
+    /// The number of the procedure, from its position.
     pub procedure: usize,
-    /// How many bytes its code has.
+    /// The size of its code, in bytes.
     pub bytes: usize,
-    /// How many entries its jump table has.
+    /// The number of entries of its jump table.
     pub entries: usize,
-    /// How many of them its code takes: one more than the greatest that it names.
+    /// The number of entries that its code uses: the highest number that it names plus one.
     pub taken: usize,
 }

@@ -1,4 +1,4 @@
-//! How many entries of the jump table code takes.
+//! The number of jump table entries that code uses.
 
 ghost use Rattle.std.specs.Prelude.{◌≡◌, map};
 ghost use Rattle.pm_code.specs.Program.{entries_needed};
@@ -8,14 +8,14 @@ ghost use Rattle.pm_source.specs.Source.{entries_used, row_items};
 use pm_code::entries_needed;
 use pm_line::Row;
 
-/// How many entries a line takes.
+/// Returns the number of entries that a line uses.
 fn row_entries(row: &Row<'_>) -> usize
     ensures entries { result ≡ entries_needed (row_items (row_seen row.now)) }
 {
     entries_needed(row.items())
 }
 
-/// How many entries code takes.
+/// Returns the number of entries that code uses.
 pub(crate) fn entries_taken(rows: &[Row<'_>]) -> usize
     ensures entries { result ≡ entries_used (map row_seen rows.now) }
 {

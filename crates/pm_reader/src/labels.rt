@@ -7,7 +7,8 @@ ghost use Rattle.pm_reader.specs.Named.{is_name, label_in};
 
 use pm_line::Row;
 
-/// The label before the items of a line of code, if one stands there. The place of the exit code has none.
+/// Returns the label before the items of a line of code, or `None` if it has no label. The line of the exit code has
+/// none.
 pub fn label_of<'a>(row: &Row<'a>) -> Option<&'a [u8]>
     ensures label { (name : List ℕ) → has_label name (row_seen row.now) ≡ is_name name result }
     ensures told { option_map text_seen result ≡ label_in (row_seen row.now) }

@@ -1,7 +1,8 @@
-//! The reader of the assembler: the segments that a text says, read line by line, or its first fault of reading.
+//! The reader of the assembler. It reads source text line by line, and returns its segments or its first fault.
 //!
-//! `source_of` reads a text. What it answers borrows from the text, and labels are not looked up yet. `row_end` and
-//! `source_end` tell how many bytes its parts will have, `counts_of` what a procedure has up to its end.
+//! `source_of` reads a text. Its result borrows from the text, and its labels are not looked up yet. `row_end` and
+//! `source_end` return the ends of lines and procedures in bytes. `counts_of` returns the counts of a procedure at its
+//! end.
 #![tactic(auto)]
 
 mod counts;

@@ -1,4 +1,4 @@
-//! Faults that are noted, one behind another.
+//! Lists of faults.
 
 ghost use Rattle.std.specs.Prelude.{◌≡◌, ◌≢◌, ◌++◌, Some, IfErr, OnOk};
 ghost use Rattle.std.specs.Option.{option_to_list};
@@ -6,7 +6,11 @@ ghost use Rattle.pm_source.specs.declared.fault.AsmFault.TheVariants.{NoMemory};
 
 use pm_source::AsmFault;
 
-/// Notes a fault behind the others, if there is one. Refused by `NoMemory` alone, also where that is the fault.
+/// Appends a fault, if there is one.
+///
+/// # Errors
+///
+/// Only `NoMemory`: the fault is `NoMemory`, or memory runs out.
 pub fn note(found: &mut Vec<AsmFault>, fault: Option<AsmFault>) -> Result<(), AsmFault>
     ensures noted { OnOk result (found.new.items ≡ found.old.items ++ option_to_list fault) }
     ensures known { OnOk result (fault ≢ Some NoMemory) }

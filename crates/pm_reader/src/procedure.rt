@@ -1,4 +1,4 @@
-//! What is asked of a procedure that has not ended, and how it goes on.
+//! Properties of a procedure that has not ended, and its next line.
 
 ghost use Rattle.std.specs.Prelude.{◌≡◌, [], None, IfOk, IfSome, map};
 ghost use Rattle.std.specs.List.{list_any};
@@ -17,14 +17,14 @@ use pm_line::Row;
 use std::alloc::{AllocError, Global};
 use std::collections::BTreeMap;
 
-/// Whether a line is the place of the exit code.
+/// Whether a line is that of the exit code.
 fn row_is_exit(row: &Row<'_>) -> bool
     ensures exit { result ≡ is_exit (row_seen row.now) }
 {
     matches!(row, Row::Exit)
 }
 
-/// Whether the exit code stands in code.
+/// Whether code includes the line of the exit code.
 fn any_exit(rows: &[Row<'_>]) -> bool
     ensures exit { result ≡ list_any (λ row. is_exit (row_seen row)) rows.now }
 {
@@ -32,7 +32,7 @@ fn any_exit(rows: &[Row<'_>]) -> bool
 }
 
 impl LabelledProcedure<'_> {
-    /// Whether the exit code stands in it.
+    /// Whether the procedure includes the line of the exit code.
     #[tactic(auto, using(crate::proofs::Seen::any_of_views))]
     pub(crate) fn has_exit(&self) -> bool
         ensures exit { result ≡ has_exit (labelled_procedure self.now) }
@@ -40,8 +40,8 @@ impl LabelledProcedure<'_> {
         any_exit(&self.code)
     }
 
-    /// Whether the code has an odd length, or takes other entries than there are; none where memory cannot hold the
-    /// code.
+    /// Whether the code has an odd length, or uses another number of entries than there are. Returns `None` only if the
+    /// length does not fit in 64 bits.
     pub(crate) fn is_uneven(&self) -> Option<bool>
         ensures uneven { IfSome result (λ uneven. uneven ≡ is_uneven (labelled_procedure self.now)) }
         ensures too_long { result ≡ None → IsCountless (code_end 0 (labelled_procedure self.now).code) }
@@ -52,7 +52,7 @@ impl LabelledProcedure<'_> {
 }
 
 impl<'a> Current<'a> {
-    /// One of which only the head has been said.
+    /// Creates a procedure of which only the first line was read.
     pub(crate) fn new(alloc: Global, level: u8, parameters: u16, locals: u16) -> Current<'a>
         ensures new { current_seen result ≡ new_procedure level parameters locals }
     {
@@ -68,14 +68,14 @@ impl<'a> Current<'a> {
         }
     }
 
-    /// Whether a label stands in it.
+    /// Whether the procedure defines a label.
     pub(crate) fn has_label(&self, name: &'a [u8]) -> bool
         ensures label { result ≡ has_label_in name.now (current_seen self.now) }
     {
         self.labels.contains_key(&name)
     }
 
-    /// It with one line of code more.
+    /// Returns the procedure with one more line of code.
     pub(crate) fn with_row(self, row: Row<'a>) -> Result<Current<'a>, AllocError>
         ensures row { IfOk result (λ current. current_seen current
             ≡ after_code (row_seen row.entry) (current_seen self.entry)) }

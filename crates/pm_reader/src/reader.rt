@@ -1,4 +1,4 @@
-//! The reader: what the lines so far have said, and what is wrong in the next.
+//! The reader: the lines so far, and the faults of the next line.
 
 ghost use Rattle.std.specs.Prelude.{◌≡◌, ◌==◌, ◌+◌, ◌++◌, List, [], Some, None, IfSome, IfErr, OnOk};
 ghost use Rattle.std.specs.List.{list_any};
@@ -26,21 +26,21 @@ use pm_line::{Flaw, Line, Row, Statement, line};
 use pm_source::AsmFault;
 use std::alloc::{AllocError, Global};
 
-/// What the lines so far have said: the segments with their ended procedures, and the procedure that has not ended.
+/// The result of the lines so far: the segments with their ended procedures, and the procedure that has not ended.
 #[derive(Drop)]
 pub(crate) struct Reader<'a> {
     segments: Vec<LabelledSegment<'a>>,
     current: Option<Current<'a>>,
 }
 
-/// Whether a segment has a number.
+/// Whether a segment with this number exists.
 fn any_number(segments: &[LabelledSegment<'_>], number: u8) -> bool
     ensures number { result ≡ list_any (λ s. s.number == number) segments.now }
 {
     segments.iter().any(|segment| segment.number == number)
 }
 
-/// How many procedures the last segment has.
+/// Returns the number of procedures of the last segment, or 0 if there is no segment.
 fn last_count(segments: &[LabelledSegment<'_>]) -> usize
     ensures count { result ≡ procedure_count (labelled_segments segments.now) }
 {
@@ -50,21 +50,21 @@ fn last_count(segments: &[LabelledSegment<'_>]) -> usize
     }
 }
 
-/// Whether a procedure has the next number after so many.
+/// Whether `number` is the next procedure number after `count` procedures.
 fn is_next(number: u8, count: usize) -> bool
     ensures next { result ≡ (number == count + 1) }
 {
     number > 0 && usize::from(number) - 1 == count
 }
 
-/// Whether a statement is the head of a procedure.
+/// Whether a statement begins a procedure.
 fn is_begin(statement: &Statement<'_>) -> bool
     ensures begin { result ≡ faults.is_begin (statement_seen statement.now) }
 {
     matches!(statement, Statement::Begin { .. })
 }
 
-/// Whether a statement is the end of a procedure.
+/// Whether a statement ends a procedure.
 fn is_end(statement: &Statement<'_>) -> bool
     ensures end { result ≡ faults.is_end (statement_seen statement.now) }
 {
@@ -72,7 +72,7 @@ fn is_end(statement: &Statement<'_>) -> bool
 }
 
 impl<'a> Reader<'a> {
-    /// Whether a statement may stand here.
+    /// Whether a statement is allowed at this position.
     fn is_in_place(&self, statement: &Statement<'a>) -> bool
         ensures in_place { result ≡ is_in_place (reader_seen self.now) (statement_seen statement.now) }
     {
@@ -86,7 +86,7 @@ impl<'a> Reader<'a> {
         }
     }
 
-    /// Whether a slot, a label of the procedure or its exit code comes again.
+    /// Whether a statement repeats a slot, a label of the procedure or its exit code.
     #[tactic(auto, using(crate::proofs::Seen::any_of_views))]
     fn is_again(&self, statement: &Statement<'a>) -> bool
         ensures again { result ≡ is_again (reader_seen self.now) (statement_seen statement.now) }
@@ -113,8 +113,8 @@ impl<'a> Reader<'a> {
         }
     }
 
-    /// Whether a procedure has a number that is not the next one, or ends with an odd length or a wrong count of
-    /// entries; none where memory cannot hold its code.
+    /// Whether a procedure does not have the next number, or ends with an odd length or a wrong number of entries.
+    /// Returns `None` only if its length does not fit in 64 bits.
     fn is_miscounted(&self, statement: &Statement<'a>) -> Option<bool>
         ensures miscounted { IfSome result (λ wrong. wrong
             ≡ is_miscounted (reader_seen self.now) (statement_seen statement.now)) }
@@ -129,8 +129,17 @@ impl<'a> Reader<'a> {
         }
     }
 
-    /// The first of what is wrong in a statement, by whether a later line ends a procedure; no memory where it cannot
-    /// hold the code.
+    /// Returns the first fault of a statement, if there is one. `ends_later` states whether a later line ends a
+    /// procedure.
+    ///
+    /// The faults are checked in this order:
+    ///
+    /// - `Syntax`: the statement is not allowed here, or it begins a procedure that no later line ends.
+    /// - `Unknown`: a type word is unknown.
+    /// - `Twice`: a slot, a label or the exit code is repeated.
+    /// - `Range`: a number is out of range, a procedure has a wrong number, or its end has wrong counts.
+    ///
+    /// Returns `NoMemory` only if the length of the code does not fit in 64 bits.
     fn said_fault(
         &self,
         number: usize,
@@ -162,8 +171,8 @@ impl<'a> Reader<'a> {
         }
     }
 
-    /// The first of what is wrong in a line, by whether a later line ends a procedure; no memory where it cannot hold
-    /// the code.
+    /// Returns the first fault of a line, if there is one. `ends_later` states whether a later line ends a procedure.
+    /// Returns `NoMemory` only if the length of the code does not fit in 64 bits.
     fn line_fault(&self, number: usize, line: &Line<'a>, ends_later: bool) -> Option<AsmFault>
         ensures fault { (rest : List text.Line) → ends_later ≡ list_any ends rest
             → Answers result (line_faults number (reader_seen self.now) (line_seen line.now) rest) }
@@ -179,7 +188,7 @@ impl<'a> Reader<'a> {
 }
 
 impl<'a> Reader<'a> {
-    /// One that has taken in no line.
+    /// Creates a reader that has read no line.
     pub(crate) fn new(alloc: Global) -> Reader<'a>
         ensures start { reader_seen result ≡ start }
     {
@@ -189,14 +198,14 @@ impl<'a> Reader<'a> {
         }
     }
 
-    /// The segments, without a procedure that has not ended.
+    /// Returns the segments. A procedure that has not ended is not included.
     pub(crate) fn into_segments(self) -> Vec<LabelledSegment<'a>>
         ensures segments { labelled_segments result.items ≡ (reader_seen self.entry).segments }
     {
         self.segments
     }
 
-    /// Ends the procedure that goes on, if one does.
+    /// Ends the open procedure, if there is one.
     fn close(&mut self) -> Result<(), AllocError>
         ensures ok { OnOk result (reader_seen self.new
             ≡ closed (reader_seen self.old).segments (reader_seen self.old).current) }
@@ -210,7 +219,7 @@ impl<'a> Reader<'a> {
         Ok(())
     }
 
-    /// Takes in a statement.
+    /// Processes a statement.
     fn say(&mut self, alloc: Global, statement: Statement<'a>) -> Result<(), AllocError>
         ensures ok { OnOk result (reader_seen self.new
             ≡ after (reader_seen self.old) (statement_seen statement.entry)) }
@@ -246,7 +255,8 @@ impl<'a> Reader<'a> {
         Ok(())
     }
 
-    /// Takes in a line: a statement in its place; one that ends a procedure ends it wherever it stands.
+    /// Processes a line. A statement is processed if it is allowed at this position. A line that ends a procedure ends
+    /// it at any position.
     fn take(&mut self, alloc: Global, line: Line<'a>) -> Result<(), AllocError>
         ensures ok { OnOk result (reader_seen self.new
             ≡ after_line (reader_seen self.old) (line_seen line.entry)) }
@@ -266,8 +276,11 @@ impl<'a> Reader<'a> {
         }
     }
 
-    /// Takes in a line without fault, by its number and whether a later line ends a procedure; its first fault is
-    /// refused.
+    /// Processes a line that has no fault. `ends_later` states whether a later line ends a procedure.
+    ///
+    /// # Errors
+    ///
+    /// The first fault of the line, or `NoMemory`.
     fn step(
         &mut self,
         alloc: Global,
@@ -289,8 +302,12 @@ impl<'a> Reader<'a> {
         self.take(alloc, line).map_err(|_| AsmFault::NoMemory)
     }
 
-    /// Reads a line, by its number and whether a later line ends a procedure, and takes in what it says; its first
-    /// fault is refused.
+    /// Parses and processes a line that has no fault. `number` is its line number. `ends_later` states whether a later
+    /// line ends a procedure.
+    ///
+    /// # Errors
+    ///
+    /// The first fault of the line, or `NoMemory`.
     pub(crate) fn read_line(
         &mut self,
         alloc: Global,
@@ -310,7 +327,7 @@ impl<'a> Reader<'a> {
         self.step(alloc, number, line, ends_later)
     }
 
-    /// Reads a line, by its number, and takes in what it says, whatever is wrong in it.
+    /// Parses and processes a line, even if it has faults. `number` is its line number.
     pub(crate) fn take_line(
         &mut self,
         alloc: Global,
@@ -324,7 +341,8 @@ impl<'a> Reader<'a> {
         self.take(alloc, line)
     }
 
-    /// What an end of a procedure would count here; none where no procedure goes on, or memory cannot hold its code.
+    /// Returns the counts for an end of the procedure at this position. Returns `None` if no procedure is open, or if a
+    /// count does not fit in 64 bits.
     pub(crate) fn counts(&self) -> Option<Counts>
         ensures counts { IfSome result (AreCounts (reader_seen self.now)) }
     {
@@ -337,8 +355,12 @@ impl<'a> Reader<'a> {
         })
     }
 
-    /// Reads a line, by its number and whether a later line ends a procedure, notes its first fault, and takes in what
-    /// it says. Refused by `NoMemory` alone.
+    /// Parses a line, appends its first fault to `found`, and processes the line. `number` is its line number.
+    /// `ends_later` states whether a later line ends a procedure.
+    ///
+    /// # Errors
+    ///
+    /// Only `NoMemory`.
     #[tactic(auto, using(crate::proofs::Eachs::first_noted))]
     pub(crate) fn note_line(
         &mut self,

@@ -1,4 +1,4 @@
-//! A text's lines, read in order.
+//! Reading the lines of source text in order.
 
 ghost use Rattle.std.specs.Prelude.{◌≡◌, ℕ, [], nat_lt, drop, IfOk, IfErr, IfSome, OnOk};
 ghost use Rattle.std.specs.List.{list_any};
@@ -16,7 +16,7 @@ use pm_line::line_ends;
 use pm_source::AsmFault;
 use std::alloc::{AllocError, Global};
 
-/// How many lines there are up to the last one that ends a procedure.
+/// Returns the number of lines up to the last one that ends a procedure.
 fn until_last_end(text: &str) -> usize
     ensures until { (at : ℕ) → list_any ends (drop at (lines_of text.now)) ≡ nat_lt at result }
 {
@@ -31,13 +31,15 @@ fn until_last_end(text: &str) -> usize
     until
 }
 
-/// What a text says: its segments with their labels, in the order of the text.
+/// Returns the segments of source text with their labels, in the order of the text.
 ///
-/// It is Ok only where no line has a fault. Whether the labels that are named stand anywhere, and how long segments
-/// are, is not looked at. Refusals:
+/// It succeeds only if no line has a fault. It does not check whether labels that are used are defined, and how long
+/// segments are.
 ///
-/// - the first of the lines' faults (`Syntax`, `Unknown`, `Range`, `Twice`), with its line, numbered from 1;
-/// - `NoMemory`: memory could not grow, or cannot hold code as long as the text says.
+/// # Errors
+///
+/// - The first of the lines' faults (`Syntax`, `Unknown`, `Range`, `Twice`), with its line, numbered from 1.
+/// - `NoMemory`: memory runs out, or the length of code does not fit in 64 bits. It can occur at any line.
 pub fn source_of<'a>(alloc: Global, text: &'a str) -> Result<Vec<LabelledSegment<'a>>, AsmFault>
     ensures faultless { OnOk result (faults_of_lines text.now ≡ []) }
     ensures read { IfOk result (λ ss. labelled_segments ss.items ≡ source_of text.now) }
@@ -53,8 +55,12 @@ pub fn source_of<'a>(alloc: Global, text: &'a str) -> Result<Vec<LabelledSegment
     Ok(reader.into_segments())
 }
 
-/// The first fault of each line of a text that has one (`Syntax`, `Unknown`, `Range`, `Twice`), in the order of lines.
-/// Refused by `NoMemory` alone.
+/// Returns the first fault of each line of source text that has one (`Syntax`, `Unknown`, `Range`, `Twice`), in the
+/// order of lines.
+///
+/// # Errors
+///
+/// Only `NoMemory`.
 #[tactic(auto, unfolding(crate::specs::Each::firsts_of_lines))]
 pub fn faults_of_lines(alloc: Global, text: &str) -> Result<Vec<AsmFault>, AsmFault>
     ensures faults { IfOk result (λ faults. faults.items ≡ firsts_of_lines text.now) }
@@ -71,8 +77,12 @@ pub fn faults_of_lines(alloc: Global, text: &str) -> Result<Vec<AsmFault>, AsmFa
     Ok(found)
 }
 
-/// What an `.END` behind a text counts, whatever is wrong in its lines. None where no procedure goes on there, or
-/// memory cannot hold its code. An error is want of memory.
+/// Returns the counts for an `.END` after a text, even if its lines have faults. Returns `None` if no procedure is open
+/// there, or if a count does not fit in 64 bits.
+///
+/// # Errors
+///
+/// `AllocError` if memory runs out.
 pub fn counts_of(alloc: Global, text: &str) -> Result<Option<Counts>, AllocError>
     ensures counts { IfOk result (λ counts. IfSome counts (AreCounts (after_lines start (lines_of text.now)))) }
 {

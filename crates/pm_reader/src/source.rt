@@ -1,20 +1,20 @@
-//! Segments and procedures with their labels, as a text writes them.
+//! Segments and procedures with their labels, as in source text.
 
 use pm_line::Row;
 
 /// An entry of a jump table.
 #[derive(Clone, Copy, Drop)]
 pub struct Entry<'a> {
-    /// The number of its line.
+    /// The line number.
     pub line: usize,
-    /// The label that it names.
+    /// The label to which it refers.
     pub label: &'a [u8],
 }
 
 /// A procedure with its labels.
 #[derive(Drop)]
 pub struct LabelledProcedure<'a> {
-    /// Its level, a byte in two's complement.
+    /// Its level, as a byte in two's complement.
     pub level: u8,
     /// The size of its parameters, in bytes.
     pub parameters: u16,

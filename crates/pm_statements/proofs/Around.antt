@@ -1,4 +1,4 @@
--- The spans that are open are those that count and go on.
+-- The open spans are those that count and contain the offset.
 use Rattle.std.proofs.Common.{◌≡◌, ◌≤◌, ◌<◌, ℕ, zero, suc, ◌+◌, Bool, true, false, List, [], ◌∷◌, ◌++◌, length, replicate}
 use Rattle.std.proofs.Common.{Option, None, Some, refl, sym, ap, ◌∙◌, arith, subst}
 use Rattle.std.specs.Prelude.{not, ◌||◌, ◌&&◌, nat_le, nat_lt, if◌then◌else◌}
@@ -9,17 +9,17 @@ use Rattle.pm_statements.specs.Spans.{DepthsAreSpans, JumpSpan, around, counted,
 
 -- ---- lists of ends
 
--- those behind a place
+-- The ends after an offset.
 abbrev only : ℕ → List ℕ → List ℕ
 only x [] = []
 only x (e ∷ es) = if nat_lt x e then e ∷ only x es else only x es
 
--- none is lower
+-- No end is lower.
 abbrev Below : ℕ → List ℕ → Type 0
 Below e [] = Unit {0}
 Below e (x ∷ xs) = (e ≤ x) × Below e xs
 
--- each is none higher than those behind it
+-- Each end is at most the next one.
 abbrev Rising : List ℕ → Type 0
 Rising [] = Unit {0}
 Rising (e ∷ es) = Below e es × Rising es
@@ -59,7 +59,7 @@ rising_only x (e ∷ es) r = by (nat_lt x e) (rising_only x es r.1)
     by true more = (below_only x e es r.0, more)
     by false more = more
 
--- ---- the ends of spans that go on
+-- ---- the ends of spans that contain an offset
 
 abbrev ends_at : ℕ → List JumpSpan → List ℕ
 ends_at at [] = []
@@ -90,7 +90,7 @@ only_ends at next (s ∷ ss) h b = by (nat_lt at s.behind) (nat_lt next s.behind
     by false true e f more = absurd (grind (arith, nat_tests, e, f, h))
     by false false e f more = rw here (rw there (rw e (rw f more)))
 
--- those that are open at a later place
+-- The spans that are open at a later offset.
 open_later : (at next : ℕ) (ss : List JumpSpan) → at ≤ next → Begun at ss → Rising (ends_at at ss)
     → open_at next (ends_at at ss) ≡ ends_at next ss
 open_later at next ss h b r = open_only next (ends_at at ss) r ∙ only_ends at next ss h b
@@ -98,7 +98,7 @@ open_later at next ss h b r = open_only next (ends_at at ss) r ∙ only_ends at 
 rising_later : (at next : ℕ) (ss : List JumpSpan) → at ≤ next → Begun at ss → Rising (ends_at at ss) → Rising (ends_at next ss)
 rising_later at next ss h b r = subst Rising (only_ends at next ss h b) (rising_only next (ends_at at ss) r)
 
--- ---- one span more
+-- ---- one more span
 
 all_high : ℕ → List ℕ → Bool
 all_high end [] = true
@@ -135,11 +135,11 @@ within_high at end (e ∷ es) r = ap (λ c. nat_lt at end && c) (by (nat_le end 
     by true h = sym (all_below end e es (grind (arith, nat_tests, h)) r.0)
     by false h = refl
 
--- with a span if it counts
+-- Adds a span if it counts.
 abbrev counted_one : ℕ → ℕ → List JumpSpan → List JumpSpan
 counted_one at end ss = if counts (record { begin = at; behind = end }) ss then record { begin = at; behind = end } ∷ ss else ss
 
--- what is known of the spans that count at a place
+-- The properties of the counted spans at an offset.
 record AreOpen (at : ℕ) (es : List ℕ) (ss : List JumpSpan) : Type 0 where
   same : es ≡ ends_at at ss
   begun : Begun at ss
@@ -186,7 +186,7 @@ open_one at end es ss o = by (nat_lt at end) (all_high end (ends_at at ss)) refl
     by true false e f = with false (rw e (rw f refl)) o
     by false b e f = with false (rw e refl) o
 
--- the spans that a place opens, if it opens any
+-- Adds the span that begins at an offset, if there is one.
 abbrev counted_if : ℕ → Option ℕ → List JumpSpan → List JumpSpan
 counted_if at None ss = ss
 counted_if at (Some end) ss = counted_one at end ss
@@ -196,7 +196,7 @@ open_if : (at : ℕ) (end : Option ℕ) (es : List ℕ) (ss : List JumpSpan) →
 open_if at None es ss o = o
 open_if at (Some end) es ss o = open_one at end es ss o
 
--- ---- what begins later
+-- ---- spans that begin later
 
 abbrev From : ℕ → List JumpSpan → Type 0
 From at [] = Unit {0}
@@ -243,7 +243,7 @@ around_ends at (s ∷ ss) = by (goes_on at s) (around_ends at ss)
     by true more = ap suc more
     by false more = more
 
--- ---- all
+-- ---- all spans
 
 counted_both : (at : ℕ) (forward : Option ℕ) (again : ℕ) (done ss : List JumpSpan)
     → counted done (span_to at forward (span_to at (Some again) ss)) ≡ counted (counted_one at again (counted_if at forward done)) ss

@@ -22,7 +22,7 @@ returns_step r item items all e = sym (ap (returns_from r) e)
 pub returns_done : (r : Returns) (items : List (Item ℕ)) → items ≡ [] → returns_from r items ≡ r
 returns_done r items e = ap (returns_from r) e
 
--- ---- the opcodes that return
+-- ---- the opcodes of returns
 
 abbrev is_return : Operation → Bool
 is_return (operation.Return what) = true

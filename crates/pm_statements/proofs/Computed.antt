@@ -1,4 +1,4 @@
--- Statements are computed.
+-- The statements are computed.
 use Rattle.std.proofs.Common.{refl}
 use Rattle.pm_opcode.specs.Operations.{operation_of}
 use Rattle.pm_opcode.specs.Table.{form_of, groups, implied, shape_of}

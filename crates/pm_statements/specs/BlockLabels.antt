@@ -12,9 +12,9 @@ use Rattle.pm_trees.specs.declared.line.Word.{Word}
 use Rattle.pm_trees.specs.declared.line.Word.TheVariants as word
 use Rattle.pm_statements.specs.BlockLines.{statements_at}
 
--- ---- the places that a text names
+-- ---- the offsets that a text names
 
--- those of a CASE
+-- The offsets that a CASE names.
 abbrev pub case_places : Item ℕ → List ℕ
 case_places (Case low high otherwise places) = target_places otherwise ++ places
 case_places _ = []
@@ -23,7 +23,7 @@ abbrev pub table_places : List (Item ℕ) → List ℕ
 table_places [] = []
 table_places (item ∷ items) = case_places item ++ table_places items
 
--- that of a jump whose statement stands in its own words; a word of blocks names none
+-- The target of a jump that is shown as a plain statement. A keyword of a block names no target.
 abbrev pub jump_places : Word → Role → List ℕ
 jump_places (word.Plain to) (role.Jump c target) = target_places (placed_target target)
 jump_places _ _ = []
@@ -32,16 +32,17 @@ abbrev pub first_places : Word → List Left → List ℕ
 first_places w [] = []
 first_places w (l ∷ ls) = jump_places w l.role
 
--- those of lines, each of a word, and of statements, the first one first
+-- The offsets that lines and their statements name, the first one first.
 unfoldable pub line_places : List Line → List Left → List ℕ
 line_places [] ls = []
 line_places (x ∷ xs) ls = first_places x.word ls ++ line_places xs (drop (statements_at x.word) ls)
 
--- Those of a procedure in blocks: by each CASE, by its jump table, and by each jump that no word stands for.
+-- The offsets that a procedure in blocks names: those of each CASE, of its jump table, and of each jump that is shown
+-- as a plain statement.
 abbrev pub shown_places : Procedure → List Line → List Left → List ℕ
 shown_places p xs ls = table_places p.items ++ (p.entries ++ line_places xs ls)
 
--- ---- a statement, where these places have labels
+-- ---- a statement with new labels
 
 abbrev pub relabelled : (ℕ → Bool) → Left → Left
 relabelled labelled l = record {

@@ -23,7 +23,8 @@ without_front front text = if starts_with ◌==◌ text front then drop (length 
 abbrev pub without_tail : List ℕ → List ℕ → List ℕ
 without_tail tail text = if ends_with ◌==◌ text tail then take (length text - length tail) text else text
 
--- of `IF NOT (c) GOTO L` c, of `IF a = b GOTO L` NOT (a = b): what holds where the jump is not taken
+-- The condition under which a jump is not taken. For `IF NOT (c) GOTO L` it is `c`, and for `IF a = b GOTO L` it is
+-- `NOT (a = b)`.
 unfoldable pub condition_text : Role → List ℕ → List ℕ
 condition_text (role.Jump condition.IfFalse target) text =
     without_tail (codes ") GOTO " ++ target_text (placed_target target)) (without_front (codes "IF NOT (") text)
@@ -47,20 +48,20 @@ word_text word.EndCase l s = codes "END " ++ value_text s 0
 word_text word.Repeat l s = []
 word_text word.End l s = []
 
--- a statement, by its word
+-- A statement with this keyword.
 abbrev pub worded_line : ℕ → Bool → Word → Left → Shown → List ℕ
 worded_line depth behind_call w l s =
     if behind_call && is_check l
     then 32 ∷ value_text s 0
     else front l.place ++ (blanks depth ++ word_text w l s)
 
--- the first of some statements, if there is one
+-- The first of some statements, if there is one.
 abbrev pub first_line : ℕ → Bool → Word → List Left → List Shown → List ℕ
 first_line depth behind_call w [] ss = []
 first_line depth behind_call w (l ∷ ls) [] = []
 first_line depth behind_call w (l ∷ ls) (s ∷ ss) = worded_line depth behind_call w l s
 
--- what stands for no statement: no offset, but blanks in its place
+-- A line without a statement. It has spaces instead of an offset.
 abbrev pub extra_text : Word → List ℕ
 extra_text word.Repeat = codes "REPEAT"
 extra_text word.End = codes "END"
@@ -73,7 +74,7 @@ abbrev pub block_line : ℕ → Bool → Word → List Left → List Shown → L
 block_line depth behind_call w ls ss =
     if is_extra w then extra_line depth w else first_line depth behind_call w ls ss
 
--- whether a line is a call
+-- Whether a line is a call.
 abbrev pub first_calls : List Left → Bool
 first_calls [] = false
 first_calls (l ∷ ls) = is_call l
@@ -81,11 +82,12 @@ first_calls (l ∷ ls) = is_call l
 abbrev pub calls_at : Word → List Left → Bool
 calls_at w ls = if is_extra w then false else first_calls ls
 
--- how many statements a line takes
+-- The number of statements of a line.
 abbrev pub statements_at : Word → ℕ
 statements_at w = if is_extra w then 0 else 1
 
--- Lines, each of a word, and statements, the first one first, where so many blocks are open, behind a call or not.
+-- Lines and their statements, the first one first. `depth` is the number of open blocks. `behind_call` states whether a
+-- call precedes the lines.
 unfoldable pub block_lines : ℕ → Bool → List Line → List Left → List Shown → List ℕ
 block_lines depth behind_call [] ls ss = []
 block_lines depth behind_call (x ∷ xs) ls ss =

@@ -1,4 +1,4 @@
--- The text of a procedure's code, by how its statements stand.
+-- The text of a procedure's code, by the layout of its statements.
 use Rattle.std.specs.Prelude.{◌/◌, ℕ, Bool, true, false, List, [], ◌++◌, map, reverse, if◌then◌else◌}
 use Rattle.std.specs.Prelude.{Option, Some, None}
 use Rattle.pm_trees.specs.Blocks.{blocks}
@@ -19,34 +19,34 @@ use Rattle.pm_trees.specs.declared.items.Layout.{Layout}
 use Rattle.pm_trees.specs.declared.items.Layout.TheVariants as layout
 use Rattle.pm_trees.specs.declared.part.Place.{Place}
 
--- what is known around the code of a procedure
+-- The context of a procedure's code.
 abbrev pub around_of : Procedure → Around
 around_of p = record { parameters = p.parameters / 2 }
 
--- the place where the code of a procedure ends
+-- The place at the end of a procedure's code.
 abbrev pub end_place : Procedure → Place
 end_place p = place_at (labelled_places p) p.exit (code_end p)
 
--- the depths of a procedure, if they are wanted
+-- The depths of a procedure, if they are needed.
 abbrev pub depths_if : Bool → Procedure → Depths
 depths_if wanted p = record { start = p.start; list = if wanted then depths p else [] }
 
--- statements by depth, or as they are, and the lines of the place where they end
+-- Statements, indented by their depth or not, and the lines of the place at their end.
 abbrev pub flat : Bool → Procedure → Pile → List ℕ
 flat indented p t = pile_lines (depths_if indented p) t ++ place_lines (end_place p)
 
--- statements in these blocks, with those labels that their text names
+-- Statements in these blocks, with the labels that their text names.
 abbrev pub blocks_text : Procedure → List Line → List Left → List Shown → List ℕ
 blocks_text p xs ls ss =
     block_lines 0 false xs (map (relabelled (is_among (shown_places p xs ls))) ls) ss
     ++ place_lines (place_at (shown_places p xs ls) p.exit (code_end p))
 
--- statements in blocks, if there are such; else as they are
+-- Statements in blocks, if there are blocks. Otherwise they are not indented.
 abbrev pub in_blocks : Procedure → Pile → Option (List Line) → List ℕ
 in_blocks p t None = flat false p t
 in_blocks p t (Some xs) = blocks_text p xs (reverse t.lefts) (reverse t.phrases)
 
--- The text of a procedure's statements: a line for each, behind a line feed, and the lines of the place where they end.
+-- The text of a procedure's statements: a line for each, after a line feed, and the lines of the place at their end.
 unfoldable pub body : Layout → Procedure → Pile → List ℕ
 body layout.Flat p t = flat false p t
 body layout.Indented p t = flat true p t

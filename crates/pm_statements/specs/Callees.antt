@@ -1,4 +1,4 @@
--- What procedures take and leave.
+-- The sizes of the parameters and results of procedures.
 use Rattle.std.specs.Prelude.{ℕ, ◌/◌, Bool, List, [], ◌∷◌, ◌==◌, ◌||◌, nat_le, if◌then◌else◌, Option, Some, None}
 use Rattle.std.specs.Map.{lookup}
 use Rattle.pm_families.specs.declared.families.Return.TheVariants as return
@@ -15,8 +15,8 @@ use Rattle.pm_trees.specs.declared.part.Callee.{Callee}
 abbrev pub sized : ℕ → ℕ → Callee
 sized parameters results = record { parameters = parameters; results = results }
 
--- The procedures of the operating system that a program calls, by number: a file, or an address of a string, is a word.
--- A function has two words for its result, which are parameters of it, and leaves one.
+-- The procedures of the operating system that a program calls, by number. A file is one word, and so is the address of
+-- a string. A function has two parameter words for its result, and leaves one word.
 unfoldable pub system_callees : List (ℕ × Callee)
 system_callees =
     (3, sized 3 0) ∷
@@ -49,7 +49,7 @@ system_callees =
 unfoldable pub system_callee : ℕ → Option Callee
 system_callee n = lookup (λ m. m == n) system_callees
 
--- ---- of a procedure of the file, by its code
+-- ---- procedures of the file, by their code
 
 abbrev pub no_return : Returns
 no_return = returns.NoReturn
@@ -59,7 +59,7 @@ operation_returns (operation.Return (return.Normal n)) = Some n
 operation_returns (operation.Return (return.Base n)) = Some n
 operation_returns _ = None
 
--- the opcodes of RNP and RBP; no other one returns
+-- The opcodes of RNP and RBP. No other opcode is a return.
 abbrev pub is_return_opcode : ℕ → Bool
 is_return_opcode op = (op == 173) || (op == 193)
 
@@ -84,6 +84,6 @@ abbrev pub callee_by : ℕ → Returns → Option Callee
 callee_by words (returns.Of n) = if nat_le words 255 then Some (sized words n) else None
 callee_by words _ = None
 
--- The words of its parameters, and what each of its returns leaves, where that is one number.
+-- The sizes of a procedure: the words of its parameters, and the number of words that each of its returns leaves.
 abbrev pub callee_of : Procedure → Option Callee
 callee_of p = callee_by (p.parameters / 2) (returns_from no_return p.items)

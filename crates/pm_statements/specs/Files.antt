@@ -22,137 +22,138 @@ use Rattle.pm_trees.specs.declared.part.Callee.{Callee}
 use Rattle.pm_statements.specs.declared.sized.SizedTable.{SizedTable}
 use Rattle.pm_statements.specs.declared.sized.SizedSegment.{SizedSegment}
 
--- ---- what the procedures of a file take and leave
+-- ---- the sizes of a file's procedures
 
--- that of a table, unless its exit code lies before its code
+-- The sizes for an attribute table, unless the exit code is before the code.
 unfoldable pub table_callee : List ℕ → Attributes → Option Callee
 table_callee segment a = if nat_le a.enter a.exit then callee_of (procedure_of segment a) else None
 
--- that of a procedure of a segment, if it has a table
+-- The sizes of a procedure of a segment, if it has an attribute table.
 abbrev pub callee_in : List ℕ → Option Attributes → Option Callee
 callee_in segment None = None
 callee_in segment (Some a) = table_callee segment a
 
--- those of so many numbers of a segment, from one on
+-- The sizes for `count` procedure numbers of a segment, from `n` on.
 abbrev pub callees_from : List ℕ → ℕ → ℕ → List (Option Callee)
 callees_from segment n zero = []
 callees_from segment n (suc count) = callee_in segment (attributes_in segment n) ∷ callees_from segment (n + 1) count
 
--- and of the operating system
+-- The sizes of `count` procedures of the operating system, from `n` on.
 abbrev pub system_from : ℕ → ℕ → List (Option Callee)
 system_from n zero = []
 system_from n (suc count) = system_callee n ∷ system_from (n + 1) count
 
--- those of the 256 numbers of a slot: of its segment; of slot 0, where it has none, of the operating system
+-- The sizes for the 256 numbers of a slot: those of its segment. If slot 0 has no segment, they are those of the
+-- operating system.
 abbrev pub slot_callees : ℕ → Option (List ℕ) → List (Option Callee)
 slot_callees n (Some segment) = None ∷ callees_from segment 1 255
 slot_callees n None = if n == 0 then None ∷ system_from 1 255 else None ∷ callees_from [] 1 255
 
--- those of so many slots, from one on
+-- The sizes for `count` slots, from slot `n` on.
 abbrev pub slots_callees : List ℕ → ℕ → ℕ → List (Option Callee)
 slots_callees file n zero = []
 slots_callees file n (suc count) = slot_callees n (segment_in file n) ++ slots_callees file (n + 1) count
 
--- Of each slot 256, by their numbers.
+-- The sizes of a file's procedures: 256 entries for each slot, by procedure number.
 unfoldable pub file_callees : List ℕ → List (Option Callee)
 file_callees file = slots_callees file 0 16
 
--- what the returns of a procedure leave
+-- What the returns of a procedure leave.
 abbrev pub returns_in : Procedure → Returns
 returns_in p = returns_from no_return p.items
 
--- a table's procedure in this segment with what its returns leave, if it is kept
+-- The cached procedure of an attribute table, if there is one, is that of the segment. Its `returns` are correct.
 abbrev pub IsKept : List ℕ → SizedTable → Type 0
 IsKept segment s = IfSome s.procedure (λ p. (procedure_seen p ≡ procedure_of segment s.table)
     × (s.returns ≡ returns_in (procedure_seen p)))
 
--- how many items a procedure has, if there is one
+-- The number of items of a procedure, or 0 if there is none.
 abbrev pub count_of : Option declared.Procedure → ℕ
 count_of None = 0
 count_of (Some p) = length p.items.items
 
--- how many items a table's procedure has, if it is kept
+-- The number of items of a cached procedure, or 0 if none is cached.
 abbrev pub items_kept : SizedTable → ℕ
 items_kept s = count_of s.procedure
 
--- what a table's procedure takes and leaves in this segment, and the procedure, if it is kept
+-- The sizes for an attribute table are those in this segment, and the cached procedure is correct.
 abbrev pub IsSizedTable : List ℕ → SizedTable → Type 0
 IsSizedTable segment s = (s.callee ≡ table_callee segment s.table) × IsKept segment s
 
--- a segment with tables of it
+-- A segment with attribute tables of it.
 abbrev pub IsSizedSegment : SizedSegment → Type 0
 IsSizedSegment s = AllByRecursion (IsSizedTable s.segment.now) s.tables.items
 
 -- ---- the text
 
--- the front of a procedure's first line: its number and its slot
+-- The beginning of a procedure's first line: its number and its slot.
 abbrev pub named : ℕ → ℕ → List ℕ
 named number slot = codes "PROCEDURE " ++ (decimal number ++ (codes " OF SEGMENT " ++ decimal slot))
 
--- the bytes of the result, where all returns leave as many
+-- The size of the result in bytes, if all returns leave the same number of words.
 abbrev pub result_text : Returns → List ℕ
 result_text (returns.Of n) = codes ", " ++ (decimal (2 * n) ++ codes " of result")
 result_text _ = []
 
--- that line, with the level, the bytes of parameters, of locals and of the result
+-- A procedure's first line, with its level and the sizes of its parameters, locals and result in bytes.
 abbrev pub header : ℕ → Attributes → Returns → List ℕ
 header slot a r = named a.procedure slot ++ (codes ": level " ++ (signed_decimal a.level
     ++ (codes ", " ++ (decimal a.parameters ++ (codes " bytes of parameters, " ++ (decimal a.locals
     ++ (codes " of locals" ++ result_text r)))))))
 
--- a line for each entry of the jump table, from entry k on: `^`, its number, and the label of where it leads
+-- A line for each entry of the jump table, from entry `k` on: `^`, its number, and the label of its target.
 abbrev pub entry_lines : ℕ → List ℕ → List ℕ
 entry_lines k [] = []
 entry_lines k (place ∷ places) =
     (10 ∷ 94 ∷ (decimal k ++ (32 ∷ label_text place))) ++ entry_lines (k + 1) places
 
--- a procedure with code: that line, and behind it those of its jump table and of its statements
+-- A procedure with code: its first line, followed by those of its jump table and of its statements.
 abbrev pub code_text : Known → Attributes → Procedure → List ℕ
 code_text k a p =
     ((header k.segment a (returns_in p) ++ entry_lines 0 p.entries) ++ procedure_statements k p) ++ 10 ∷ []
 
--- A procedure by its table. Where its exit code lies before its code it has none.
+-- The procedure of an attribute table. If its exit code is before its code, it has no code.
 unfoldable pub table_text : Known → List ℕ → Attributes → List ℕ
 table_text k segment a = if nat_le a.enter a.exit
     then code_text k a (procedure_of segment a)
     else named a.procedure k.segment ++ (codes ": no code" ++ 10 ∷ [])
 
--- the line of a number whose table was shown before, which names the number that stands in the table
+-- The line of a number whose attribute table was already shown. The line refers to the number in that table.
 abbrev pub repeated_text : ℕ → ℕ → Attributes → List ℕ
 repeated_text number slot a =
     named number slot ++ (codes ": shown above as PROCEDURE " ++ (decimal a.procedure ++ 10 ∷ []))
 
--- procedure p of a segment, behind tables that were shown, which are told by their places: by its number alone where it
--- has no table, and by one line where its table was shown
+-- The text for procedure number `p`. `shown` contains the offsets of the attribute tables that were shown. If the
+-- number has no table, or its table was shown, the text is one line.
 abbrev pub numbered_text : Known → List ℕ → List ℕ → ℕ → Option Attributes → List ℕ
 numbered_text k segment shown p None = named p k.segment ++ (codes ": no table" ++ 10 ∷ [])
 numbered_text k segment shown p (Some a) =
     if is_among shown a.jtab then repeated_text p k.segment a else table_text k segment a
 
--- the places of the tables that were shown, behind one more procedure
+-- The offsets of the attribute tables that were shown, after one more procedure.
 abbrev pub with_table : List ℕ → Option Attributes → List ℕ
 with_table shown None = shown
 with_table shown (Some a) = if is_among shown a.jtab then shown else shown ++ a.jtab ∷ []
 
--- so many procedures of a segment, from procedure p on, behind tables that were shown: each table once
+-- The text for `count` procedure numbers of a segment, from `p` on. Each attribute table is shown once.
 abbrev pub tables_text : Known → List ℕ → List ℕ → ℕ → ℕ → List ℕ
 tables_text k segment shown p zero = []
 tables_text k segment shown p (suc count) = numbered_text k segment shown p (attributes_in segment p)
     ++ tables_text k segment (with_table shown (attributes_in segment p)) (p + 1) count
 
--- the segment of a slot, if it has one
+-- The segment of a slot, if it has one.
 abbrev pub slot_text : List (Option Callee) → Layout → ℕ → Option (List ℕ) → List ℕ
 slot_text callees layout n None = []
 slot_text callees layout n (Some segment) = tables_text
     (record { segment = n; callees = callees; layout = layout }) segment [] 1 (procedures_in segment)
 
--- so many slots, from slot n on
+-- The text for `count` slots, from slot `n` on.
 abbrev pub slots_text : List (Option Callee) → Layout → List ℕ → ℕ → ℕ → List ℕ
 slots_text callees layout file n zero = []
 slots_text callees layout file n (suc count) =
     slot_text callees layout n (segment_in file n) ++ slots_text callees layout file (n + 1) count
 
--- a code file: its segments by ascending slot
+-- The text of a code file: its segments in ascending order of their slots.
 unfoldable pub file_text : Layout → List ℕ → List ℕ
 file_text layout file = slots_text (file_callees file) layout file 0 16
 
@@ -160,7 +161,7 @@ file_text layout file = slots_text (file_callees file) layout file 0 16
 abbrev pub file_statements : List ℕ → List ℕ
 file_statements file = file_text layouts.Flat file
 
--- The same, where each statement stands behind blanks by its depth.
+-- The same, with each statement indented by its depth.
 abbrev pub indented_statements : List ℕ → List ℕ
 indented_statements file = file_text layouts.Indented file
 

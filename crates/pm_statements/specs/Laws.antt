@@ -6,13 +6,13 @@ use Rattle.pm_statements.specs.Depths.{Depths}
 use Rattle.pm_trees.specs.Piles.{Pile}
 use Rattle.pm_statements.specs.Texts.{pile_lines}
 
--- ---- blanks
+-- ---- spaces
 
--- a text without its blanks
+-- A text without its spaces.
 abbrev pub without_blanks : List ℕ → List ℕ
 without_blanks = filter (λ (c : ℕ). not (c == 32))
 
--- Two texts of the same statements, whatever is known of depths, differ in blanks alone: no statement is lost, moved or
--- made, and no line.
+-- Two texts of the same statements with different depths differ only in spaces. No statement and no line is lost, moved
+-- or added.
 abbrev pub DepthsAreBlanksAlone : Type 0
 DepthsAreBlanksAlone = (d e : Depths) (t : Pile) → without_blanks (pile_lines d t) ≡ without_blanks (pile_lines e t)

@@ -1,4 +1,4 @@
--- Where statements lead.
+-- The jumps of statements.
 use Rattle.std.specs.Prelude.{ℕ, ◌-◌, Bool, false, ◌==◌, nat_le, if◌then◌else◌, List, [], ◌∷◌, slice_get}
 use Rattle.std.specs.Prelude.{Option, Some, None}
 use Rattle.pm_trees.specs.declared.statement.Leads.{Leads}
@@ -15,17 +15,17 @@ use Rattle.pm_trees.specs.declared.left.Left.{Left}
 use Rattle.pm_trees.specs.declared.left.Role.{Role}
 use Rattle.pm_trees.specs.declared.left.Role.TheVariants as role
 
--- the place of a target, if the jump table has its entry
+-- The offset of a target, if the jump table has its entry.
 abbrev pub place_in : List ℕ → Target ℕ → Option ℕ
 place_in entries (targets.To place) = Some place
 place_in entries (targets.Through k) = slice_get entries k
 
--- a place from where the code begins on, if it does not lie before that
+-- An offset relative to the start of the code, if it is not before the start.
 abbrev pub from_start : ℕ → Option ℕ → Option ℕ
 from_start start None = None
 from_start start (Some place) = if nat_le start place then Some (place - start) else None
 
--- whether a text is that of a statement, and not a line of the disassembly in braces
+-- Whether a text is that of a statement, and no line of the disassembly in braces.
 abbrev pub is_sentence : Form → Bool
 is_sentence (form.Value strength) = strength == 0
 is_sentence _ = false
@@ -43,12 +43,12 @@ leads_by start entries (role.Jump c target) f = leads_to c f (from_start start (
 leads_by start entries role.Case f = leads_by_value f
 leads_by start entries _ f = leads.Nowhere
 
--- where the next statement begins; where the code ends, if there is none
+-- The offset of the next statement, or the end of the code if there is none.
 abbrev pub next_place : ℕ → List Left → ℕ
 next_place end [] = end
 next_place end (l ∷ ls) = l.place.offset
 
--- a statement up to a place, both from where the code begins on
+-- The code range of a statement up to `behind`. Its offsets are relative to the start of the code.
 abbrev pub stretch : ℕ → List ℕ → ℕ → Left → Shown → Statement
 stretch start entries behind l s = record {
   at = l.place.offset - start;
@@ -56,7 +56,7 @@ stretch start entries behind l s = record {
   leads = leads_by start entries l.role s.form;
 }
 
--- The stretches of statements, the first one first, of code that begins and ends at these places.
+-- The code ranges of statements, the first one first. `start` and `end` are the offsets of the code.
 unfoldable pub stretches : ℕ → List ℕ → ℕ → List Left → List Shown → List Statement
 stretches start entries end [] ss = []
 stretches start entries end (l ∷ ls) [] = []

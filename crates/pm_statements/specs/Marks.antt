@@ -1,9 +1,9 @@
--- Which places are marked.
+-- A set of marked offsets.
 use Rattle.std.specs.Prelude.{◌≡◌, ℕ, ◌-◌, Bool, false, ◌&&◌, nat_le, nat_lt, if◌then◌else◌, List, length}
 use Rattle.std.specs.Prelude.{slice_index_or}
 use Rattle.pm_code.specs.Program.{is_among}
 
--- A flag for each place from a start on; and the places that are marked and have no flag.
+-- A flag for each offset from `start` on, and the marked offsets that have no flag.
 pub record Marks : Type 0 where
   pub start : ℕ
   pub flags : List Bool
@@ -12,11 +12,11 @@ pub record Marks : Type 0 where
 abbrev pub has_flag : Marks → ℕ → Bool
 has_flag m place = nat_le m.start place && nat_lt (place - m.start) (length m.flags)
 
--- whether a place is marked
+-- Whether an offset is marked.
 unfoldable pub has : Marks → ℕ → Bool
 has m place =
     if has_flag m place then slice_index_or m.flags (place - m.start) false else is_among m.others place
 
--- Exactly these places are marked.
+-- The marked offsets are exactly `places`.
 abbrev pub AreMarked : Marks → List ℕ → Type 0
 AreMarked m places = (p : ℕ) → has m p ≡ is_among places p

@@ -15,17 +15,17 @@ use Rattle.pm_trees.specs.Trees.{leaves_nothing}
 
 -- ---- lines
 
--- what stands before a statement that leaves something
+-- The prefix of a statement that leaves something.
 abbrev pub push_text : Leaves → List ℕ
 push_text l = if leaves_nothing l then [] else codes "PUSH "
 
--- the lines of a label and of the exit code
+-- The lines of a label and of the exit code.
 abbrev pub place_lines : Place → List ℕ
 place_lines p =
     (if p.has_label then 10 ∷ label_text p.offset ++ codes ":" else [])
     ++ (if p.is_exit then 10 ∷ codes "EXIT:" else [])
 
--- those, and the offset, behind a line feed and before a blank
+-- These lines, followed by a line feed, the offset, and a space.
 abbrev pub front : Place → List ℕ
 front p = place_lines p ++ (10 ∷ padded 5 p.offset ++ 32 ∷ [])
 
@@ -37,19 +37,19 @@ abbrev pub has_check_role : Role → Bool
 has_check_role role.Check = true
 has_check_role _ = false
 
--- a call that leaves nothing
+-- A call that leaves nothing.
 abbrev pub is_call : Left → Bool
 is_call l = leaves_nothing l.leaves && has_call_role l.role
 
--- a check of input and output to which nothing leads
+-- An I/O check that has no label and does not begin the exit code.
 abbrev pub is_check : Left → Bool
 is_check l = not (is_reached l.place) && has_check_role l.role
 
--- the deepest level that has blanks
+-- The maximum depth that is shown by spaces.
 abbrev pub deepest : ℕ
 deepest = 30
 
--- two blanks for each level
+-- Two spaces for each level.
 abbrev pub two_each : ℕ → List ℕ
 two_each zero = []
 two_each (suc n) = 32 ∷ 32 ∷ two_each n
@@ -57,15 +57,15 @@ two_each (suc n) = 32 ∷ 32 ∷ two_each n
 abbrev pub blanks : ℕ → List ℕ
 blanks depth = two_each (min depth deepest)
 
--- A statement on a line of its own, behind a line feed: its offset, the blanks of its depth, and its phrase. A check
--- behind a call stands on the line of that.
+-- A statement on its own line, after a line feed: its offset, its indentation, and its phrase. An I/O check after a
+-- call is on the line of the call.
 abbrev pub line : ℕ → Bool → Left → Shown → List ℕ
 line depth behind_call l s =
     if behind_call && is_check l
     then 32 ∷ value_text s 0
     else front l.place ++ (blanks depth ++ (push_text l.leaves ++ value_text s 0))
 
--- statements, the first one first, behind a call or not
+-- Statements, the first one first. `behind_call` states whether a call precedes them.
 unfoldable pub lines : Depths → Bool → List Left → List Shown → List ℕ
 lines d behind_call [] ss = []
 lines d behind_call (l ∷ ls) [] = []

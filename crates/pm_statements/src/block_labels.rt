@@ -12,7 +12,7 @@ use pm_code::{Item, Procedure};
 use pm_trees::{Left, Line, Place, Role, Word};
 use std::alloc::{AllocError, Global};
 
-/// Marks the places that an item names, if it is a jump by a value.
+/// Marks the offsets that an item names if it is a case jump.
 #[tactic(auto, using(crate::proofs::Marked::or_false))]
 fn mark_case(marks: &mut Marks, item: &Item<usize>) -> Result<(), AllocError>
     ensures has { OnOk result ((p : ℕ) → has marks.new p
@@ -24,7 +24,7 @@ fn mark_case(marks: &mut Marks, item: &Item<usize>) -> Result<(), AllocError>
     }
 }
 
-/// Marks the places that items name that are jumps by a value.
+/// Marks the offsets that the case jumps among items name.
 #[tactic(auto, using(crate::proofs::BlockLabelled::tables_done))]
 fn mark_tables(marks: &mut Marks, items: &[Item<usize>]) -> Result<(), AllocError>
     ensures has { OnOk result ((p : ℕ) → has marks.new p
@@ -36,7 +36,7 @@ fn mark_tables(marks: &mut Marks, items: &[Item<usize>]) -> Result<(), AllocErro
     Ok(())
 }
 
-/// Marks the place that the first of some statements names, if there is one, by its word.
+/// Marks the target of the first statement, if there is one and its keyword does not imply the target.
 #[tactic(auto, using(crate::proofs::Marked::or_false))]
 fn mark_first(marks: &mut Marks, word: Word, lefts: &[Left]) -> Result<(), AllocError>
     ensures has { OnOk result ((p : ℕ) → has marks.new p
@@ -51,7 +51,7 @@ fn mark_first(marks: &mut Marks, word: Word, lefts: &[Left]) -> Result<(), Alloc
     }
 }
 
-/// Marks the places that lines name, each of a word, with their statements.
+/// Marks the targets that lines name. `lefts` are the statements of the lines.
 #[tactic(auto, using(crate::proofs::BlockLabelled::lines_done))]
 fn mark_lines(marks: &mut Marks, lines: &[Line], lefts: &[Left]) -> Result<(), AllocError>
     ensures has { OnOk result ((p : ℕ) → has marks.new p
@@ -65,7 +65,8 @@ fn mark_lines(marks: &mut Marks, lines: &[Line], lefts: &[Left]) -> Result<(), A
     Ok(())
 }
 
-/// The places of a procedure in blocks that its text names. Each place from its start to an end has a flag.
+/// Returns the offsets that the text of a procedure in blocks names. There is a flag for each offset from the start to
+/// `end`.
 #[tactic(auto, using(crate::proofs::Marked::three_marked))]
 pub(crate) fn shown_labels(
     alloc: Global,
@@ -84,7 +85,7 @@ pub(crate) fn shown_labels(
     Ok(marks)
 }
 
-/// A statement, where these places have labels.
+/// Returns a statement that has a label if its offset is marked.
 pub(crate) fn relabelled(marks: &Marks, left: &Left) -> Left
     ensures left { result ≡ labels.relabelled (has marks.now) left.now }
 {

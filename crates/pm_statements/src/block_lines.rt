@@ -14,7 +14,7 @@ use pm_phrases::{Phrase, push_value};
 use pm_trees::{Left, Line, Role, Word};
 use std::alloc::{AllocError, Global};
 
-/// Adds a condition between two texts, by the text of its statement.
+/// Appends the condition of a statement between the texts `front` and `tail`.
 fn push_between(
     scratch: &mut String,
     out: &mut String,
@@ -37,7 +37,7 @@ fn push_between(
     out.push_str(tail)
 }
 
-/// Adds a statement by its word, without its offset.
+/// Appends a statement with this keyword, without its offset.
 #[tactic(auto, unfolding(crate::specs::BlockLines::word_text))]
 fn push_word(
     scratch: &mut String,
@@ -67,7 +67,8 @@ fn push_word(
     Ok(())
 }
 
-/// Adds a statement by its word, behind a line feed or on the line of the call before it.
+/// Appends a statement with this keyword, after a line feed. An I/O check after a call is appended to the line of the
+/// call.
 fn push_worded(
     scratch: &mut String,
     out: &mut String,
@@ -88,7 +89,7 @@ fn push_worded(
     push_word(scratch, out, word, left, phrase)
 }
 
-/// Adds the first of some statements, if there is one, where these places have labels.
+/// Appends the first of some statements, if there is one. It has a label if its offset is marked.
 fn push_first(
     scratch: &mut String,
     out: &mut String,
@@ -112,7 +113,7 @@ fn push_first(
     push_worded(scratch, out, depth, behind_call, word, &shown, phrase)
 }
 
-/// What stands in a line of no statement.
+/// Returns the text of a line without a statement.
 fn extra_text(word: Word) -> &'static str
     ensures text { result.now ≡ texts.extra_text word }
 {
@@ -123,7 +124,8 @@ fn extra_text(word: Word) -> &'static str
     }
 }
 
-/// Adds a line that stands for no statement, or the first of some statements, where these places have labels.
+/// Appends a line without a statement, or the line of the first statement. The statement has a label if its offset is
+/// marked.
 fn push_block_line(
     scratch: &mut String,
     out: &mut String,
@@ -165,7 +167,7 @@ fn calls_at(word: Word, lefts: &[Left]) -> bool
     }
 }
 
-/// What follows the statement of a line, if it is one.
+/// Returns a list without its first item if a line with this keyword has a statement. Otherwise it returns the list.
 pub(crate) fn behind_word<T>(word: Word, list: &[T]) -> &[T]
     ensures rest { result.now ≡ drop (texts.statements_at word) list.now }
 {
@@ -176,7 +178,7 @@ pub(crate) fn behind_word<T>(word: Word, list: &[T]) -> &[T]
     }
 }
 
-/// Adds lines, each of a word, and their statements, where these places have labels.
+/// Appends lines and their statements. A statement has a label if its offset is marked.
 pub(crate) fn push_block_lines(
     alloc: Global,
     out: &mut String,

@@ -1,4 +1,4 @@
-//! What procedures take and leave.
+//! The sizes of the parameters and results of procedures.
 
 ghost use Rattle.std.specs.Prelude.{◌≡◌, map};
 ghost use Rattle.pm_code.specs.Views.{placed_item, procedure_seen};
@@ -15,7 +15,7 @@ const RNP: u8 = 173;
 /// The opcode of a return from a base procedure.
 const RBP: u8 = 193;
 
-/// A procedure that takes and leaves so many words.
+/// Returns a procedure with these sizes, in words.
 fn sized(parameters: u8, results: u8) -> Callee
     ensures sized { result ≡ callees.sized parameters results }
 {
@@ -25,8 +25,8 @@ fn sized(parameters: u8, results: u8) -> Callee
     }
 }
 
-/// A procedure of the operating system as a program calls it, by its number in segment 0. None of those that are not
-/// known: a real number's, and the system's own.
+/// Returns a procedure of the operating system by its number in segment 0. Returns `None` for procedures that programs
+/// do not call, and for those on real numbers.
 #[tactic(auto, unfolding(crate::specs::Callees::system_callee, crate::specs::Callees::system_callees))]
 pub fn system_callee(number: u8) -> Option<Callee>
     ensures callee { result ≡ callees.system_callee number }
@@ -43,18 +43,18 @@ pub fn system_callee(number: u8) -> Option<Callee>
     }
 }
 
-/// What the returns of a procedure leave.
+/// What the returns of a procedure leave on the stack.
 #[derive(Clone, Copy)]
 pub enum Returns {
-    /// There is none.
+    /// There is no return.
     NoReturn,
-    /// Each leaves so many words.
+    /// Each return leaves this number of words.
     Of(u8),
-    /// Two leave different numbers of words.
+    /// Two returns leave different numbers of words.
     Different,
 }
 
-/// How many words an item leaves, if it is a return.
+/// Returns the number of words that an item leaves if it is a return, else `None`.
 #[tactic(auto, using(crate::proofs::Called::no_words))]
 fn words_returned(item: &Item<usize>) -> Option<u8>
     ensures words { result ≡ callees.words_returned (placed_item item.now) }
@@ -72,7 +72,7 @@ fn words_returned(item: &Item<usize>) -> Option<u8>
     }
 }
 
-/// One item more.
+/// Adds the words of one more item to the result.
 fn joined(returns: Returns, words: Option<u8>) -> Returns
     ensures returns { result ≡ callees.joined returns words }
 {
@@ -92,7 +92,7 @@ fn joined(returns: Returns, words: Option<u8>) -> Returns
     }
 }
 
-/// What the returns among items leave.
+/// Returns what the returns among items leave.
 pub(crate) fn returns_of(items: &[Item<usize>]) -> Returns
     ensures returns { result ≡ callees.returns_from callees.no_return (map placed_item items.now) }
 {
@@ -103,7 +103,8 @@ pub(crate) fn returns_of(items: &[Item<usize>]) -> Returns
     returns
 }
 
-/// What a procedure takes and leaves, by the words of its parameters and what its returns leave.
+/// Returns the sizes of a procedure. `words` is the size of its parameters. Returns `None` if `words` exceeds 255 or if
+/// the returns do not leave one common number of words.
 pub(crate) fn callee_by(words: u16, returns: Returns) -> Option<Callee>
     ensures callee { result ≡ callees.callee_by words returns }
 {
@@ -116,8 +117,8 @@ pub(crate) fn callee_by(words: u16, returns: Returns) -> Option<Callee>
     }
 }
 
-/// What a procedure takes and leaves, by its own code: the words of its parameters, of which there are fewer than 256,
-/// and what each of its returns leaves. None where that is not one number.
+/// Returns the sizes of a procedure, computed from its code. Returns `None` if its parameters exceed 255 words or if
+/// its returns do not leave one common number of words.
 pub fn callee_of(procedure: &Procedure) -> Option<Callee>
     ensures callee { result ≡ callees.callee_of (procedure_seen procedure.now) }
 {

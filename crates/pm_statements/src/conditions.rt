@@ -11,7 +11,7 @@ use pm_phrases::push_target;
 use pm_trees::Role;
 use std::alloc::AllocError;
 
-/// A text without another one in front, if that stands there.
+/// Returns a text without the prefix `front`, if it has this prefix.
 fn without_front<'a>(text: &'a str, front: &str) -> &'a str
     ensures rest { result.now ≡ texts.without_front front.now text.now }
 {
@@ -21,7 +21,7 @@ fn without_front<'a>(text: &'a str, front: &str) -> &'a str
     }
 }
 
-/// A text without another one at its end, if that stands there.
+/// Returns a text without the suffix `tail`, if it has this suffix.
 fn without_tail<'a>(text: &'a str, tail: &str) -> &'a str
     ensures rest { result.now ≡ texts.without_tail tail.now text.now }
 {
@@ -31,7 +31,7 @@ fn without_tail<'a>(text: &'a str, tail: &str) -> &'a str
     }
 }
 
-/// Makes a text that of a word and, behind it, where a jump leads.
+/// Replaces a text by a word followed by the target of a jump.
 fn set_jump(out: &mut String, word: &str, target: Target<usize>) -> Result<(), AllocError>
     ensures text { OnOk result (string_bytes out.new ≡ word.now ++ target_text (placed_target target)) }
 {
@@ -40,7 +40,8 @@ fn set_jump(out: &mut String, word: &str, target: Target<usize>) -> Result<(), A
     push_target(out, target)
 }
 
-/// Adds what holds where a jump is not taken, by the text of the jump. In the scratch text its end is written.
+/// Appends the condition under which a jump is not taken. `text` is the text of the jump. `scratch` is used as a
+/// buffer.
 #[tactic(auto, unfolding(crate::specs::BlockLines::condition_text))]
 pub(crate) fn push_condition(
     scratch: &mut String,

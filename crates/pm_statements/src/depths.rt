@@ -1,4 +1,4 @@
-//! How deep the code of a procedure stands.
+//! The nesting depth of a procedure's code.
 
 ghost use Rattle.std.specs.Prelude.{◌≡◌, ◌++◌, replicate, IfOk, OnOk};
 ghost use Rattle.pm_code.specs.Program.{code_end};
@@ -12,10 +12,10 @@ use pm_code::{Item, JUMP, Procedure, Target};
 use std::alloc::{AllocError, Global};
 use std::marker::Model;
 
-/// A number for each byte of code, from a start on.
+/// A number for each byte of code, from the offset `start` on.
 #[derive(Drop)]
 pub struct Depths {
-    /// The offset of the first.
+    /// The offset of the first byte.
     pub(crate) start: usize,
     /// The numbers.
     pub(crate) list: Vec<usize>,
@@ -30,7 +30,7 @@ impl Model for Depths {
 }
 
 impl Depths {
-    /// That of a place; 0 where there is none.
+    /// Returns the number for an offset, or 0 if it has none.
     pub(crate) fn at_place(&self, place: usize) -> usize
         ensures value { result ≡ depths.at_place self.now place }
     {
@@ -41,7 +41,7 @@ impl Depths {
     }
 }
 
-/// Where a jump leads, if the item is one and the jump table has its entry.
+/// Returns the target of a jump. Returns `None` if the item is no jump or if the jump table does not have its entry.
 fn leads_to(entries: &[usize], item: &Item<usize>) -> Option<usize>
     ensures value { result ≡ depths.leads_to entries.now (placed_item item.now) }
 {
@@ -52,7 +52,7 @@ fn leads_to(entries: &[usize], item: &Item<usize>) -> Option<usize>
     }
 }
 
-/// Where a jump leads that is made by a condition.
+/// Returns the target of a jump that has a condition.
 fn leads_by_condition(entries: &[usize], item: &Item<usize>) -> Option<usize>
     ensures value { result ≡ depths.leads_by_condition entries.now (placed_item item.now) }
 {
@@ -62,7 +62,7 @@ fn leads_by_condition(entries: &[usize], item: &Item<usize>) -> Option<usize>
     }
 }
 
-/// Writes where a loop ends, if the jump before that leads back.
+/// Records the end of a loop if the jump before `end` leads back to an offset in the code.
 fn add_loop(loops: &mut Vec<usize>, start: usize, at: usize, end: usize, place: Option<usize>)
     ensures loops { loops.new.items ≡ depths.with_loop start at end place loops.old.items }
 {
@@ -74,7 +74,7 @@ fn add_loop(loops: &mut Vec<usize>, start: usize, at: usize, end: usize, place: 
     }
 }
 
-/// For each byte of a procedure's code where the loop ends that begins there, 0 where none does.
+/// Returns, for each byte of a procedure's code, the end of the loop that begins there. It is 0 if none begins there.
 #[tactic(auto, unfolding(crate::specs::Depths::loops_from))]
 fn loops_of(alloc: Global, procedure: &Procedure, end: usize) -> Result<Depths, AllocError>
     requires end { end ≡ code_end (procedure_seen procedure.now) }
@@ -94,7 +94,7 @@ fn loops_of(alloc: Global, procedure: &Procedure, end: usize) -> Result<Depths, 
     Ok(Depths { start, list: loops })
 }
 
-/// Adds the depth of so many bytes.
+/// Appends the depth of `count` bytes.
 fn push_depth(depths: &mut Vec<usize>, count: usize, depth: usize) -> Result<(), AllocError>
     ensures depths { OnOk result (depths.new.items ≡ depths.old.items ++ replicate count depth) }
 {
@@ -105,7 +105,7 @@ fn push_depth(depths: &mut Vec<usize>, count: usize, depth: usize) -> Result<(),
     Ok(())
 }
 
-/// How deep each byte of a procedure's code stands.
+/// Returns the depth of each byte of a procedure's code.
 #[tactic(auto, unfolding(crate::specs::Depths::depths))]
 fn list_of(alloc: Global, procedure: &Procedure, end: usize) -> Result<Vec<usize>, AllocError>
     requires end { end ≡ code_end (procedure_seen procedure.now) }
@@ -129,7 +129,7 @@ fn list_of(alloc: Global, procedure: &Procedure, end: usize) -> Result<Vec<usize
     Ok(depths)
 }
 
-/// How deep the code of a procedure stands, if that is wanted.
+/// Returns the depths of a procedure's code if `wanted` is true, else none.
 pub(crate) fn depths_if(
     alloc: Global,
     wanted: bool,

@@ -1,4 +1,4 @@
-//! Where statements lead.
+//! The jumps of statements.
 
 ghost use Rattle.std.specs.Prelude.{◌≡◌, drop, IfOk};
 ghost use Rattle.pm_statements.specs.Leading as leading;
@@ -9,7 +9,7 @@ use pm_phrases::{Form, Phrase};
 use pm_trees::{Leads, Left, Role, Statement};
 use std::alloc::{AllocError, Global};
 
-/// The place of a target, if the jump table has its entry.
+/// Returns the offset of a target. Returns `None` if the jump table does not have its entry.
 fn place_in(entries: &[usize], target: Target<usize>) -> Option<usize>
     ensures place { result ≡ leading.place_in entries.now target }
 {
@@ -19,7 +19,7 @@ fn place_in(entries: &[usize], target: Target<usize>) -> Option<usize>
     }
 }
 
-/// A place from where the code begins on, if it does not lie before that.
+/// Returns an offset relative to the start of the code, or `None` if it is before the start.
 fn from_start(start: usize, place: Option<usize>) -> Option<usize>
     ensures place { result ≡ leading.from_start start place }
 {
@@ -29,7 +29,7 @@ fn from_start(start: usize, place: Option<usize>) -> Option<usize>
     }
 }
 
-/// Whether a text is that of a statement, and not a line of the disassembly in braces.
+/// Whether a text is that of a statement, and no line of the disassembly in braces.
 fn is_sentence(form: Form) -> bool
     ensures value { result ≡ leading.is_sentence form }
 {
@@ -39,7 +39,7 @@ fn is_sentence(form: Form) -> bool
     }
 }
 
-/// Where a jump leads that is made on a condition.
+/// Returns where a jump with this condition leads.
 fn leads_to(condition: Condition, form: Form, place: Option<usize>) -> Leads
     ensures leads { result ≡ leading.leads_to condition form place }
 {
@@ -58,7 +58,7 @@ fn leads_to(condition: Condition, form: Form, place: Option<usize>) -> Leads
     }
 }
 
-/// Where a statement leads that leads by a value.
+/// Returns where a case jump leads.
 fn leads_by_value(form: Form) -> Leads
     ensures leads { result ≡ leading.leads_by_value form }
 {
@@ -69,7 +69,7 @@ fn leads_by_value(form: Form) -> Leads
     }
 }
 
-/// Where a statement leads.
+/// Returns where a statement leads.
 fn leads_by(start: usize, entries: &[usize], role: Role, phrase: &Phrase) -> Leads
     ensures leads { result ≡ leading.leads_by start entries.now role phrase.now.form }
 {
@@ -83,7 +83,7 @@ fn leads_by(start: usize, entries: &[usize], role: Role, phrase: &Phrase) -> Lea
     }
 }
 
-/// Where the next statement begins; where the code ends, if there is none.
+/// Returns the offset of the next statement, or the end of the code if there is none.
 fn next_place(end: usize, lefts: &[Left]) -> usize
     ensures place { result ≡ leading.next_place end lefts.now }
 {
@@ -93,7 +93,7 @@ fn next_place(end: usize, lefts: &[Left]) -> usize
     }
 }
 
-/// A list without its first item.
+/// Returns a list without its first item.
 pub(crate) fn behind_first<T>(list: &[T]) -> &[T]
     ensures rest { result.now ≡ drop 1 list.now }
 {
@@ -103,7 +103,7 @@ pub(crate) fn behind_first<T>(list: &[T]) -> &[T]
     }
 }
 
-/// The stretches of statements, of code that begins and ends at these places.
+/// Returns the code ranges of statements. `start` and `end` are the offsets of the code.
 pub(crate) fn stretches(
     alloc: Global,
     start: usize,

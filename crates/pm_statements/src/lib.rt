@@ -1,4 +1,4 @@
-//! Code as statements: their text.
+//! The text of code as statements.
 #![tactic(auto)]
 
 mod block_labels;

@@ -9,16 +9,16 @@ use pm_phrases::{Phrase, push_offset, push_value};
 use pm_trees::{Leaves, Left, Pile, Place, Role, is_reached, leaves_nothing};
 use std::alloc::AllocError;
 
-/// The deepest level that has blanks.
+/// The maximum depth that is shown by spaces.
 const DEEPEST: usize = 30;
 
-/// The blanks of eight levels.
+/// The spaces for eight levels.
 const EIGHT_LEVELS: &str = "                ";
 
-/// The blanks of the deepest level.
+/// The spaces for the maximum depth.
 const ALL_LEVELS: &str = "                                                            ";
 
-/// Adds the lines of a label and of the exit code, each behind a line feed.
+/// Appends the lines of a label and of the exit code, each after a line feed.
 pub(crate) fn push_place_lines(out: &mut String, place: Place) -> Result<(), AllocError>
     ensures text { OnOk result (string_bytes out.new ≡ string_bytes out.old ++ texts.place_lines place) }
 {
@@ -33,7 +33,7 @@ pub(crate) fn push_place_lines(out: &mut String, place: Place) -> Result<(), All
     Ok(())
 }
 
-/// Adds a statement's own text, behind `PUSH` where it leaves something.
+/// Appends the text of a statement. It is prefixed with `PUSH` if the statement leaves something.
 pub(crate) fn push_own(out: &mut String, leaves: Leaves, phrase: &Phrase) -> Result<(), AllocError>
     ensures text { OnOk result (string_bytes out.new
         ≡ string_bytes out.old ++ (texts.push_text leaves ++ value_text phrase.now 0)) }
@@ -44,7 +44,7 @@ pub(crate) fn push_own(out: &mut String, leaves: Leaves, phrase: &Phrase) -> Res
     push_value(out, phrase)
 }
 
-/// Adds a check to the line of the call before it.
+/// Appends an I/O check to the line of the call before it.
 pub(crate) fn push_beside(out: &mut String, check: &Phrase) -> Result<(), AllocError>
     ensures text { OnOk result (string_bytes out.new
         ≡ string_bytes out.old ++ (32 ∷ value_text check.now 0)) }
@@ -53,21 +53,21 @@ pub(crate) fn push_beside(out: &mut String, check: &Phrase) -> Result<(), AllocE
     push_value(out, check)
 }
 
-/// Whether a statement is a call.
+/// Whether a statement is a call that leaves nothing.
 pub(crate) fn is_call(left: &Left) -> bool
     ensures value { result ≡ texts.is_call left.now }
 {
     leaves_nothing(left.leaves) && matches!(left.role, Role::Call)
 }
 
-/// Whether a statement is a check of input and output to which nothing leads.
+/// Whether a statement is an I/O check that has no label and does not begin the exit code.
 pub(crate) fn is_check(left: &Left) -> bool
     ensures value { result ≡ texts.is_check left.now }
 {
     !is_reached(left.place) && matches!(left.role, Role::Check)
 }
 
-/// Adds two blanks for each level of depth, up to thirty levels.
+/// Appends two spaces for each level of depth, up to thirty levels.
 #[tactic(auto, using(crate::proofs::Listed::all_levels, crate::proofs::Listed::few_levels, crate::proofs::Listed::blanks_step, crate::proofs::Listed::blanks_done))]
 pub(crate) fn push_blanks(out: &mut String, depth: usize) -> Result<(), AllocError>
     ensures text { OnOk result (string_bytes out.new ≡ string_bytes out.old ++ texts.blanks depth) }
@@ -88,7 +88,7 @@ pub(crate) fn push_blanks(out: &mut String, depth: usize) -> Result<(), AllocErr
     Ok(())
 }
 
-/// Adds what stands before the blanks of a statement: the lines of its place, and its offset.
+/// Appends the text before the indentation of a statement: the lines of its place, and its offset.
 pub(crate) fn push_front(out: &mut String, place: Place) -> Result<(), AllocError>
     ensures text { OnOk result (string_bytes out.new ≡ string_bytes out.old ++ texts.front place) }
 {
@@ -98,7 +98,7 @@ pub(crate) fn push_front(out: &mut String, place: Place) -> Result<(), AllocErro
     out.push(' ')
 }
 
-/// Adds a statement, behind a line feed or on the line of the call before it.
+/// Appends a statement after a line feed. An I/O check after a call is appended to the line of the call.
 fn push_line(
     out: &mut String,
     depth: usize,
@@ -117,7 +117,7 @@ fn push_line(
     push_own(out, left.leaves, phrase)
 }
 
-/// Adds statements.
+/// Appends statements.
 #[tactic(auto, using(crate::proofs::Listed::lines_none))]
 fn push_lines(
     out: &mut String,
@@ -142,7 +142,7 @@ fn push_lines(
     Ok(())
 }
 
-/// Adds the lines of statements, each behind a line feed, and its text behind blanks by how deep it stands.
+/// Appends the lines of statements, each after a line feed. Each statement is indented by its depth.
 #[tactic(auto, using(pm_trees::proofs::Ends::twice_reversed))]
 pub fn push_statements(
     out: &mut String,

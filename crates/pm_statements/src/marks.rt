@@ -1,4 +1,4 @@
-//! The places of a procedure that have a label.
+//! The offsets of a procedure that have a label.
 
 ghost use Rattle.std.specs.Prelude.{◌≡◌, ◌-◌, ◌≤◌, ◌<◌, ◌==◌, ◌||◌, ℕ, false, length, map, IfOk, OnOk};
 ghost use Rattle.std.specs.Bool.{OnTrue};
@@ -12,14 +12,14 @@ use pm_code::{Item, Procedure, Target};
 use std::alloc::{AllocError, Global};
 use std::marker::Model;
 
-/// Which places are marked. Each place of a procedure's code has a flag; any other is told by a list.
+/// A set of marked offsets. The offsets of a procedure's code have flags, and other offsets are in a list.
 #[derive(Drop)]
 pub struct Marks {
-    /// The place of the first flag.
+    /// The offset of the first flag.
     start: usize,
     /// The flags.
     flags: Vec<bool>,
-    /// The places that are marked and have no flag.
+    /// The marked offsets that have no flag.
     others: Vec<usize>,
 }
 
@@ -32,7 +32,7 @@ impl Model for Marks {
 }
 
 impl Marks {
-    /// No marks, with flags for the places from a start to an end.
+    /// Creates an empty set with flags for the offsets from `start` to `end`.
     #[tactic(auto, using(crate::proofs::Marked::none_marked))]
     pub(crate) fn none(alloc: Global, start: usize, end: usize) -> Result<Marks, AllocError>
         ensures none { IfOk result (λ m. (p : ℕ) → has m p ≡ false) }
@@ -50,7 +50,7 @@ impl Marks {
         })
     }
 
-    /// Whether a place has a flag.
+    /// Whether an offset has a flag.
     fn has_flag(&self, place: usize) -> bool
         ensures value { result ≡ has_flag self.now place }
         ensures low { OnTrue result (self.now.start ≤ place) }
@@ -59,7 +59,7 @@ impl Marks {
         place >= self.start && place - self.start < self.flags.len()
     }
 
-    /// Whether a place is marked.
+    /// Whether an offset is marked.
     #[tactic(auto, unfolding(crate::specs::Marks::has))]
     pub(crate) fn has(&self, place: usize) -> bool
         ensures value { result ≡ has self.now place }
@@ -71,7 +71,7 @@ impl Marks {
     }
 }
 
-/// Marks a place.
+/// Marks an offset.
 #[tactic(auto, unfolding(crate::specs::Marks::has), using(crate::proofs::Marked::flag_set, crate::proofs::Marked::other_added))]
 fn mark(marks: &mut Marks, place: usize) -> Result<(), AllocError>
     ensures has { OnOk result ((p : ℕ) → has marks.new p ≡ ((place == p) || has marks.old p)) }
@@ -84,7 +84,7 @@ fn mark(marks: &mut Marks, place: usize) -> Result<(), AllocError>
     Ok(())
 }
 
-/// Marks places.
+/// Marks offsets.
 #[tactic(auto, using(crate::proofs::Marked::places_done))]
 pub(crate) fn mark_places(marks: &mut Marks, places: &[usize]) -> Result<(), AllocError>
     ensures has { OnOk result ((p : ℕ) → has marks.new p ≡ (has marks.old p || is_among places.now p)) }
@@ -95,7 +95,7 @@ pub(crate) fn mark_places(marks: &mut Marks, places: &[usize]) -> Result<(), All
     Ok(())
 }
 
-/// Marks the place that a jump leads to by a label.
+/// Marks the target of a jump, if it is a label.
 #[tactic(auto, using(crate::proofs::Marked::one_place, crate::proofs::Marked::or_false))]
 pub(crate) fn mark_target(marks: &mut Marks, target: Target<usize>) -> Result<(), AllocError>
     ensures has { OnOk result ((p : ℕ) → has marks.new p
@@ -107,7 +107,7 @@ pub(crate) fn mark_target(marks: &mut Marks, target: Target<usize>) -> Result<()
     }
 }
 
-/// Marks the places that an item names.
+/// Marks the offsets that an item names.
 #[tactic(auto, using(crate::proofs::Marked::joined_places, crate::proofs::Marked::or_false))]
 pub(crate) fn mark_item(marks: &mut Marks, item: &Item<usize>) -> Result<(), AllocError>
     ensures has { OnOk result ((p : ℕ) → has marks.new p
@@ -127,7 +127,7 @@ pub(crate) fn mark_item(marks: &mut Marks, item: &Item<usize>) -> Result<(), All
     }
 }
 
-/// Marks the places that items name.
+/// Marks the offsets that items name.
 #[tactic(auto, using(crate::proofs::Marked::items_done))]
 fn mark_items(marks: &mut Marks, items: &[Item<usize>]) -> Result<(), AllocError>
     ensures has { OnOk result ((p : ℕ) → has marks.new p
@@ -139,7 +139,7 @@ fn mark_items(marks: &mut Marks, items: &[Item<usize>]) -> Result<(), AllocError
     Ok(())
 }
 
-/// The places of a procedure that have a label. Each place from its start to an end has a flag.
+/// Returns the offsets of a procedure that have a label. There is a flag for each offset from the start to `end`.
 #[tactic(auto, using(crate::proofs::Marked::two_marked))]
 pub(crate) fn labels_of(
     alloc: Global,

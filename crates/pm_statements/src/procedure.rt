@@ -20,7 +20,7 @@ use pm_phrases::{Around, Phrase};
 use pm_trees::{Known, Layout, Left, Line, Part, Pile, Place, blocks, part_of, statements};
 use std::alloc::{AllocError, Global};
 
-/// A place, where these have labels and the exit code begins at one.
+/// Returns the place at offset `at`. `exit` is the offset of the exit code.
 #[tactic(auto, using(crate::proofs::Marked::place_known))]
 fn place_at(labels: &Marks, exit: usize, at: usize) -> Place
     ensures place { (used : List ℕ) → AreMarked labels.now used → result ≡ parts.place_at used exit at }
@@ -32,7 +32,7 @@ fn place_at(labels: &Marks, exit: usize, at: usize) -> Place
     }
 }
 
-/// Where the item behind this one begins. No memory holds one that would begin beyond all places.
+/// Returns the offset after an item. The error occurs only if the offset does not fit in 64 bits.
 pub(crate) fn behind(at: usize, item: &Item<usize>) -> Result<usize, AllocError>
     ensures behind { IfOk result (λ next. next ≡ at + size at (placed_item item.now)) }
 {
@@ -45,7 +45,7 @@ pub(crate) fn behind(at: usize, item: &Item<usize>) -> Result<usize, AllocError>
     }
 }
 
-/// The items of a procedure as parts, where these places have labels.
+/// Returns the items of a procedure as parts. `labels` are the offsets with a label.
 fn parts_of<'a>(
     alloc: Global,
     known: &Known<'_>,
@@ -66,7 +66,8 @@ fn parts_of<'a>(
     Ok(parts)
 }
 
-/// Adds the lines of the place where code ends, where these places have labels and the exit code begins at one.
+/// Appends the lines of the place at the end of the code. `labels` are the offsets with a label, and `exit` is the
+/// offset of the exit code.
 fn push_end(out: &mut String, labels: &Marks, exit: usize, end: usize) -> Result<(), AllocError>
     ensures text { (used : List ℕ) → AreMarked labels.now used → OnOk result (string_bytes out.new
         ≡ string_bytes out.old ++ texts.place_lines (parts.place_at used exit end)) }
@@ -74,7 +75,7 @@ fn push_end(out: &mut String, labels: &Marks, exit: usize, end: usize) -> Result
     push_place_lines(out, place_at(labels, exit, end))
 }
 
-/// Adds statements by depth, or as they are.
+/// Appends statements, which are indented by their depth if `indented` is true.
 #[tactic(auto, using(pm_phrases::proofs::Offsets::text_joined))]
 fn push_flat(
     alloc: Global,
@@ -95,7 +96,7 @@ fn push_flat(
     push_end(out, labels, procedure.exit, end)
 }
 
-/// Adds statements in these blocks, with those labels that their text names.
+/// Appends statements in these blocks, with the labels that their text names.
 fn push_shown(
     alloc: Global,
     out: &mut String,
@@ -115,7 +116,8 @@ fn push_shown(
     Ok(())
 }
 
-/// Adds statements in blocks; as they are, where these blocks would say other jumps.
+/// Appends statements in blocks. If the blocks would not represent the jumps, the statements are appended without
+/// blocks and indentation.
 #[tactic(auto, using(pm_trees::proofs::Ends::twice_reversed), unfolding(crate::specs::Bodies::body))]
 fn push_blocks(
     alloc: Global,
@@ -139,7 +141,7 @@ fn push_blocks(
     }
 }
 
-/// Adds statements as they are to stand.
+/// Appends statements in this layout.
 #[tactic(auto, unfolding(crate::specs::Bodies::body))]
 fn push_body(
     alloc: Global,
@@ -162,9 +164,9 @@ fn push_body(
     }
 }
 
-/// Adds the text of a procedure's code as statements: a line for each, behind a line feed, by depth or in blocks if
-/// that is wanted; with lines for the exit code and the labels, as the text of the procedure has them, in blocks for
-/// those labels that the statements name.
+/// Appends the text of a procedure's code as statements, in the layout of `known`. Each statement has a line, after a
+/// line feed. There are also lines for the exit code and for labels. In blocks, only the labels that the text names are
+/// included.
 pub fn push_procedure(
     alloc: Global,
     out: &mut String,

@@ -22,7 +22,7 @@ use std::alloc::{AllocError, Global};
 use std::fmt;
 use std::fmt::Write;
 
-/// The front of a procedure's first line: its number and its slot.
+/// The beginning of a procedure's first line: its number and its slot.
 #[derive(Clone, Copy)]
 struct Named(u8, u8);
 
@@ -35,7 +35,7 @@ impl fmt::Display for Named {
     }
 }
 
-/// The bytes of a procedure's result, where all of its returns leave as many.
+/// The size of a procedure's result in bytes, if all its returns leave the same number of words.
 #[derive(Clone, Copy)]
 struct ResultText(Returns);
 
@@ -53,7 +53,8 @@ impl fmt::Display for ResultText {
     }
 }
 
-/// A procedure's first line: its number and slot, its level, the bytes of its parameters, its locals and its result.
+/// A procedure's first line: its number and slot, its level, and the sizes of its parameters, locals and result in
+/// bytes.
 #[derive(Clone, Copy)]
 struct Header(u8, Attributes, Returns);
 
@@ -71,14 +72,14 @@ impl fmt::Display for Header {
     }
 }
 
-/// The slot of the code.
+/// Returns the slot of the code.
 fn slot_of(known: &Known<'_>) -> u8
     ensures slot { result ≡ known.now.segment }
 {
     known.segment
 }
 
-/// Adds a line for each entry of a jump table, behind a line feed: its number, and where it leads.
+/// Appends a line for each entry of a jump table, after a line feed: its number and its target.
 #[tactic(auto, using(crate::proofs::Filed::entries_done))]
 fn push_entries(out: &mut String, entries: &[usize]) -> Result<(), AllocError>
     ensures text { OnOk result (string_bytes out.new ≡ string_bytes out.old ++ files.entry_lines 0 entries.now) }
@@ -90,7 +91,7 @@ fn push_entries(out: &mut String, entries: &[usize]) -> Result<(), AllocError>
     Ok(())
 }
 
-/// Adds the text of a procedure with code, by what its returns leave.
+/// Appends the text of a procedure that has code. `returns` states what its returns leave.
 fn push_code(
     alloc: Global,
     text: &mut String,
@@ -111,7 +112,7 @@ fn push_code(
     Ok(())
 }
 
-/// The procedure of a table, where it was kept, and what its returns leave.
+/// Returns the cached procedure of an attribute table, and what its returns leave.
 fn kept<'a>(tables: &'a [SizedTable], a: &Attributes) -> Option<(&'a Procedure, Returns)>
     ensures procedure { (segment : List ℕ) → AllByRecursion (files.IsSizedTable segment) tables.now
         → IfSome result (λ p. procedure_seen p.0.now ≡ procedure_of segment a.now) }
@@ -127,7 +128,7 @@ fn kept<'a>(tables: &'a [SizedTable], a: &Attributes) -> Option<(&'a Procedure, 
     None
 }
 
-/// The procedure of a table, read anew; its segment is decoded once.
+/// Reads the procedure of an attribute table again. The segment is decoded at most once.
 fn read_anew<'a>(
     alloc: Global,
     segment: &'a [u8],
@@ -150,7 +151,7 @@ fn read_anew<'a>(
     Ok(procedure)
 }
 
-/// Adds a procedure by its table.
+/// Appends the procedure of an attribute table.
 #[tactic(auto, unfolding(crate::specs::Files::table_text))]
 fn push_table<'a>(
     alloc: Global,
@@ -183,7 +184,7 @@ fn push_table<'a>(
     }
 }
 
-/// Adds the line of a number whose table an earlier number has led to: it names the number in that table.
+/// Appends the line of a number whose attribute table was already shown. The line refers to the number in that table.
 fn push_repeated(text: &mut String, named: Named, a: &Attributes) -> Result<(), AllocError>
     ensures text { OnOk result (string_bytes text.new
         ≡ string_bytes text.old ++ files.repeated_text named.0 named.1 a.now) }
@@ -193,8 +194,8 @@ fn push_repeated(text: &mut String, named: Named, a: &Attributes) -> Result<(), 
     Ok(())
 }
 
-/// Adds a procedure by its table, and notes the place of that: many words of a dictionary may lead to one table, whose
-/// text stands once.
+/// Appends the procedure of an attribute table, and records the offset of the table. Several words of a dictionary may
+/// refer to one table, whose text is shown only once.
 fn push_table_once<'a>(
     alloc: Global,
     text: &mut String,
@@ -221,13 +222,15 @@ fn push_table_once<'a>(
     push_table(alloc, text, known, sized, decoded, &a)
 }
 
-/// Adds what is shown for a number of a segment: the statements of its procedure; one line if the number has no table,
-/// or if an earlier number has led to the same table. `shown` contains the places of the tables that were shown, and
-/// `decoded` the segment, if it was decoded. Both have to be empty before the first number of a segment.
+/// Appends the text for a procedure number of a segment: the statements of its procedure. It is one line if the number
+/// has no attribute table, or if an earlier number has the same table.
+///
+/// `shown` contains the offsets of the tables that were shown. `decoded` contains the segment if it was decoded. Both
+/// must be empty before the first number of a segment.
 ///
 /// # Errors
 ///
-/// `AllocError` if there is no memory. Part of the text may have been added.
+/// `AllocError` if memory runs out. Part of the text may have been appended.
 pub fn push_numbered<'a>(
     alloc: Global,
     text: &mut String,
@@ -255,7 +258,7 @@ pub fn push_numbered<'a>(
     Ok(())
 }
 
-/// Adds the procedures of a segment.
+/// Appends the procedures of a segment.
 fn push_segment(
     alloc: Global,
     text: &mut String,
@@ -278,7 +281,7 @@ fn push_segment(
     Ok(())
 }
 
-/// Adds the segment of a slot, if it has one.
+/// Appends the segment of a slot, if it has one.
 fn push_slot(
     alloc: Global,
     text: &mut String,
@@ -308,8 +311,10 @@ fn push_slot(
     }
 }
 
-/// The text of a code file as statements: its segments by ascending slot, of each its procedures by their numbers, of
-/// each a line that names it, a line for each entry of its jump table, and its statements as they are to stand.
+/// Returns the text of a code file as statements, in the given layout. The segments are in ascending order of their
+/// slots, and the procedures in the order of their numbers.
+///
+/// Each procedure has a first line, a line for each entry of its jump table, and its statements.
 #[tactic(auto, unfolding(crate::specs::Files::file_text))]
 pub fn file(alloc: Global, file: &CodeFile<'_>, layout: Layout) -> Result<String, AllocError>
     ensures text { IfOk result (λ text. string_bytes text ≡ files.file_text layout file.now) }

@@ -1,4 +1,4 @@
-//! What the procedures of a code file take and leave.
+//! The sizes of the procedures of a code file.
 
 ghost use Rattle.std.specs.Prelude.{◌≡◌, ◌%◌, ◌+◌, ◌∷◌, ◌++◌, ◌≤◌, ℕ, List, Option, None, Some, length, IfOk, IfSome};
 ghost use Rattle.std.specs.Prelude.{OnOk};
@@ -18,33 +18,33 @@ use pm_disasm::{Decoded, code, decode_segment};
 use pm_trees::Callee;
 use std::alloc::{AllocError, Global};
 
-/// How many items there is room for, for each byte of a segment.
+/// The number of items that may be cached for each byte of a segment.
 const ITEMS_FOR_A_BYTE: usize = 4;
 
-/// A procedure's table, what its procedure takes and leaves, and the procedure, where there was room to keep it, with
-/// what its returns leave.
+/// An attribute table, the sizes of its procedure, and what the returns leave. The procedure is included if there was
+/// space to cache it.
 #[derive(Drop)]
 pub struct SizedTable {
-    /// The table.
+    /// The attribute table.
     pub table: Attributes,
-    /// What its procedure takes and leaves.
+    /// The sizes of its procedure, if they are known.
     pub callee: Option<Callee>,
     /// What the returns of the procedure leave.
     pub returns: Returns,
-    /// The procedure.
+    /// The procedure, if it is cached.
     pub procedure: Option<Procedure>,
 }
 
-/// A segment with those of its tables that were looked at.
+/// A segment with the attribute tables that were read.
 #[derive(Drop)]
 pub struct SizedSegment<'a> {
     /// The segment.
     pub segment: &'a [u8],
-    /// Its tables.
+    /// Its attribute tables.
     pub tables: Vec<SizedTable>,
 }
 
-/// What is known of a table, if it is among those that were looked at.
+/// Returns the sizes for an attribute table if it was already read.
 fn sized_before(sized: &[SizedTable], a: &Attributes) -> Option<Option<Callee>>
     ensures callee { (segment : List ℕ) → AllByRecursion (files.IsSizedTable segment) sized.now
         → IfSome result (λ callee. callee ≡ files.table_callee segment a.now) }
@@ -57,7 +57,8 @@ fn sized_before(sized: &[SizedTable], a: &Attributes) -> Option<Option<Callee>>
     None
 }
 
-/// A procedure's size, where the exit code of its table does not lie before its code.
+/// Reads the procedure of an attribute table and its sizes. If the exit code is before the code, there is no procedure,
+/// and the sizes are unknown.
 #[tactic(auto, unfolding(crate::specs::Files::table_callee))]
 fn table_callee<'a>(
     alloc: Global,
@@ -89,7 +90,7 @@ fn table_callee<'a>(
     })
 }
 
-/// How many items a table's procedure has, where it is kept.
+/// Returns the number of items of a cached procedure, or 0 if none is cached.
 fn items_kept(sized: &SizedTable) -> usize
     ensures items { result ≡ files.items_kept sized.now }
 {
@@ -99,7 +100,8 @@ fn items_kept(sized: &SizedTable) -> usize
     }
 }
 
-/// A table, without its procedure where that has more items than there is room for.
+/// Returns an attribute table, without its procedure if this has more than `room` items. Otherwise `room` is reduced by
+/// its items.
 fn within(sized: SizedTable, room: &mut usize) -> SizedTable
     ensures sized { (segment : List ℕ) → files.IsSizedTable segment sized → files.IsSizedTable segment result }
     ensures table { result.table ≡ sized.table }
@@ -120,8 +122,8 @@ fn within(sized: SizedTable, room: &mut usize) -> SizedTable
     }
 }
 
-/// What the procedure of a table takes and leaves, looked at once for each table: many words of a dictionary may lead
-/// to one. Procedures are kept as long as there is room for their items.
+/// Returns the sizes for an attribute table. Each table is read only once, because several words of a dictionary may
+/// refer to it. Procedures are cached as long as there is space for their items.
 fn table_callee_once<'a>(
     alloc: Global,
     segment: &'a [u8],
@@ -146,8 +148,10 @@ fn table_callee_once<'a>(
     Ok(callee)
 }
 
-/// Adds those of a segment, of 256 numbers, and tells its tables. Of their procedures as many are kept as have no more
-/// items than four for each byte of the segment: tables may lead to the same code.
+/// Appends the sizes for the 256 procedure numbers of a segment, and returns its attribute tables.
+///
+/// Procedures are cached up to four items for each byte of the segment. The limit is needed because several tables may
+/// refer to the same code.
 fn add_segment<'a>(
     alloc: Global,
     callees: &mut Vec<Option<Callee>>,
@@ -173,7 +177,7 @@ fn add_segment<'a>(
     Ok(SizedSegment { segment, tables })
 }
 
-/// Adds those of the operating system.
+/// Appends the sizes of the operating system's procedures.
 fn add_system(callees: &mut Vec<Option<Callee>>) -> Result<(), AllocError>
     ensures callees { OnOk result (callees.new.items ≡ callees.old.items ++ (None ∷ files.system_from 1 255)) }
 {
@@ -184,7 +188,7 @@ fn add_system(callees: &mut Vec<Option<Callee>>) -> Result<(), AllocError>
     Ok(())
 }
 
-/// Adds those of a slot, and tells the tables of its segment.
+/// Appends the sizes for a slot, and returns the attribute tables of its segment.
 fn add_slot<'a>(
     alloc: Global,
     callees: &mut Vec<Option<Callee>>,
@@ -208,23 +212,24 @@ fn add_slot<'a>(
     }
 }
 
-/// What the procedures of a code file take and leave, and the segments of its slots with their tables.
+/// The sizes of the procedures of a code file, and the segments with their attribute tables.
 #[derive(Drop)]
 pub struct Sized<'a> {
-    /// What they take and leave: of each slot 256, by their numbers. Where slot 0 has no segment they are those of the
-    /// operating system.
+    /// The sizes: 256 entries for each slot, by procedure number. If slot 0 has no segment, its entries are those of
+    /// the operating system.
     pub callees: Vec<Option<Callee>>,
     /// The segments, by their slots.
     pub segments: Vec<SizedSegment<'a>>,
 }
 
-/// Reads what [`file`](crate::file) needs of a code file before it can write the first statement: what each procedure
-/// takes and leaves, because any procedure may call any other. A procedure is kept for its text if its segment has
-/// room, which is four items for each byte.
+/// Reads the sizes of all procedures of a code file. [`file`](crate::file) needs them before it can write the first
+/// statement, because each procedure may call any other.
+///
+/// Procedures are cached up to four items for each byte of their segment.
 ///
 /// # Errors
 ///
-/// `AllocError` if there is no memory.
+/// `AllocError` if memory runs out.
 #[tactic(auto, unfolding(crate::specs::Files::file_callees))]
 pub fn file_sizes<'a>(alloc: Global, file: &CodeFile<'a>) -> Result<Sized<'a>, AllocError>
     ensures callees { IfOk result (λ sized. sized.callees.items ≡ files.file_callees file.now) }

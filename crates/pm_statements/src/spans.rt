@@ -1,11 +1,11 @@
-//! The spans of jumps that are open at a place, each by its end.
+//! The open spans of jumps, each represented by its end.
 
 ghost use Rattle.std.specs.Prelude.{◌≡◌, reverse, OnOk};
 ghost use Rattle.pm_statements.specs.Depths as depths;
 
 use std::alloc::AllocError;
 
-/// Whether the innermost span ends at a place or before it.
+/// Whether the innermost span ends at `at` or before it.
 #[tactic(auto, using(pm_trees::proofs::Ends::reverse_pushed))]
 fn has_ended(ends: &[usize], at: usize) -> bool
     ensures value { result ≡ depths.has_ended at (reverse ends.now) }
@@ -16,7 +16,7 @@ fn has_ended(ends: &[usize], at: usize) -> bool
     }
 }
 
-/// Closes the spans that end at a place or before it.
+/// Closes the spans that end at `at` or before it.
 #[tactic(auto, using(crate::proofs::Spanned::ended_before, crate::proofs::Spanned::none_ended, crate::proofs::Spanned::some_ended))]
 pub(crate) fn close_ended(ends: &mut Vec<usize>, at: usize)
     ensures ends { reverse ends.new.items ≡ depths.open_at at (reverse ends.old.items) }
@@ -26,7 +26,7 @@ pub(crate) fn close_ended(ends: &mut Vec<usize>, at: usize)
     }
 }
 
-/// Opens a span, if there is one, has code, and lies within those that are open.
+/// Opens a span, if there is one, it is not empty, and it is inside the innermost open span.
 #[tactic(auto, using(pm_trees::proofs::Ends::reverse_pushed))]
 pub(crate) fn open_span(
     ends: &mut Vec<usize>,

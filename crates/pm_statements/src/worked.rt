@@ -2,9 +2,8 @@
 
 ghost use Rattle.pm_statements.specs.Worked.{WorkedStatements};
 
-/// The statements of a procedure: where they stand, what leads to them, how many parts they have, and how deep they
-/// are; and how deep code is that has a choice, two loops, and a jump out of what another leads around; and which
-/// labels stand in blocks.
+/// The statements of a procedure: their offsets, labels, numbers of parts, and depths. The depths of code with a
+/// choice, two loops, and a jump out of an inner block. The labels of statements in blocks.
 #[tactic(auto, using(crate::proofs::Computed::worked_statements))]
 pub fn worked_statements()
     ensures law { WorkedStatements }

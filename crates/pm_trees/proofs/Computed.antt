@@ -1,4 +1,4 @@
--- Blocks are computed.
+-- The blocks are computed.
 use Rattle.std.proofs.Common.{refl}
 use Rattle.pm_trees.specs.Backs.{back_end}
 use Rattle.pm_trees.specs.Blocks.{all_end, blocks, lines_from}

@@ -33,7 +33,7 @@ leaves_dropped zero l = refl
 leaves_dropped (suc k) [] = refl
 leaves_dropped (suc k) (s ∷ ss) = leaves_dropped k ss
 
--- so many of the last, where there are as many
+-- The last `k` items of a list that has at least `k` items.
 without_few : {A : Type 0} → (k : ℕ) (l : List A) → k ≤ length l → reverse (take (length l - k) l) ≡ drop k (reverse l)
 without_few k l low =
     let i : ℕ = length l - k in

@@ -42,7 +42,7 @@ off_operand n (leaves.Constant c) es h =
     let low : 1 ≤ n = grind (arith, nat_tests, (and_parts (not (n == 0)) (nat_le 1 n) h).1) in off_one n c es low
 off_operand n leaves.Set es h = absurd (grind (arith, nat_tests, h))
 
--- what trees leave that leave this
+-- What trees leave, as entries of the stack.
 abbrev all_entries : List Leaves → List Entry
 all_entries [] = []
 all_entries (l ∷ ls) = entries l ++ all_entries ls
@@ -97,21 +97,21 @@ unfolding share_count
 fair (share.Words n) ls es = words_fair n ls es
 fair share.Set ls es = fair_set ls es
 
--- nothing is taken off an empty stack
+-- Nothing can be taken from an empty stack.
 off_none : (s : Share) → off_share s [] ≡ Some (record { wanted = s; stack = [] })
 unfolding off_words
 off_none (share.Words zero) = refl
 off_none (share.Words (suc n)) = refl
 off_none share.Set = refl
 
--- no word, or no set, is what is still wanted
+-- If a share is 0 words, nothing is taken.
 off_nothing : (s : Share) (es : List Entry) → is_none s ≡ true → off_share s es ≡ Some (record { wanted = share.Words 0; stack = es })
 unfolding off_words
 off_nothing (share.Words zero) es h = refl
 off_nothing (share.Words (suc n)) es h = absurd (grind (arith, nat_tests, h))
 off_nothing share.Set es h = cc
 
--- what was counted with what is below it, and without
+-- The count with the operands of the share below, and without them.
 abbrev deep : CountShare → CountShare → Count
 deep t u = record { trees = t.trees + u.trees; missing = record { top = share.Words 0; below = u.missing } }
 

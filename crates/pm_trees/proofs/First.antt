@@ -28,7 +28,7 @@ below_back (suc zero) (Tree p m o Bare) s = tt
 below_back (suc (suc k)) (Tree p m o Bare) s = tt
 below_back (suc k) (Tree p m o (Tree q n r before)) s = below_back k (Tree q n r before) s.2
 
--- operands are whole that stand upon other trees
+-- Operands that follow other trees are complete.
 abbrev OrWhole : Forest → Forest → Type 0
 OrWhole o Bare = Unit {0}
 OrWhole o (Tree q n r before) = AreWhole o

@@ -1,4 +1,4 @@
--- Labels stand before statements.
+-- Labels are at the beginning of statements.
 use Rattle.std.proofs.Common.{◌≡◌, Bool, true, false, List, [], ◌∷◌, ◌++◌, refl, sym, ap, ◌∙◌, subst, append_assoc}
 use Rattle.std.specs.Prelude.{◌||◌, if◌then◌else◌}
 use Rattle.pm_trees.specs.Parts.{Part, is_reached, procedure_parts}
@@ -33,12 +33,12 @@ one_back : (ps qs : List Part) → AreInOne (ps ++ qs) → AreInOne qs
 one_back [] qs a = a
 one_back (p ∷ ps) qs a = weaker qs (unreached_back ps qs a)
 
--- one more part at the end: nothing leads to it, or nothing stands before it
+-- One more part at the end: it has no label, or no part precedes it.
 one_more : (ps : List Part) (p : Part) → AreInOne ps → is_reached p.place ≡ false → AreInOne (ps ++ p ∷ [])
 one_more [] p a e = tt
 one_more (q ∷ ps) p a e = unreached_joined ps (p ∷ []) a (e, tt)
 
--- trees that together are in one are so each
+-- If a list of trees has no label after its first part, the same holds for each tree.
 each : (f : Forest) → AreInOne (parts_of f) → AreReachedAtTheFront f
 each Bare a = tt
 each (Tree p m o before) a =
@@ -52,7 +52,7 @@ record AreFronted (g : Growing) : Type 0 where
   done : AreReachedAtTheFront g.done
   pending : AreInOne (parts_of g.pending)
 
--- a part may join what is pending
+-- A part may be added to the pending trees.
 abbrev MayJoin : Part → Forest → Type 0
 MayJoin p f = AreInOne (parts_of f ++ p ∷ [])
 

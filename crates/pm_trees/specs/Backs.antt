@@ -1,4 +1,4 @@
--- Statements that lead back, or by a value.
+-- Statements that jump back, and case jumps.
 use Rattle.std.specs.Prelude.{◌≡◌, ℕ, ◌==◌, nat_le, if◌then◌else◌, List, [], ◌∷◌, slice_index_or, Option, Some, None}
 use Rattle.pm_trees.specs.declared.backs.Backs.{Backs}
 use Rattle.pm_trees.specs.declared.backs.Loops.{Loops}
@@ -6,7 +6,7 @@ use Rattle.pm_trees.specs.declared.statement.Leads.{Leads}
 use Rattle.pm_trees.specs.declared.statement.Leads.TheVariants as leads
 use Rattle.pm_trees.specs.declared.statement.Statement.{Statement}
 
--- how a statement leads to another place: by a condition, always, or to one of several places by a value
+-- How a statement jumps: by a condition, always, or by a value.
 pub data Way : Type 0 where
   ByCondition : Way
   Always : Way
@@ -15,14 +15,15 @@ pub data Way : Type 0 where
 abbrev pub back_to : ℕ → ℕ → Option ℕ
 back_to place at = if nat_le place at then Some place else None
 
--- where a statement leads that way, if that is itself or lies before it; where it begins, if it leads by a value
+-- The offset for which the end of a statement is recorded. It is the target of a jump back or to itself. For a case
+-- jump, it is its own beginning.
 abbrev pub back_place : Way → Leads → ℕ → Option ℕ
 back_place ByCondition (leads.ByCondition place) at = back_to place at
 back_place Always (leads.Always place) at = back_to place at
 back_place ByValue leads.ByValue at = Some at
 back_place _ _ at = None
 
--- the end of one statement more, if that is its place
+-- The end for `place` after one more statement, which is recorded for the offset `to`.
 abbrev pub later_end : ℕ → ℕ → Option ℕ → ℕ → ℕ
 later_end place end None behind = end
 later_end place end (Some to) behind = if to == place then behind else end
@@ -31,26 +32,26 @@ unfoldable pub back_end : Way → ℕ → ℕ → List Statement → ℕ
 back_end w place end [] = end
 back_end w place end (s ∷ ss) = back_end w place (later_end place end (back_place w s.leads s.at) s.behind) ss
 
--- The place behind the last statement that leads back to a place that way, or from it by a value; 0 where none does.
+-- The end of the last statement that is recorded for `place`, or 0 if there is none.
 abbrev pub loop_end : Way → ℕ → List Statement → ℕ
 loop_end w place ss = back_end w place 0 ss
 
--- what is written for a place; 0 behind the last one
+-- The recorded end for `place`, or 0 after the end of the list.
 abbrev pub written : List ℕ → ℕ → ℕ
 written ends place = slice_index_or ends place 0
 
--- These are those places, of each place.
+-- The list contains the end for each offset.
 abbrev pub AreEnds : List ℕ → Way → List Statement → Type 0
 AreEnds ends w ss = (place : ℕ) → written ends place ≡ loop_end w place ss
 
--- where it leads; 0 for nowhere, or by a value
+-- The target of a jump, or 0 if the statement does not jump or jumps by a value.
 abbrev pub place_of : Leads → ℕ
 place_of leads.Nowhere = 0
 place_of (leads.ByCondition place) = place
 place_of (leads.Always place) = place
 place_of leads.ByValue = 0
 
--- where the loops end that begin where a statement does, and the CASE to which it leads
+-- The ends of the loops that begin where `s` begins, and of the case jump at its target.
 abbrev pub loops_at : List Statement → Statement → Loops
 loops_at ss s = record {
   by_condition = loop_end ByCondition s.at ss;
@@ -58,7 +59,7 @@ loops_at ss s = record {
   by_value = loop_end ByValue (place_of s.leads) ss;
 }
 
--- The ends that are kept are those of these statements.
+-- The recorded ends are those of these statements.
 pub record IsOf (b : Backs) (ss : List Statement) : Type 0 where
   pub by_condition : AreEnds b.by_condition.items ByCondition ss
   pub always : AreEnds b.always.items Always ss

@@ -13,9 +13,9 @@ use Rattle.pm_trees.specs.declared.statement.Leads.TheVariants as leads
 use Rattle.pm_trees.specs.declared.statement.Statement.{Statement}
 use Rattle.pm_trees.specs.Backs.{loops_at, place_of}
 
--- ---- blocks that are open, the innermost first
+-- ---- open blocks, the innermost first
 
--- whether its last statement closes it
+-- Whether the last statement of a block of this kind closes it.
 abbrev pub closes_itself : Kind → Bool
 closes_itself kind.If = false
 closes_itself kind.Else = false
@@ -23,25 +23,25 @@ closes_itself (kind.While place) = true
 closes_itself (kind.Repeat place) = true
 closes_itself (kind.Case place) = true
 
--- Whether a block up to an end lies within the innermost one; within the code, where none is open. The statement that
--- closes a loop or a CASE is in no block within that.
+-- Whether a block that ends at `end` is inside the innermost block, or inside the code if none is open. The statement
+-- that closes a loop or a CASE is in no block inside it.
 abbrev pub fits : ℕ → ℕ → List Block → Bool
 fits limit end [] = nat_le end limit
 fits limit end (b ∷ bs) = if closes_itself b.kind then nat_lt end b.end else nat_le end b.end
 
--- ---- what ends at a place, or before it
+-- ---- blocks that end at an offset or before it
 
--- whether the innermost one does
+-- Whether the innermost block ends at `at` or before it.
 abbrev pub has_ended : ℕ → List Block → Bool
 has_ended at [] = false
 has_ended at (b ∷ bs) = nat_le b.end at
 
--- those that go on there
+-- The blocks that are still open at `at`.
 abbrev pub open_at : ℕ → List Block → List Block
 open_at at [] = []
 open_at at (b ∷ bs) = if nat_le b.end at then open_at at bs else b ∷ bs
 
--- a line for the end of a choice
+-- A line for the end of a choice.
 abbrev pub end_line : ℕ → Kind → List Line
 end_line at k = if closes_itself k then [] else record { word = word.End; at = at; behind = at } ∷ []
 
@@ -49,18 +49,20 @@ abbrev pub end_lines : ℕ → List Block → List Line
 end_lines at [] = []
 end_lines at (b ∷ bs) = if nat_le b.end at then end_line at b.kind ++ end_lines at bs else []
 
--- a choice ends right there, and all else by its own statement
+-- Whether a block ends exactly at `at`. Only a choice can end there, because other blocks are closed by their own
+-- statement.
 abbrev pub ends_here : ℕ → Block → Bool
 ends_here at b = not (closes_itself b.kind) && b.end == at
 
--- whether all that end there end so
+-- Whether all blocks that have ended at `at` end exactly there.
 abbrev pub end_here : ℕ → List Block → Bool
 end_here at [] = true
 end_here at (b ∷ bs) = if nat_le b.end at then ends_here at b && end_here at bs else true
 
 -- ---- loops that end with their condition
 
--- whether the loop from a place to behind the last condition that leads back to it, or to 0 where none does, fits
+-- Whether a loop from `at` to `end` fits. `end` is the end of the last condition that jumps back to `at`, or 0 if there
+-- is none.
 abbrev pub begins_loop : ℕ → ℕ → ℕ → List Block → Bool
 begins_loop limit at end bs = nat_lt at end && fits limit end bs
 
@@ -72,7 +74,7 @@ abbrev pub with_repeat : ℕ → ℕ → ℕ → List Block → List Block
 with_repeat limit at end bs =
     if begins_loop limit at end bs then record { kind = kind.Repeat at; end = end } ∷ bs else bs
 
--- ---- the word of a statement
+-- ---- the keyword of a statement
 
 abbrev pub is_if : Kind → Bool
 is_if kind.If = true
@@ -94,7 +96,7 @@ abbrev pub is_case_to : ℕ → Kind → Bool
 is_case_to place (kind.Case p) = p == place
 is_case_to place _ = false
 
--- whether the innermost block is the loop from that place, and ends there
+-- Whether the innermost block is the loop that begins at `place` and ends at `behind`.
 abbrev pub ends_while : ℕ → ℕ → List Block → Bool
 ends_while place behind [] = false
 ends_while place behind (b ∷ bs) = is_while_from place b.kind && b.end == behind
@@ -103,36 +105,37 @@ abbrev pub ends_repeat : ℕ → ℕ → List Block → Bool
 ends_repeat place behind [] = false
 ends_repeat place behind (b ∷ bs) = is_repeat_from place b.kind && b.end == behind
 
--- whether it is what is done by a value, up to that statement, and ends there
+-- Whether the innermost block is the CASE whose case jump is at `place`, and ends at `behind`.
 abbrev pub ends_case : ℕ → ℕ → List Block → Bool
 ends_case place behind [] = false
 ends_case place behind (b ∷ bs) = is_case_to place b.kind && b.end == behind
 
--- whether it is what is done by a value, and ends at a place
+-- Whether the innermost block is a CASE that ends at `place`.
 abbrev pub leaves_case : ℕ → List Block → Bool
 leaves_case place [] = false
 leaves_case place (b ∷ bs) = is_case b.kind && b.end == place
 
--- whether it is what is done if a condition holds, and ends there, where what is done else fits into the next one
+-- Whether the innermost block is an IF that ends at `behind`, and an ELSE part up to `end` fits into the next block.
 abbrev pub ends_if : ℕ → ℕ → ℕ → List Block → Bool
 ends_if limit end behind [] = false
 ends_if limit end behind (b ∷ bs) = (is_if b.kind && b.end == behind) && fits limit end bs
 
--- of a statement that leads by a condition: forward over a block, which is a loop if the last statement that leads back
--- here always ends where the block does; back to where the innermost loop began
+-- The keyword of a jump by a condition. A jump forward over a block is WHILE if the last statement that always jumps
+-- back here ends at the end of that block. Otherwise it is IF. A jump back to the beginning of the innermost REPEAT
+-- loop is UNTIL.
 abbrev pub condition_word : ℕ → ℕ → ℕ → ℕ → List Block → Word
 condition_word limit again behind place bs =
     if nat_lt behind place && fits limit place bs then (if again == place then word.While else word.If)
     else if ends_repeat place behind bs then word.Until
     else word.Plain (leads.ByCondition place)
 
--- Whether what lies between a statement and the one to which it leads is a block that fits. That one leads by a value,
--- and ends at a place, or at 0 where it does not lead so.
+-- Whether the statements between a jump and its target are a CASE block that fits. The target is a case jump that ends
+-- at `end`. If the target is no case jump, `end` is 0.
 abbrev pub begins_case : ℕ → ℕ → ℕ → ℕ → List Block → Bool
 begins_case limit end behind place bs = nat_lt behind place && (nat_lt place end && fits limit end bs)
 
--- Of one that leads always: back to the condition of the innermost loop, forward from the end of a choice, behind the
--- innermost block, that is done by a value, or to the end of such a one.
+-- The keyword of a statement that always jumps. It may jump back to the condition of the innermost loop, forward from
+-- the end of a choice, to the end of the innermost CASE, or to a case jump.
 abbrev pub always_word : ℕ → ℕ → ℕ → ℕ → List Block → Word
 always_word limit end behind place bs =
     if ends_while place behind bs then word.EndWhile
@@ -141,7 +144,7 @@ always_word limit end behind place bs =
     else if begins_case limit end behind place bs then word.Case
     else word.Plain (leads.Always place)
 
--- of one that leads by a value
+-- The keyword of a case jump.
 abbrev pub value_word : ℕ → ℕ → List Block → Word
 value_word at behind bs = if ends_case at behind bs then word.EndCase else word.Plain leads.ByValue
 
@@ -155,7 +158,7 @@ abbrev pub without_first : List Block → List Block
 without_first [] = []
 without_first (b ∷ bs) = bs
 
--- whether a statement closes the innermost block
+-- Whether a statement with this keyword closes the innermost block.
 abbrev pub closes_one : Word → Bool
 closes_one word.Else = true
 closes_one word.EndWhile = true
@@ -163,7 +166,7 @@ closes_one word.Until = true
 closes_one word.EndCase = true
 closes_one _ = false
 
--- the block that it opens; it may lead to a statement that leads by a value and ends at a place
+-- The block that a statement with this keyword opens. A CASE block ends at `end`.
 abbrev pub opened_by : ℕ → Word → Statement → Option Block
 opened_by end word.If s = Some (record { kind = kind.If; end = place_of s.leads })
 opened_by end word.Else s = Some (record { kind = kind.Else; end = place_of s.leads })
@@ -175,13 +178,13 @@ abbrev pub with_opened : Option Block → List Block → List Block
 with_opened None bs = bs
 with_opened (Some b) bs = b ∷ bs
 
--- what is open behind it
+-- The blocks that are open after the statement.
 abbrev pub open_behind : ℕ → Word → Statement → List Block → List Block
 open_behind end word s bs = with_opened (opened_by end word s) (if closes_one word then without_first bs else bs)
 
 -- ---- lines
 
--- what is open where a statement begins, with the loop that begins there
+-- The blocks that are open at the beginning of a statement, including a loop that begins there.
 abbrev pub open_around : ℕ → Loops → Statement → List Block → List Block
 open_around limit here s bs = with_repeat limit s.at here.by_condition (open_at s.at bs)
 
@@ -191,7 +194,7 @@ word_of limit here s bs = word_by limit here s.at s.behind s.leads (open_around 
 abbrev pub line_of : Word → Statement → Line
 line_of w s = record { word = w; at = s.at; behind = s.behind }
 
--- the lines of a statement: what ends before it, the loop that begins there, and itself
+-- The lines of a statement: the ends of blocks before it, the beginning of a loop, and the statement itself.
 abbrev pub statement_lines : ℕ → Loops → Statement → List Block → List Line
 statement_lines limit here s bs = (end_lines s.at bs ++ repeat_lines limit s.at here.by_condition (open_at s.at bs))
     ++ line_of (word_of limit here s bs) s ∷ []
@@ -199,7 +202,7 @@ statement_lines limit here s bs = (end_lines s.at bs ++ repeat_lines limit s.at 
 abbrev pub open_after : ℕ → Loops → Statement → List Block → List Block
 open_after limit here s bs = open_behind here.by_value (word_of limit here s bs) s (open_around limit here s bs)
 
--- the lines of statements, of all of these, behind which the code ends
+-- The lines of the remaining statements. `all` is the list of all statements, and `limit` is the end of the code.
 unfoldable pub lines_from : ℕ → List Statement → List Block → List Statement → List Line
 lines_from limit all bs [] = end_lines limit bs
 lines_from limit all bs (s ∷ ss) = statement_lines limit (loops_at all s) s bs
@@ -209,13 +212,13 @@ abbrev pub is_empty : List Block → Bool
 is_empty [] = true
 is_empty (b ∷ bs) = false
 
--- whether each block ends by its own statement, or where a statement begins or the code ends
+-- Whether each block is closed by its own statement, or ends where a statement begins or where the code ends.
 unfoldable pub all_end : ℕ → List Statement → List Block → List Statement → Bool
 all_end limit all bs [] = end_here limit bs && is_empty (open_at limit bs)
 all_end limit all bs (s ∷ ss) =
     end_here s.at bs && all_end limit all (open_after limit (loops_at all s) s bs) ss
 
--- the place behind the last statement
+-- The offset after the last statement, or `end` if there is none.
 abbrev pub end_behind : ℕ → List Statement → ℕ
 end_behind end [] = end
 end_behind end (s ∷ ss) = end_behind s.behind ss
@@ -226,6 +229,6 @@ code_end ss = end_behind 0 ss
 abbrev pub if_all : Bool → List Line → Option (List Line)
 if_all b ls = if b then Some ls else None
 
--- Statements in blocks; none, where a block ends elsewhere than its jump says.
+-- Statements in blocks, or `None` if a block does not end at the target of its jump.
 unfoldable pub blocks : List Statement → Option (List Line)
 blocks ss = if_all (all_end (code_end ss) ss [] ss) (lines_from (code_end ss) ss [] ss)

@@ -1,4 +1,4 @@
--- What statements are.
+-- Laws about statements.
 use Rattle.std.specs.Prelude.{◌≡◌, true, ℕ, zero, suc, false, List, [], ◌∷◌, ◌++◌, map, replicate, if◌then◌else◌}
 use Rattle.std.specs.Prelude.{Option, Some, None}
 use Rattle.pm_code.specs.Item.{Item}
@@ -16,13 +16,13 @@ use Rattle.pm_trees.specs.Trees.Forest.{Bare, Tree}
 abbrev pub items_of : Forest → List (Item ℕ)
 items_of f = map (λ (p : Part). p.item) (parts_of f)
 
--- The statements of a procedure, each read with its operands before it, are its code: every item once, in order.
+-- The statements of a procedure, each read with its operands first, are its code: every item once, in order.
 abbrev pub StatementsAreTheCode : Type 0
 StatementsAreTheCode = (k : Known) (p : Procedure) → items_of (statements (procedure_parts k p)) ≡ p.items
 
 -- ---- what operands leave on the stack
 
--- a word, a word that is known, a set of words that are not counted
+-- A word, a word of known value, or a set whose size is not known.
 pub data Entry : Type 0 where
   AWord : Entry
   AConstant : ℕ → Entry
@@ -33,17 +33,17 @@ entries (leaves.Words n) = replicate n AWord
 entries (leaves.Constant c) = AConstant c ∷ []
 entries leaves.Set = ASet ∷ []
 
--- what trees leave, the top first
+-- What trees leave on the stack, the top first.
 abbrev pub entries_of : Forest → List Entry
 entries_of Bare = []
 entries_of (Tree p missing operands before) = entries p.leaves ++ entries_of before
 
--- What is still wanted when a stack was taken from, and what is left of it.
+-- What is still needed after entries were taken from a stack, and the rest of the stack.
 pub record Rest : Type 0 where
   pub wanted : Share
   pub stack : List Entry
 
--- so many words off a stack; a set does not come apart
+-- Takes `n` words from a stack. A set cannot be divided into words.
 unfoldable pub off_words : ℕ → List Entry → Option Rest
 off_words zero es = Some (record { wanted = share.Words 0; stack = es })
 off_words (suc n) [] = Some (record { wanted = share.Words (suc n); stack = [] })
@@ -51,7 +51,7 @@ off_words (suc n) (AWord ∷ es) = off_words n es
 off_words (suc n) (AConstant c ∷ es) = off_words n es
 off_words (suc n) (ASet ∷ es) = None
 
--- a set off a stack: one as a whole, or a count and so many words
+-- Takes a set from a stack: one entry, or a count followed by that many words.
 abbrev pub off_set : List Entry → Option Rest
 off_set [] = Some (record { wanted = share.Set; stack = [] })
 off_set (ASet ∷ es) = Some (record { wanted = share.Words 0; stack = es })
@@ -62,7 +62,7 @@ abbrev pub off_share : Share → List Entry → Option Rest
 off_share (share.Words n) es = off_words n es
 off_share share.Set es = off_set es
 
--- where nothing is left of the stack
+-- What is missing, if the stack is now empty.
 abbrev pub missing_of : Share → Share → List Entry → Option Missing
 missing_of top below [] = Some (record { top = top; below = below })
 missing_of top below (e ∷ es) = None
@@ -76,11 +76,11 @@ missing_then below None = None
 missing_then below (Some l) =
     if is_none l.wanted then missing_below (off_share below l.stack) else missing_of l.wanted below l.stack
 
--- what is missing when all of a stack was taken; none, where not all of it is
+-- What is missing after all entries of a stack were taken, or `None` if entries are left.
 unfoldable pub missing_from : Takes → List Entry → Option Missing
 missing_from w es = missing_then w.below (off_share w.top es)
 
--- Each part takes all that its operands leave, and what is said to be missing.
+-- Each part takes all that its operands leave, and what is shown as missing.
 abbrev pub TakesItsOperands : Forest → Type 0
 TakesItsOperands Bare = Unit {0}
 TakesItsOperands (Tree p missing operands before) =
@@ -99,7 +99,7 @@ abbrev pub AreInOne : List Part → Type 0
 AreInOne [] = Unit {0}
 AreInOne (p ∷ ps) = AreUnreached ps
 
--- In no statement something leads to another part than the first.
+-- In a statement, only the first part can have a label or begin the exit code.
 abbrev pub AreReachedAtTheFront : Forest → Type 0
 AreReachedAtTheFront Bare = Unit {0}
 AreReachedAtTheFront (Tree p missing operands before) =
@@ -110,12 +110,12 @@ LabelsStandBeforeStatements = (k : Known) (p : Procedure) → AreReachedAtTheFro
 
 -- ---- what is missing
 
--- nothing is missing in any of these trees
+-- In these trees nothing is missing.
 abbrev pub AreWhole : Forest → Type 0
 AreWhole Bare = Unit {0}
 AreWhole (Tree p missing operands before) = (none_missing missing ≡ true) × AreWhole operands × AreWhole before
 
--- of trees that stand one upon another nothing is missing but in the lowest one, and there in its lowest operand
+-- In a list of trees, something can be missing only in the first tree, and there only in its first operand.
 abbrev pub MissBelow : Forest → Type 0
 MissBelow Bare = Unit {0}
 MissBelow (Tree p missing operands Bare) = MissBelow operands
@@ -126,7 +126,7 @@ abbrev pub EachMissesBelow : Forest → Type 0
 EachMissesBelow Bare = Unit {0}
 EachMissesBelow (Tree p missing operands before) = MissBelow operands × EachMissesBelow before
 
--- What a statement takes that none of its operands leaves was on the stack before the statement: nothing that an
--- operand left lies below it.
+-- What a statement takes and none of its operands leaves was on the stack before the statement. Nothing that an operand
+-- left is below it.
 abbrev pub MissingIsBelow : Type 0
 MissingIsBelow = (k : Known) (p : Procedure) → EachMissesBelow (statements (procedure_parts k p))

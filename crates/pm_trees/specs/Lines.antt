@@ -1,15 +1,15 @@
--- How deep lines stand.
+-- The depth of lines.
 use Rattle.std.specs.Prelude.{ℕ, ◌+◌, ◌-◌, Bool, true, false}
 use Rattle.pm_trees.specs.declared.line.Word.{Word}
 use Rattle.pm_trees.specs.declared.line.Word.TheVariants as word
 
--- whether it stands for no statement
+-- Whether a line with this keyword has no statement.
 abbrev pub is_extra : Word → Bool
 is_extra word.Repeat = true
 is_extra word.End = true
 is_extra _ = false
 
--- how deep a line stands, where so many blocks are open before it
+-- The depth of a line if `blocks` blocks are open before it.
 abbrev pub depth_at : Word → ℕ → ℕ
 depth_at word.Else blocks = blocks - 1
 depth_at word.EndWhile blocks = blocks - 1
@@ -18,7 +18,7 @@ depth_at word.EndCase blocks = blocks - 1
 depth_at word.End blocks = blocks - 1
 depth_at _ blocks = blocks
 
--- and how many are open behind it
+-- The number of open blocks after a line if `blocks` blocks are open before it.
 abbrev pub depth_behind : Word → ℕ → ℕ
 depth_behind word.If blocks = blocks + 1
 depth_behind word.While blocks = blocks + 1

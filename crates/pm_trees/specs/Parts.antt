@@ -33,16 +33,16 @@ use Rattle.pm_trees.specs.declared.part.Leaves.TheVariants as leaves
 use Rattle.pm_trees.specs.declared.part.Place.{Place}
 use Rattle.pm_trees.specs.declared.part.Takes.{Takes}
 
--- ---- what an item takes and leaves
+-- ---- the stack effect of an item
 
--- what is known of procedures: the segment of the code, and a table of 256 procedures for each segment; and how
--- statements stand
+-- What is known about procedures: the segment of the code, and a table with 256 procedures for each segment. `layout`
+-- states how statements are laid out.
 pub record Known : Type 0 where
   pub segment : ℕ
   pub callees : List (Option Callee)
   pub layout : Layout
 
--- where the procedure that is called stands in the table
+-- The index of the called procedure in the table.
 abbrev pub callee_index : ℕ → Call → ℕ
 callee_index segment (call.Clp p) = 256 * segment + p
 callee_index segment (call.Cgp p) = 256 * segment + p
@@ -53,31 +53,32 @@ callee_index segment (call.Cxp s p) = 256 * s + p
 abbrev pub callee_effect : Callee → Effect
 callee_effect c = words c.parameters c.results
 
--- of a procedure that is called
+-- The stack effect of a call.
 abbrev pub call_effect : Known → Call → Option Effect
 call_effect k c = option_map callee_effect (slice_index_or k.callees (callee_index k.segment c) None)
 
--- of a call by what is known of procedures, of another instruction by the table of instructions
+-- The stack effect of a call depends on the called procedure. That of any other instruction is in the table of
+-- instructions.
 abbrev pub effect_by : Known → Operation → Instr → Option Effect
 effect_by k (operation.Call c) i = call_effect k c
 effect_by k _ i = instruction_effect i
 
--- the instruction of an item, without the places that it names
+-- The instruction of an item, without the offsets that it names.
 abbrev pub item_instruction : Item ℕ → Option Instr
 item_instruction (Plain i named) = Some i
 item_instruction (Jump op target) = Some (bare op)
 item_instruction (Case low high otherwise places) = Some (bare case_opcode)
 item_instruction (OneByte b) = None
 
--- ---- what an operation is
+-- ---- the role of an operation
 
--- a call, the check of input and output, a jump, or something else
+-- A call, the I/O check, or another operation.
 abbrev pub operation_role : Operation → Role
 operation_role (operation.Call c) = role.Call
 operation_role (operation.Standard n) = if n == 0 then role.Check else role.Call
 operation_role _ = role.Other
 
--- where it leads, as the code has it
+-- The target of a jump, in the type of the code.
 abbrev pub target_told : Target ℕ → told.Target ℕ
 target_told (To place) = targets.To place
 target_told (Through k) = targets.Through k
@@ -86,7 +87,7 @@ abbrev pub jump_role : Option Condition → told.Target ℕ → Role
 jump_role None target = role.Other
 jump_role (Some c) target = role.Jump c target
 
--- of an item whose instruction does this
+-- The role of an item whose instruction has the operation `what`.
 abbrev pub role_by : Operation → Item ℕ → Role
 role_by what (Plain i named) = operation_role what
 role_by what (Jump op target) = jump_role (condition_of op) (target_told target)
@@ -95,8 +96,8 @@ role_by what (OneByte b) = role.Other
 
 -- ---- parts
 
--- A part of code: an item and its place, what its operation is, what it takes and what it leaves, and whether that is
--- known.
+-- A part of code: an item and its place, the role of its operation, and its stack effect. `known` states whether the
+-- effect is known.
 pub record Part : Type 0 where
   pub item : Item ℕ
   pub place : Place
@@ -105,11 +106,11 @@ pub record Part : Type 0 where
   pub leaves : Leaves
   pub known : Bool
 
--- whether something leads to it
+-- Whether a place has a label or begins the exit code.
 abbrev pub is_reached : Place → Bool
 is_reached p = p.has_label || p.is_exit
 
--- what is not known takes and leaves nothing
+-- Without a known effect, nothing is taken and nothing is left.
 abbrev pub takes_of : Option Effect → Takes
 takes_of None = record { top = share.Words 0; below = share.Words 0 }
 takes_of (Some e) = record { top = e.top; below = e.below }
@@ -122,7 +123,7 @@ abbrev pub leaves_effect : Option Effect → Leaves
 leaves_effect None = leaves.Words 0
 leaves_effect (Some e) = leaves_share e.leaves
 
--- a constant that may count the words of a set
+-- A constant below 256 may be the size of a set.
 abbrev pub leaves_constant : ℕ → Leaves
 leaves_constant w = if nat_lt w 256 then leaves.Constant w else leaves.Words 1
 
@@ -130,14 +131,14 @@ abbrev pub leaves_by : Operation → Option Effect → Leaves
 leaves_by (operation.Arithmetic (arithmetic.Constant w)) e = leaves_constant w
 leaves_by _ e = leaves_effect e
 
--- a procedure that is called, or a standard one, may take what is not known here; all else that has no effect is
--- nothing that the machine does
+-- Whether the input of an operation is known. Only a call or a standard procedure without an effect may take an unknown
+-- input. Any other operation without an effect is not executed by the machine.
 abbrev pub is_known : Operation → Option Effect → Bool
 is_known (operation.Call c) None = false
 is_known (operation.Standard n) None = false
 is_known _ _ = true
 
--- what an instruction takes and leaves, and whether that is known
+-- What an instruction takes and leaves, and whether this is known.
 pub record Moves : Type 0 where
   pub takes : Takes
   pub leaves : Leaves
@@ -146,7 +147,7 @@ pub record Moves : Type 0 where
 abbrev pub moves_by : Operation → Option Effect → Moves
 moves_by o e = record { takes = takes_of e; leaves = leaves_by o e; known = is_known o e }
 
--- a byte is nothing that the machine does
+-- A single byte is no instruction of the machine.
 abbrev pub moves_of : Known → Option Instr → Moves
 moves_of k None = moves_by operation.Unimplemented None
 moves_of k (Some i) = moves_by (operation_of i) (effect_by k (operation_of i) i)
@@ -155,7 +156,7 @@ abbrev pub part_with : Item ℕ → Place → Role → Moves → Part
 part_with item place role m =
     record { item = item; place = place; role = role; takes = m.takes; leaves = m.leaves; known = m.known }
 
--- of an item with this instruction
+-- The role of an item with this instruction.
 abbrev pub role_with : Option Instr → Item ℕ → Role
 role_with None item = role_by operation.Unimplemented item
 role_with (Some i) item = role_by (operation_of i) item
@@ -164,17 +165,17 @@ abbrev pub part_of : Known → Item ℕ → Place → Part
 part_of k item place =
     part_with item place (role_with (item_instruction item) item) (moves_of k (item_instruction item))
 
--- a place, where these have a label and the exit code begins at one
+-- The place at offset `at`. `used` contains the offsets with a label, and `exit` is the offset of the exit code.
 abbrev pub place_at : List ℕ → ℕ → ℕ → Place
 place_at used exit at = record { offset = at; has_label = is_among used at; is_exit = exit == at }
 
--- the items from an offset on
+-- The parts of items, the first of which is at offset `at`.
 abbrev pub parts : Known → List ℕ → ℕ → ℕ → List (Item ℕ) → List Part
 parts k used exit at [] = []
 parts k used exit at (item ∷ items) =
     part_of k item (place_at used exit at) ∷ parts k used exit (at + size at item) items
 
--- the places that have a label
+-- The offsets that have a label.
 abbrev pub labelled_places : Procedure → List ℕ
 labelled_places p = named_places p.items ++ p.entries
 

@@ -1,4 +1,4 @@
--- Trees as phrases, and how they grow.
+-- Trees as phrases, built part by part.
 use Rattle.std.specs.Prelude.{◌≡◌, ℕ, List, [], ◌∷◌, ◌++◌, reverse}
 use Rattle.std.specs.Prelude.{take, drop}
 use Rattle.std.specs.Prelude.{◌||◌, if◌then◌else◌}
@@ -15,7 +15,7 @@ use Rattle.pm_trees.specs.Trees.Forest.{Bare, Tree}
 
 -- ---- trees as phrases
 
--- Trees as their phrases, and what is seen of each, the last one first.
+-- Trees as phrases and summaries, the last one first.
 pub record Pile : Type 0 where
   pub lefts : List Left
   pub phrases : List Shown
@@ -23,15 +23,15 @@ pub record Pile : Type 0 where
 abbrev pub no_trees : Pile
 no_trees = record { lefts = []; phrases = [] }
 
--- a tree upon others
+-- Appends a tree to other trees.
 abbrev pub upon_all : Left → Shown → Pile → Pile
 upon_all left phrase before = record { lefts = left ∷ before.lefts; phrases = phrase ∷ before.phrases }
 
--- the phrase of a part behind its operands
+-- The phrase of a part with its operands.
 abbrev pub phrase_by : Around → Part → Missing → Pile → Shown
 phrase_by a p missing operands = phrase_of a p.item p.known missing (reverse operands.phrases)
 
--- a part behind its operands, upon other trees
+-- Appends a part with its operands to other trees.
 abbrev pub upon : Around → Part → Missing → Pile → Pile → Pile
 upon a p missing operands before =
     upon_all (left_by p operands.lefts) (phrase_by a p missing operands) before
@@ -40,25 +40,25 @@ abbrev pub pile_of : Around → Forest → Pile
 pile_of a Bare = no_trees
 pile_of a (Tree p missing operands before) = upon a p missing (pile_of a operands) (pile_of a before)
 
--- the last trees, so many of them, and those before
+-- The last `k` trees, and the trees before them.
 abbrev pub last_of : ℕ → Pile → Pile
 last_of k t = record { lefts = take k t.lefts; phrases = take k t.phrases }
 
 abbrev pub rest_of : ℕ → Pile → Pile
 rest_of k t = record { lefts = drop k t.lefts; phrases = drop k t.phrases }
 
--- trees behind others
+-- Trees appended to other trees.
 abbrev pub after : Pile → Pile → Pile
 after more before = record { lefts = more.lefts ++ before.lefts; phrases = more.phrases ++ before.phrases }
 
--- ---- how they grow
+-- ---- building
 
--- the statements that are done, and the trees that something may yet take
+-- The finished statements, and the pending trees, which may still become operands.
 pub record Texts : Type 0 where
   pub done : Pile
   pub pending : Pile
 
--- trees, of which so many of the last are pending
+-- A list of trees, of which the last `k` are pending.
 abbrev pub texts_in : Pile → ℕ → Texts
 texts_in t k = record { done = rest_of k t; pending = last_of k t }
 
@@ -93,7 +93,7 @@ unfoldable pub added_all : Around → List Part → Texts → Texts
 added_all a [] t = t
 added_all a (p ∷ ps) t = added_all a ps (added a p (before_text p t))
 
--- The text that grows part by part is that of the statements.
+-- The text that is built part by part is the text of the statements.
 abbrev pub TextGrows : Type 0
 TextGrows = (a : Around) (ps : List Part)
     → (closed_texts (added_all a ps (record { done = no_trees; pending = no_trees }))).done ≡ pile_of a (statements ps)

@@ -1,4 +1,4 @@
--- Code as statements: each a tree of which the nodes are parts of the code.
+-- Code as statements. Each statement is a tree whose nodes are parts of the code.
 use Rattle.std.specs.Prelude.{ℕ, zero, suc, ◌+◌, ◌-◌, Bool, true, false, not, List, [], ◌∷◌, ◌++◌, drop, ◌==◌, ◌||◌}
 use Rattle.std.specs.Prelude.{◌&&◌, nat_le, nat_lt, if◌then◌else◌}
 use Rattle.pm_effects.specs.declared.effect.Share.{Share}
@@ -11,25 +11,25 @@ use Rattle.pm_trees.specs.declared.part.Place.{Place}
 use Rattle.pm_trees.specs.declared.part.Takes.{Takes}
 use Rattle.pm_trees.specs.Parts.{Part, is_reached}
 
--- Trees side by side, the last one first: a part, what it takes that no operand leaves, its operands, and the trees
--- before it.
+-- A list of trees, the last one first. A tree has a part, what is missing for the part, and its operands. The trees
+-- before it follow.
 pub data Forest : Type 0 where
   Bare : Forest
   Tree : Part → Missing → Forest → Forest → Forest
 
--- the parts in the order in which they are done: operands from left to right, then what takes them
+-- The parts in the order of execution: operands from left to right, then the part that takes them.
 abbrev pub parts_of : Forest → List Part
 parts_of Bare = []
 parts_of (Tree p missing operands before) = parts_of before ++ (parts_of operands ++ p ∷ [])
 
--- trees behind other trees
+-- Trees appended to other trees.
 abbrev pub behind : Forest → Forest → Forest
 behind Bare before = before
 behind (Tree p missing operands more) before = Tree p missing operands (behind more before)
 
 -- ---- operands
 
--- the last trees, so many of them, and those before
+-- The last `k` trees, and the trees before them.
 abbrev pub front : ℕ → Forest → Forest
 front zero f = Bare
 front (suc k) Bare = Bare
@@ -40,18 +40,18 @@ back zero f = f
 back (suc k) Bare = Bare
 back (suc k) (Tree p missing operands before) = back k before
 
--- what each tree leaves
+-- What each tree leaves.
 abbrev pub leaves_of : Forest → List Leaves
 leaves_of Bare = []
 leaves_of (Tree p missing operands before) = p.leaves ∷ leaves_of before
 
--- ---- what is seen of a tree: what its part leaves, where its first part stands, and how many parts it has
+-- ---- the summary of a tree: what its part leaves, the place of its first part, and the number of its parts
 
--- a tree of more parts than this is a statement, even if it leaves something
+-- The maximum number of parts of an operand. A tree with more parts is a statement, even if it leaves something.
 abbrev pub most_parts : ℕ
 most_parts = 100
 
--- how many parts; one more than the most stands for all that are more
+-- The number of parts, limited to `most_parts + 1`.
 abbrev pub capped : ℕ → ℕ
 capped n = if nat_lt most_parts n then suc most_parts else n
 
@@ -59,12 +59,12 @@ abbrev pub parts_left : List Left → ℕ
 parts_left [] = 0
 parts_left (l ∷ ls) = capped (l.parts + parts_left ls)
 
--- the place of the first of these trees; this one, where there is none
+-- The place of the first of these trees, or `place` if there are none.
 abbrev pub first_place : Place → List Left → Place
 first_place place [] = place
 first_place place (l ∷ ls) = first_place l.place ls
 
--- a part behind its operands
+-- The summary of a part with its operands.
 unfoldable pub left_by : Part → List Left → Left
 left_by p operands = record {
   leaves = p.leaves;
@@ -77,14 +77,14 @@ abbrev pub lefts_of : Forest → List Left
 lefts_of Bare = []
 lefts_of (Tree p missing operands before) = left_by p (lefts_of operands) ∷ lefts_of before
 
--- whether the last tree has too many parts for an operand
+-- Whether the last tree has too many parts for an operand.
 abbrev pub is_full : List Left → Bool
 is_full [] = false
 is_full (l ∷ ls) = nat_lt most_parts l.parts
 
--- ---- how many trees are operands
+-- ---- the number of trees that are operands
 
--- how many words, none of a set, of which the count is not known
+-- The number of words that are left. For a set it is 0, because its size is not known.
 abbrev pub words_left : Leaves → ℕ
 words_left (leaves.Words n) = n
 words_left (leaves.Constant c) = 1
@@ -98,7 +98,7 @@ is_set leaves.Set = true
 abbrev pub is_operand : ℕ → Leaves → Bool
 is_operand n l = not (n == 0) && (not (is_set l) && nat_le (words_left l) n)
 
--- how many trees are taken, and what is missing
+-- The number of trees that are operands, and what is missing.
 pub record CountWords : Type 0 where
   pub trees : ℕ
   pub missing : ℕ
@@ -114,7 +114,7 @@ pub record Count : Type 0 where
 abbrev pub one_more : CountWords → CountWords
 one_more c = record { trees = suc c.trees; missing = c.missing }
 
--- As many of the last trees as leave no more than so many words.
+-- Counts the last trees that together leave at most `n` words.
 unfoldable pub words_count : ℕ → List Leaves → CountWords
 words_count n [] = record { trees = 0; missing = n }
 words_count n (l ∷ ls) =
@@ -126,11 +126,11 @@ as_share c = record { trees = c.trees; missing = share.Words c.missing }
 abbrev pub no_set : CountShare
 no_set = record { trees = 0; missing = share.Set }
 
--- words and their count, where all of them are there
+-- Words and their count are a set only if no word is missing.
 abbrev pub counted : CountWords → CountShare
 counted c = if c.missing == 0 then as_share (one_more c) else no_set
 
--- a set: a tree that leaves one, or words and a constant that counts them
+-- A set: one tree that leaves a set, or words followed by a constant that counts them.
 unfoldable pub set_count : List Leaves → CountShare
 set_count [] = no_set
 set_count (leaves.Words n ∷ ls) = no_set
@@ -148,7 +148,7 @@ is_none share.Set = false
 abbrev pub none_missing : Missing → Bool
 none_missing t = is_none t.top && is_none t.below
 
--- what is below it; nothing, where something is missing
+-- The operands for the share below. If the top share is incomplete, there are none.
 abbrev pub then_count : CountShare → Share → CountShare → Count
 then_count t below u =
     if is_none t.missing
@@ -162,19 +162,20 @@ takes_count w ls =
 
 -- ---- statements
 
--- Statements that are done, and behind them the trees that something may yet take.
+-- Finished statements, followed by the pending trees, which may still become operands.
 pub record Growing : Type 0 where
   pub done : Forest
   pub pending : Forest
 
--- what is pending becomes statements
+-- The pending trees become statements.
 abbrev pub closed : Growing → Growing
 closed g = record { done = behind g.pending g.done; pending = Bare }
 
 abbrev pub leaves_nothing : Leaves → Bool
 leaves_nothing l = not (is_set l) && words_left l == 0
 
--- A part that leaves no word is a statement, and all before it are too. Where something is missing, all that stays is.
+-- Adds a part. If it leaves nothing, it is a statement, and the remaining pending trees become statements too. If
+-- something is missing, the remaining pending trees become statements.
 abbrev pub grown_by : Part → Count → Growing → Growing
 grown_by p c g =
     if leaves_nothing p.leaves
@@ -192,7 +193,7 @@ grown_by p c g =
 abbrev pub grown : Part → Growing → Growing
 grown p g = grown_by p (takes_count p.takes (leaves_of g.pending)) g
 
--- what is reached from elsewhere, or stands behind a tree of too many parts, finds nothing pending
+-- No tree is pending before a part that has a label, begins the exit code, or follows a tree with too many parts.
 abbrev pub before_part : Part → Growing → Growing
 before_part p g = if is_reached p.place || is_full (lefts_of g.pending) then closed g else g
 
@@ -200,6 +201,6 @@ abbrev pub grown_all : List Part → Growing → Growing
 grown_all [] g = g
 grown_all (p ∷ ps) g = grown_all ps (grown p (before_part p g))
 
--- The statements of a stretch of code, the last one first.
+-- The statements of code, the last one first.
 unfoldable pub statements : List Part → Forest
 statements ps = (closed (grown_all ps (record { done = Bare; pending = Bare }))).done

@@ -1,4 +1,4 @@
-//! Statements that lead back, or by a value.
+//! Statements that jump back, and case jumps.
 
 ghost use Rattle.std.specs.Prelude.{◌≡◌, ◌<◌, ◌==◌, ℕ, List, length, if◌then◌else◌, IfOk, OnOk};
 ghost use Rattle.pm_trees.specs.Backs as backs;
@@ -8,26 +8,26 @@ ghost use Rattle.pm_trees.specs.Backs.Way.{Always, ByCondition, ByValue};
 use crate::statement::{Leads, Statement};
 use std::alloc::{AllocError, Global};
 
-/// Where the last statements end that lead back to where a statement begins, or by a value from where it leads; 0 where
-/// none does.
+/// Ends of statements that jump back to the beginning of a statement, and the end of the case jump at its target. An
+/// end is 0 if there is no such statement.
 #[derive(Clone, Copy, Drop)]
 pub struct Loops {
-    /// The last one by a condition.
+    /// The end of the last statement that jumps back by a condition.
     pub by_condition: usize,
-    /// The last one that always does.
+    /// The end of the last statement that always jumps back.
     pub always: usize,
-    /// The last one by a value.
+    /// The end of the case jump.
     pub by_value: usize,
 }
 
-/// A place that is not behind this one.
+/// Returns `place` if it is not after `at`.
 fn back_to(place: usize, at: usize) -> Option<usize>
     ensures place { result ≡ backs.back_to place at }
 {
     if place <= at { Some(place) } else { None }
 }
 
-/// Makes room for a place.
+/// Extends `ends` with zeros so that it has an entry for `place`.
 #[tactic(auto, using(crate::proofs::BlockEnds::has_more))]
 fn make_room(ends: &mut Vec<usize>, place: usize) -> Result<(), AllocError>
     ensures same { OnOk result ((p : ℕ) → backs.written ends.new.items p ≡ backs.written ends.old.items p) }
@@ -42,7 +42,7 @@ fn make_room(ends: &mut Vec<usize>, place: usize) -> Result<(), AllocError>
     Ok(())
 }
 
-/// Writes an end for a place.
+/// Sets the end for an offset.
 #[tactic(auto, using(crate::proofs::BlockEnds::has_set))]
 fn set_end(ends: &mut Vec<usize>, place: usize, end: usize) -> Result<(), AllocError>
     ensures set { OnOk result ((p : ℕ) → backs.written ends.new.items p
@@ -53,7 +53,7 @@ fn set_end(ends: &mut Vec<usize>, place: usize, end: usize) -> Result<(), AllocE
     Ok(())
 }
 
-/// Writes the end of a statement for the place to which it leads back, if it does.
+/// Sets the end for the offset `back`, if there is one.
 fn add_end(ends: &mut Vec<usize>, back: Option<usize>, behind: usize) -> Result<(), AllocError>
     ensures added { OnOk result ((p : ℕ) → backs.written ends.new.items p
         ≡ backs.later_end p (backs.written ends.old.items p) back behind) }
@@ -64,14 +64,14 @@ fn add_end(ends: &mut Vec<usize>, back: Option<usize>, behind: usize) -> Result<
     }
 }
 
-/// The end that is written for a place.
+/// Returns the end for an offset, or 0 if it has none.
 fn end_at(ends: &[usize], place: usize) -> usize
     ensures end { result ≡ backs.written ends.now place }
 {
     ends.get(place).copied().unwrap_or(0)
 }
 
-/// Where a statement leads; 0 for nowhere, or by a value.
+/// Returns the target of a jump, or 0 if the statement does not jump or jumps by a value.
 pub(crate) fn place_of(leads: Leads) -> usize
     ensures place { result ≡ backs.place_of leads }
 {
@@ -81,18 +81,19 @@ pub(crate) fn place_of(leads: Leads) -> usize
     }
 }
 
-/// For each place where the last statements end that lead back to it, or from it by a value.
+/// For each offset, the ends of the last statements that jump back to it, and of the case jump at it.
 #[derive(Drop)]
 pub(crate) struct Backs {
-    /// The last ones by a condition.
+    /// The ends of those that jump by a condition.
     by_condition: Vec<usize>,
-    /// The last ones that always do.
+    /// The ends of those that always jump.
     always: Vec<usize>,
-    /// The last ones by a value.
+    /// The ends of the case jumps.
     by_value: Vec<usize>,
 }
 
-/// Writes the end of a statement for the place to which it leads back, or from which it leads by a value.
+/// Sets the end of a statement for the offset to which it jumps back. For a case jump, the offset is that of its
+/// beginning.
 fn add_statement(ends: &mut Backs, statement: &Statement) -> Result<(), AllocError>
     ensures by_condition { OnOk result ((p : ℕ) → backs.written ends.new.by_condition.items p
         ≡ backs.later_end p (backs.written ends.old.by_condition.items p)
@@ -116,7 +117,7 @@ fn add_statement(ends: &mut Backs, statement: &Statement) -> Result<(), AllocErr
 impl Backs {
     ghost use Rattle.pm_trees.specs.Backs.{IsOf};
 
-    /// Those of statements.
+    /// Returns the ends for a list of statements.
     pub(crate) fn of(alloc: Global, statements: &[Statement]) -> Result<Backs, AllocError>
         ensures of { IfOk result (λ backs. IsOf backs statements.now) }
     {
@@ -131,7 +132,7 @@ impl Backs {
         Ok(ends)
     }
 
-    /// The loops that begin where a statement does, and the CASE to which it leads.
+    /// Returns the ends of the loops that begin where a statement begins, and of the case jump at its target.
     pub(crate) fn loops_at(&self, statement: &Statement) -> Loops
         ensures loops { (all : List Statement) → IsOf self.now all → result ≡ backs.loops_at all statement.now }
     {

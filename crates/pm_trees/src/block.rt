@@ -1,33 +1,33 @@
-//! Blocks that are open at a place.
+//! Open blocks.
 
 ghost use Rattle.std.specs.Prelude.{◌≡◌, reverse};
 ghost use Rattle.pm_trees.specs.Blocks as blocks;
 
-/// What a block is.
+/// The kind of a block.
 #[derive(Clone, Copy, Drop)]
 pub enum Kind {
-    /// What is done if a condition holds.
+    /// The part of a choice that is executed if the condition is true.
     If,
-    /// What is done if it does not hold.
+    /// The part of a choice that is executed if the condition is false.
     Else,
-    /// A loop that begins with its condition, at a place.
+    /// A loop that begins with its condition, at this offset.
     While(usize),
-    /// A loop that ends with its condition, from a place on.
+    /// A loop that begins at this offset and ends with its condition.
     Repeat(usize),
-    /// What is done by a value, up to behind the statement at a place that leads there.
+    /// The branches of a CASE. The case jump at this offset ends the block.
     Case(usize),
 }
 
-/// A block, and the place behind it.
+/// A block and its end.
 #[derive(Clone, Copy, Drop)]
 pub struct Block {
-    /// What it is.
+    /// Its kind.
     pub kind: Kind,
-    /// The place behind it.
+    /// The offset after its last byte.
     pub end: usize,
 }
 
-/// Whether its last statement closes it.
+/// Whether the last statement of a block of this kind closes it.
 pub(crate) fn closes_itself(kind: Kind) -> bool
     ensures value { result ≡ blocks.closes_itself kind }
 {
@@ -37,7 +37,8 @@ pub(crate) fn closes_itself(kind: Kind) -> bool
     }
 }
 
-/// Whether a block up to an end lies within the innermost of those that are open; within the code, where none is.
+/// Whether a block that ends at `end` is inside the innermost open block, or inside the code if no block is open. The
+/// last item of `nest` is the innermost block.
 #[tactic(auto, using(crate::proofs::Lists::reverse_pushed))]
 pub(crate) fn fits(limit: usize, end: usize, nest: &[Block]) -> bool
     ensures value { result ≡ blocks.fits limit end (reverse nest.now) }

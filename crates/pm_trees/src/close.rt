@@ -1,4 +1,4 @@
-//! Blocks that end at a place.
+//! Blocks that end at an offset.
 
 ghost use Rattle.std.specs.Prelude.{◌≡◌, ◌++◌, reverse, IfOk, OnOk};
 ghost use Rattle.pm_trees.specs.Blocks as blocks;
@@ -7,7 +7,7 @@ use crate::block::{Block, Kind, closes_itself};
 use crate::line::{Line, Word};
 use std::alloc::AllocError;
 
-/// Whether the innermost block ends at a place or before it.
+/// Whether the innermost block ends at `at` or before it.
 #[tactic(auto, using(crate::proofs::Lists::reverse_pushed))]
 fn has_ended(nest: &[Block], at: usize) -> bool
     ensures value { result ≡ blocks.has_ended at (reverse nest.now) }
@@ -18,14 +18,14 @@ fn has_ended(nest: &[Block], at: usize) -> bool
     }
 }
 
-/// Whether a block ends right there, and by no statement of its own.
+/// Whether a block ends exactly at `at`, and not by a statement of its own.
 fn ends_here(block: Block, at: usize) -> bool
     ensures value { result ≡ blocks.ends_here at block }
 {
     !closes_itself(block.kind) && block.end == at
 }
 
-/// Adds a line for the end of a choice.
+/// Appends an END line if the block is a part of a choice.
 fn push_end(lines: &mut Vec<Line>, kind: Kind, at: usize) -> Result<(), AllocError>
     ensures lines { OnOk result (lines.new.items ≡ lines.old.items ++ blocks.end_line at kind) }
 {
@@ -39,7 +39,8 @@ fn push_end(lines: &mut Vec<Line>, kind: Kind, at: usize) -> Result<(), AllocErr
     Ok(())
 }
 
-/// Closes the blocks that end at a place or before it, and tells whether each ends right there.
+/// Closes the blocks that end at `at` or before it. Returns whether all of them are choices that end exactly there.
+/// Other blocks are closed by their own statement.
 #[tactic(auto, using(crate::proofs::Closing::closing_done))]
 pub(crate) fn close_ended(
     lines: &mut Vec<Line>,

@@ -1,4 +1,4 @@
-//! How many trees are operands.
+//! The number of trees that are operands.
 
 ghost use Rattle.std.specs.Prelude.{◌≡◌, ◌≤◌, ◌+◌, length, reverse};
 ghost use Rattle.pm_trees.specs.Piles.{leaves_left};
@@ -9,7 +9,7 @@ use crate::part::{Leaves, Takes};
 use pm_effects::Share;
 use pm_phrases::Missing;
 
-/// How many words, none of a set, of which the count is not known.
+/// Returns the number of words that are left. For a set it is 0, because its size is not known.
 fn words_left(leaves: Leaves) -> u16
     ensures value { result ≡ trees.words_left leaves }
 {
@@ -20,7 +20,7 @@ fn words_left(leaves: Leaves) -> u16
     }
 }
 
-/// Whether it is a set.
+/// Whether a set is left.
 fn is_set(leaves: Leaves) -> bool
     ensures value { result ≡ trees.is_set leaves }
 {
@@ -30,21 +30,21 @@ fn is_set(leaves: Leaves) -> bool
     }
 }
 
-/// Whether a tree that leaves this may be taken, where so many words are wanted.
+/// Whether a tree can be an operand if `words` words are still needed.
 fn is_operand(words: u16, leaves: Leaves) -> bool
     ensures value { result ≡ trees.is_operand words leaves }
 {
     words != 0 && !is_set(leaves) && words_left(leaves) <= words
 }
 
-/// How many trees are taken, and how many words are missing.
+/// The number of trees that are operands, and the number of missing words.
 #[derive(Clone, Copy)]
 pub(crate) struct CountWords {
     pub trees: usize,
     pub missing: u16,
 }
 
-/// As many of the last trees as leave no more than so many words.
+/// Counts the last trees that together leave at most `words` words.
 #[tactic(auto, using(crate::proofs::Ends::reverse_pushed, crate::proofs::Ends::operand_fits), unfolding(crate::specs::Trees::words_count))]
 pub(crate) fn count_words(operands: &[Left], words: u16) -> CountWords
     ensures trees { result.trees ≡ (trees.words_count words (leaves_left (reverse operands.now))).trees }
@@ -71,14 +71,15 @@ pub(crate) fn count_words(operands: &[Left], words: u16) -> CountWords
     }
 }
 
-/// How many trees are taken, and what is missing.
+/// The number of trees that are operands, and the missing share.
 #[derive(Clone, Copy)]
 pub(crate) struct CountShare {
     pub trees: usize,
     pub missing: Share,
 }
 
-/// A set: a tree that leaves one, or words and a constant that counts them.
+/// Counts the last trees that are a set. A set is one tree that leaves a set, or words followed by a constant that
+/// counts them.
 #[tactic(auto, using(crate::proofs::Ends::reverse_pushed), unfolding(crate::specs::Trees::set_count))]
 fn count_set(operands: &[Left]) -> CountShare
     ensures trees { result.trees ≡ (trees.set_count (leaves_left (reverse operands.now))).trees }
@@ -111,7 +112,7 @@ fn count_set(operands: &[Left]) -> CountShare
     }
 }
 
-/// How many of the last trees are taken as a share.
+/// Counts the last trees that are operands for a share.
 #[tactic(auto, using(crate::proofs::Ends::no_words), unfolding(crate::specs::Trees::share_count))]
 fn count_share(operands: &[Left], share: Share) -> CountShare
     ensures trees { result.trees ≡ (trees.share_count share (leaves_left (reverse operands.now))).trees }
@@ -134,14 +135,14 @@ fn count_share(operands: &[Left], share: Share) -> CountShare
     }
 }
 
-/// How many trees are taken, and what of it is missing.
+/// The number of trees that are operands, and what is missing.
 #[derive(Clone, Copy)]
 pub(crate) struct Count {
     pub trees: usize,
     pub missing: Missing,
 }
 
-/// Whether it is no word.
+/// Whether a share is 0 words.
 fn is_none(share: Share) -> bool
     ensures value { result ≡ trees.is_none share }
 {
@@ -151,7 +152,7 @@ fn is_none(share: Share) -> bool
     }
 }
 
-/// How many of the last trees a part takes.
+/// Counts the last trees that are operands of a part.
 #[tactic(auto, using(crate::proofs::Ends::reverse_without, crate::proofs::Ends::leaves_dropped), unfolding(crate::specs::Trees::takes_count))]
 pub(crate) fn count_takes(operands: &[Left], takes: Takes) -> Count
     ensures trees { result.trees ≡ (trees.takes_count takes (leaves_left (reverse operands.now))).trees }
@@ -187,7 +188,7 @@ pub(crate) fn none_missing(missing: Missing) -> bool
     is_none(missing.top) && is_none(missing.below)
 }
 
-/// Whether a part leaves nothing.
+/// Whether a part leaves nothing on the stack.
 pub fn leaves_nothing(leaves: Leaves) -> bool
     ensures value { result ≡ trees.leaves_nothing leaves }
 {

@@ -1,4 +1,4 @@
-//! Parts of code, one after another, as statements.
+//! Builds statements from the parts of code.
 
 ghost use Rattle.std.specs.Prelude.{◌≡◌, ◌≤◌, ◌<◌, ◌-◌, ◌^◌, suc, if◌then◌else◌};
 ghost use Rattle.std.specs.Prelude.{drop, length, reverse, IfOk, OnOk};
@@ -12,7 +12,7 @@ use crate::pile::{Pile, last_of};
 use pm_phrases::{Around, Phrase, phrase};
 use std::alloc::{AllocError, Global};
 
-/// The phrase of a part behind the last of some trees, as it takes them.
+/// Returns the phrase of a part whose operands are the last trees of `operands`.
 #[tactic(auto, using(crate::proofs::Ends::last_again, crate::proofs::Ends::reverse_last))]
 fn phrase_by(
     alloc: Global,
@@ -28,7 +28,8 @@ fn phrase_by(
     phrase(alloc, around, part.item, part.known, count.missing, phrases)
 }
 
-/// How many of the last trees a part finds pending: none where something leads to it, or where the last one is full.
+/// Returns the number of pending trees before a part. It is 0 if the part has a label or begins the exit code, or if
+/// the last tree is full. Otherwise it is `pending`.
 #[tactic(auto, using(crate::proofs::Ends::reverse_last, crate::proofs::Written::none_pending))]
 fn before_part(part: &Part<'_>, trees: &Pile, pending: usize) -> usize
     ensures texts { texts.texts_in trees.now result ≡ texts.before_text part.now (texts.texts_in trees.now pending) }
@@ -41,7 +42,7 @@ fn before_part(part: &Part<'_>, trees: &Pile, pending: usize) -> usize
     }
 }
 
-/// How many of the last trees are pending once a part stands behind its operands.
+/// Returns the number of pending trees after a part and its operands were added.
 fn pending_after(leaves: Leaves, count: Count, pending: usize) -> usize
     requires few { count.trees ≤ pending }
     requires room { pending < 2 ^ 63 }
@@ -57,7 +58,7 @@ fn pending_after(leaves: Leaves, count: Count, pending: usize) -> usize
     }
 }
 
-/// Adds a part of code, which takes the last of what is pending.
+/// Adds a part of code. Its operands are the last of the pending trees.
 #[tactic(auto, using(crate::proofs::Ends::reverse_last))]
 fn add(
     alloc: Global,
@@ -79,7 +80,7 @@ fn add(
     trees.push(left, phrase)
 }
 
-/// The statements of code, with their phrases.
+/// Returns the statements of code, with their phrases.
 #[tactic(auto, using(crate::proofs::Written::text_grows), unfolding(crate::specs::Piles::added_all))]
 pub fn statements(alloc: Global, around: Around, parts: &[Part<'_>]) -> Result<Pile, AllocError>
     ensures statements { IfOk result (λ pile. pile ≡ texts.pile_of around (trees.statements parts.now)) }

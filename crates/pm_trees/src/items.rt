@@ -14,25 +14,25 @@ use pm_opcode::{Instr, Operation};
 use pm_phrases::condition_of;
 use std::marker::Model;
 
-/// How statements stand.
+/// How statements are laid out.
 #[derive(Clone, Copy, Drop)]
 pub enum Layout {
-    /// Each at the front of its line.
+    /// Each statement begins at the start of its line.
     Flat,
-    /// Each behind blanks by how deep it is.
+    /// Each statement is indented by its depth.
     Indented,
-    /// In blocks.
+    /// Statements are shown in blocks.
     Blocks,
 }
 
-/// What is known of procedures, and how their statements stand.
+/// What is known about the procedures of the code, and how their statements are laid out.
 #[derive(Drop)]
 pub struct Known<'a> {
     /// The segment of the code.
     pub segment: u8,
-    /// The procedures, 256 for each segment.
+    /// The procedures by their index, which is 256 times the segment plus the procedure number.
     pub callees: &'a [Option<Callee>],
-    /// How their statements stand.
+    /// How their statements are laid out.
     pub layout: Layout,
 }
 
@@ -44,7 +44,7 @@ impl<'a> Model for Known<'a> {
     ghost view = { λ k. record { segment = k.segment; callees = k.callees.now; layout = k.layout } };
 }
 
-/// Where the procedure that is called stands in the table.
+/// Returns the index of the called procedure in the table.
 fn callee_index(segment: u8, what: Call) -> usize
     ensures value { result ≡ parts.callee_index segment what }
 {
@@ -55,7 +55,7 @@ fn callee_index(segment: u8, what: Call) -> usize
     256 * usize::from(segment) + usize::from(procedure)
 }
 
-/// What a call takes and leaves.
+/// Returns the stack effect of a call, or `None` if the called procedure is not known.
 fn call_effect(known: &Known<'_>, what: Call) -> Option<Effect>
     ensures value { result ≡ parts.call_effect known.now what }
 {
@@ -73,7 +73,7 @@ fn call_effect(known: &Known<'_>, what: Call) -> Option<Effect>
     }
 }
 
-/// What an instruction takes and leaves, where that is known.
+/// Returns the stack effect of an instruction, or `None` if it is not known.
 fn effect_by(known: &Known<'_>, what: Operation, instr: &Instr) -> Option<Effect>
     requires what { what ≡ operation_of instr.now }
     ensures value { result ≡ parts.effect_by known.now what instr.now }
@@ -87,7 +87,7 @@ fn effect_by(known: &Known<'_>, what: Operation, instr: &Instr) -> Option<Effect
     }
 }
 
-/// What is taken, where an effect is known.
+/// Returns what is taken by an effect. Without an effect, this is nothing.
 fn takes_of(effect: Option<Effect>) -> Takes
     ensures value { result ≡ parts.takes_of effect }
 {
@@ -103,7 +103,7 @@ fn takes_of(effect: Option<Effect>) -> Takes
     }
 }
 
-/// What is left, where an effect is known.
+/// Returns what is left by an effect. Without an effect, this is 0 words.
 fn leaves_effect(effect: Option<Effect>) -> Leaves
     ensures value { result ≡ parts.leaves_effect effect }
 {
@@ -116,7 +116,7 @@ fn leaves_effect(effect: Option<Effect>) -> Leaves
     }
 }
 
-/// What an operation leaves.
+/// Returns what an operation leaves on the stack.
 fn leaves_by(what: Operation, effect: Option<Effect>) -> Leaves
     ensures value { result ≡ parts.leaves_by what effect }
 {
@@ -132,7 +132,7 @@ fn leaves_by(what: Operation, effect: Option<Effect>) -> Leaves
     }
 }
 
-/// Whether it is known what an operation takes.
+/// Whether the stack input of an operation is known. It is unknown for calls and standard procedures without an effect.
 fn is_known(what: Operation, effect: Option<Effect>) -> bool
     ensures value { result ≡ parts.is_known what effect }
 {
@@ -142,7 +142,7 @@ fn is_known(what: Operation, effect: Option<Effect>) -> bool
     }
 }
 
-/// What an operation is.
+/// Returns the role of an operation that is no jump.
 fn operation_role(what: Operation) -> Role
     ensures value { result ≡ parts.operation_role what }
 {
@@ -153,7 +153,7 @@ fn operation_role(what: Operation) -> Role
     }
 }
 
-/// What a jump is.
+/// Returns the role of a jump.
 fn jump_role(condition: Option<Condition>, target: Target<usize>) -> Role
     ensures role { result ≡ parts.jump_role condition target }
 {
@@ -163,7 +163,7 @@ fn jump_role(condition: Option<Condition>, target: Target<usize>) -> Role
     }
 }
 
-/// What the operation of an item is, whose instruction does this.
+/// Returns the role of an item whose instruction has the operation `what`.
 fn role_by(what: Operation, item: &Item<usize>) -> Role
     ensures value { result ≡ parts.role_by what (placed_item item.now) }
 {
@@ -176,7 +176,7 @@ fn role_by(what: Operation, item: &Item<usize>) -> Role
     }
 }
 
-/// An instruction as a part.
+/// Returns the part for an item with the instruction `instr`.
 fn instruction_part<'a>(
     known: &Known<'_>,
     item: &'a Item<usize>,
@@ -198,7 +198,7 @@ fn instruction_part<'a>(
     }
 }
 
-/// An item as a part of statements.
+/// Returns an item as a part of statements.
 pub fn part_of<'a>(known: &Known<'_>, item: &'a Item<usize>, place: Place) -> Part<'a>
     ensures part { result ≡ parts.part_of known.now (placed_item item.now) place }
 {

@@ -1,4 +1,4 @@
-//! What is seen of a tree that something may take.
+//! The summary of a tree that may become an operand.
 
 ghost use Rattle.std.specs.Prelude.{◌≡◌, reverse};
 ghost use Rattle.pm_trees.specs.Parts.{is_reached};
@@ -8,38 +8,38 @@ use crate::part::{Leaves, Part, Place};
 use pm_code::Target;
 use pm_families::Condition;
 
-/// What the operation of a tree is.
+/// The role of a tree's operation.
 #[derive(Clone, Copy, Drop)]
 pub enum Role {
-    /// A call of a procedure.
+    /// A procedure call.
     Call,
-    /// The check of input and output.
+    /// The I/O check.
     Check,
-    /// A jump, when it is taken and where it leads.
+    /// A jump: its condition and its target.
     Jump(Condition, Target<usize>),
-    /// A jump by a value.
+    /// A case jump.
     Case,
-    /// Something else.
+    /// Any other operation.
     Other,
 }
 
-/// What a tree leaves, where it begins, and how many parts it has.
+/// The summary of a tree: what it leaves, where it begins, how many parts it has, and its role.
 #[derive(Clone, Copy, Drop)]
 pub struct Left {
     /// What it leaves on the stack.
     pub leaves: Leaves,
     /// The place of its first part.
     pub place: Place,
-    /// How many parts it has, 101 where they are more than a hundred.
+    /// The number of its parts. The value 101 means more than 100.
     pub parts: u8,
-    /// What its operation is.
+    /// The role of its operation.
     pub role: Role,
 }
 
-/// A tree of more parts than this is a statement, even if it leaves something.
+/// The maximum number of parts of an operand. A tree with more parts is a statement, even if it leaves something.
 const MOST_PARTS: u8 = 100;
 
-/// How many parts; one more than the most stands for all that are more.
+/// Returns the number of parts, limited to `MOST_PARTS + 1`.
 fn capped(count: u16) -> u8
     ensures value { result ≡ trees.capped count }
 {
@@ -50,7 +50,7 @@ fn capped(count: u16) -> u8
     }
 }
 
-/// How many parts these trees have together.
+/// Returns the total number of parts of these trees, limited to `MOST_PARTS + 1`.
 #[tactic(auto, using(crate::proofs::Ends::reverse_pushed))]
 fn parts_left(lefts: &[Left]) -> u8
     ensures value { result ≡ trees.parts_left (reverse lefts.now) }
@@ -61,7 +61,7 @@ fn parts_left(lefts: &[Left]) -> u8
     capped(u16::from(last.parts) + u16::from(parts_left(before)))
 }
 
-/// The place of the first of these trees; that of the part itself, where there is none.
+/// Returns the place of the first of these trees, or `place` if there are none.
 #[tactic(auto, using(crate::proofs::Ends::first_place_first))]
 fn first_place(place: Place, operands: &[Left]) -> Place
     ensures place { result ≡ trees.first_place place (reverse operands.now) }
@@ -72,7 +72,7 @@ fn first_place(place: Place, operands: &[Left]) -> Place
     }
 }
 
-/// What is seen of a part behind its operands.
+/// Returns the summary of a part with its operands.
 #[tactic(auto, unfolding(crate::specs::Trees::left_by))]
 pub(crate) fn left_by(part: &Part<'_>, operands: &[Left]) -> Left
     ensures left { result ≡ trees.left_by part.now (reverse operands.now) }
@@ -85,7 +85,7 @@ pub(crate) fn left_by(part: &Part<'_>, operands: &[Left]) -> Left
     }
 }
 
-/// Whether something leads to a place.
+/// Whether a place has a label or begins the exit code.
 pub fn is_reached(place: Place) -> bool
     ensures value { result ≡ is_reached place }
 {

@@ -1,5 +1,7 @@
-//! Code as statements: each a tree of operations on their operands, with its phrase; and statements, each of which may
-//! lead to another place, in blocks: IF, ELSE, WHILE, REPEAT and CASE.
+//! Code as statements, and statements in blocks.
+//!
+//! A statement is a tree of operations on their operands, with its phrase. Statements may jump to other statements.
+//! Blocks show these jumps as IF, ELSE, WHILE, REPEAT and CASE.
 #![tactic(auto)]
 
 mod backs;

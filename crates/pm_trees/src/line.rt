@@ -2,41 +2,42 @@
 
 use crate::statement::Leads;
 
-/// What a line is.
+/// The keyword of a line.
 #[derive(Clone, Copy, Drop)]
 pub enum Word {
-    /// A statement that opens and closes nothing, and where it leads.
+    /// A statement that opens and closes no block, and its jump.
     Plain(Leads),
-    /// The condition of a choice: behind it what is done if it holds.
+    /// The condition of a choice. The next lines are executed if it is true.
     If,
-    /// The statement that ends what is done if the condition holds; behind it what is done else.
+    /// The jump that ends the first part of a choice. The next lines are executed if the condition is false.
     Else,
-    /// The condition of a loop: behind it what is done as long as it holds.
+    /// The condition of a loop. The next lines are repeated as long as it is true.
     While,
-    /// The statement that leads back to the condition of a loop.
+    /// The jump back to the condition of a loop.
     EndWhile,
-    /// The begin of a loop, no statement.
+    /// The beginning of a loop. It is no statement.
     Repeat,
-    /// The condition by which a loop ends.
+    /// The condition that ends a loop.
     Until,
-    /// The statement that leads to the end of what is done by a value.
+    /// The jump to the case jump at the end of a CASE.
     Case,
-    /// One that leads behind that.
+    /// A jump to the end of a CASE.
     Leave,
-    /// The statement at its end, that leads by the value.
+    /// The case jump at the end of a CASE.
     EndCase,
-    /// The end of a choice, no statement.
+    /// The end of a choice. It is no statement.
     End,
 }
 
 /// A line.
 #[derive(Clone, Copy, Drop)]
 pub struct Line {
-    /// What it is.
+    /// Its keyword.
     pub word: Word,
-    /// Where its statement begins; the place of a line that is no statement.
+    /// The offset of its statement. A line without a statement has the offset of the next statement or the end of the
+    /// code.
     pub at: usize,
-    /// Where its statement ends.
+    /// The offset after its statement, or `at` if the line has no statement.
     pub behind: usize,
 }
 
@@ -44,14 +45,14 @@ impl Word {
     ghost use Rattle.std.specs.Prelude.{◌≡◌, ◌≤◌, IfSome, IsSome};
     ghost use Rattle.pm_trees.specs.Lines as lines;
 
-    /// Whether it stands for no statement.
+    /// Whether a line with this keyword has no statement.
     pub fn is_extra(self) -> bool
         ensures value { result ≡ lines.is_extra self }
     {
         matches!(self, Word::Repeat | Word::End)
     }
 
-    /// How deep its line stands, where so many blocks are open before it.
+    /// Returns the depth of a line with this keyword if `blocks` blocks are open before it.
     pub fn depth_at(self, blocks: usize) -> usize
         ensures depth { result ≡ lines.depth_at self blocks }
     {
@@ -64,7 +65,8 @@ impl Word {
         }
     }
 
-    /// How many blocks are open behind it. None exactly where they are more than can be counted.
+    /// Returns the number of open blocks after a line with this keyword. Returns `None` only if the number exceeds 64
+    /// bits.
     pub fn depth_behind(self, blocks: usize) -> Option<usize>
         ensures depth { IfSome result (λ depth. depth ≡ lines.depth_behind self blocks) }
         ensures counted { lines.depth_behind self blocks ≤ 18446744073709551615 → IsSome result }

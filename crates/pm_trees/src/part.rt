@@ -5,60 +5,60 @@ use pm_code::Item;
 use pm_effects::Share;
 use std::marker::Model;
 
-/// A procedure that is called, of which the sizes are known.
+/// A procedure whose parameter and result sizes are known.
 #[derive(Clone, Copy)]
 pub struct Callee {
-    /// The words of its parameters.
+    /// The size of its parameters, in words.
     pub parameters: u8,
-    /// The words of its result.
+    /// The size of its result, in words.
     pub results: u8,
 }
 
 /// What a part of code leaves on the stack.
 #[derive(Clone, Copy, Drop)]
 pub enum Leaves {
-    /// So many words.
+    /// This number of words.
     Words(u16),
-    /// A word that may count the words of a set.
+    /// A constant word that may be the size of a set, in words.
     Constant(u8),
     /// A set.
     Set,
 }
 
-/// What a part takes off the stack, the top first.
+/// What a part takes from the stack.
 #[derive(Clone, Copy)]
 pub struct Takes {
-    /// What it takes first.
+    /// The share at the top of the stack.
     pub top: Share,
-    /// What it takes below that.
+    /// The share below that.
     pub below: Share,
 }
 
-/// A place of the code.
+/// A place in the code.
 #[derive(Clone, Copy, Drop)]
 pub struct Place {
     /// Its offset in the segment.
     pub offset: usize,
-    /// Whether a jump or an entry names it.
+    /// Whether a jump or a procedure entry refers to it.
     pub has_label: bool,
     /// Whether the exit code begins here.
     pub is_exit: bool,
 }
 
-/// A part of code.
+/// A part of code: an item with its role and its stack effect.
 #[derive(Drop)]
 pub struct Part<'a> {
     /// Its item.
     pub item: &'a Item<usize>,
-    /// Where it stands.
+    /// Its place.
     pub place: Place,
-    /// What its operation is.
+    /// The role of its operation.
     pub role: Role,
-    /// What it takes off the stack.
+    /// What it takes from the stack.
     pub takes: Takes,
-    /// What it leaves there.
+    /// What it leaves on the stack.
     pub leaves: Leaves,
-    /// Whether that is known.
+    /// Whether its stack effect is known.
     pub known: bool,
 }
 

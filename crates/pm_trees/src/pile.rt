@@ -1,4 +1,4 @@
-//! Trees as their phrases, and what is seen of each.
+//! Trees as phrases and summaries.
 
 ghost use Rattle.std.specs.Prelude.{◌≡◌, ◌-◌, drop, length, IfOk, OnOk};
 ghost use Rattle.pm_trees.specs.Piles as texts;
@@ -8,12 +8,12 @@ use pm_phrases::Phrase;
 use std::alloc::{AllocError, Global};
 use std::marker::Model;
 
-/// Trees side by side, the first one first.
+/// A list of trees, the first one first.
 #[derive(Drop)]
 pub struct Pile {
-    /// What is seen of each.
+    /// The summary of each tree.
     pub lefts: Vec<Left>,
-    /// The phrase of each.
+    /// The phrase of each tree.
     pub phrases: Vec<Phrase>,
 }
 
@@ -27,7 +27,7 @@ impl Model for Pile {
 }
 
 impl Pile {
-    /// No trees, with room for so many.
+    /// Creates an empty list with capacity for `trees` trees.
     pub(crate) fn with_room(alloc: Global, trees: usize) -> Result<Pile, AllocError>
         ensures none { IfOk result (λ pile. pile ≡ texts.no_trees) }
     {
@@ -37,7 +37,7 @@ impl Pile {
         })
     }
 
-    /// Puts a tree behind these.
+    /// Appends a tree.
     #[tactic(auto, using(crate::proofs::Ends::reverse_pushed))]
     pub(crate) fn push(&mut self, left: Left, phrase: Phrase) -> Result<(), AllocError>
         ensures behind { OnOk result (self.new ≡ texts.upon_all left phrase self.old) }
@@ -47,7 +47,7 @@ impl Pile {
         Ok(())
     }
 
-    /// Takes the last trees away, so many of them.
+    /// Removes the last `count` trees.
     #[tactic(auto, using(crate::proofs::Ends::reverse_without))]
     pub(crate) fn drop_last(&mut self, count: usize)
         ensures rest { self.new ≡ texts.rest_of count self.old }
@@ -61,7 +61,7 @@ impl Pile {
     }
 }
 
-/// The last of a list, so many.
+/// Returns the last `count` items of a list, or the whole list if it has fewer.
 pub(crate) fn last_of<T>(list: &[T], count: usize) -> &[T]
     ensures last { result.now ≡ drop (length list.now - count) list.now }
 {

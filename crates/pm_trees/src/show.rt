@@ -12,10 +12,10 @@ use crate::statement::Statement;
 use crate::step::{open_behind, open_repeat, word_by};
 use std::alloc::{AllocError, Global};
 
-/// Of how many statements there is room for a line more, that ends a block.
+/// The number of statements for which the capacity includes one additional line.
 const BLOCK: usize = 8;
 
-/// The place behind the last statement.
+/// Returns the offset after the last statement, or 0 if there is none.
 #[tactic(auto, using(crate::proofs::Lists::end_behind_last))]
 fn code_end(statements: &[Statement]) -> usize
     ensures end { result ≡ blocks.code_end statements.now }
@@ -26,7 +26,8 @@ fn code_end(statements: &[Statement]) -> usize
     }
 }
 
-/// Adds the lines of a statement, and tells whether each block that ends before it ends right there.
+/// Appends the lines of a statement. Returns whether all blocks that end before the statement are choices that end
+/// exactly where it begins.
 fn add(
     lines: &mut Vec<Line>,
     nest: &mut Vec<Block>,
@@ -60,21 +61,21 @@ fn none_open(nest: &[Block]) -> bool
     nest.last().is_none()
 }
 
-/// Whether both are so.
+/// Whether both are true.
 fn both(one: bool, other: bool) -> bool
     ensures value { result ≡ (one && other) }
 {
     one && other
 }
 
-/// Lines, and whether each block ends as its jump says.
+/// Lines, and whether each block ends exactly at the target of its jump.
 #[derive(Drop)]
 struct Tried {
     lines: Vec<Line>,
     right: bool,
 }
 
-/// The lines of statements.
+/// Returns the lines of statements.
 fn try_blocks(alloc: Global, statements: &[Statement]) -> Result<Tried, AllocError>
     ensures lines { IfOk result (λ t. t.lines.items
         ≡ blocks.lines_from (blocks.code_end statements.now) statements.now [] statements.now) }
@@ -99,8 +100,10 @@ fn try_blocks(alloc: Global, statements: &[Statement]) -> Result<Tried, AllocErr
     Ok(Tried { lines, right })
 }
 
-/// Statements in blocks, each on a line of its own, in their order; none, where a block would end elsewhere than the
-/// jump says that leads around it. What is given says the statements, by its brackets alone.
+/// Returns statements in blocks. Each statement has a line, in the original order. The statements can be recovered from
+/// the lines (`expanded`).
+///
+/// Returns `None` if a block would not end at the target of the jump around it.
 #[tactic(auto, using(crate::proofs::Read::read_back), unfolding(crate::specs::Blocks::blocks))]
 pub fn blocks(alloc: Global, statements: &[Statement]) -> Result<Option<Vec<Line>>, AllocError>
     ensures blocks { IfOk result (λ o. option_map (λ ls. ls.items) o ≡ blocks.blocks statements.now) }

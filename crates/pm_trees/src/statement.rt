@@ -1,15 +1,15 @@
-//! Statements as stretches of code.
+//! Statements as ranges of code.
 
-/// Where a statement leads, beside the next one.
+/// Where a statement jumps, apart from the next statement.
 #[derive(Clone, Copy, Drop)]
 pub enum Leads {
-    /// Nowhere.
+    /// It does not jump.
     Nowhere,
-    /// To a place, by a condition.
+    /// To an offset, if a condition holds.
     ByCondition(usize),
-    /// To a place, always.
+    /// To an offset, always.
     Always(usize),
-    /// To one of several places, by a value.
+    /// To one of several offsets, by a value (case jump).
     ByValue,
 }
 
@@ -18,8 +18,8 @@ pub enum Leads {
 pub struct Statement {
     /// The offset of its first byte.
     pub at: usize,
-    /// The offset behind its last one.
+    /// The offset after its last byte.
     pub behind: usize,
-    /// Where it leads.
+    /// Where it jumps.
     pub leads: Leads,
 }

@@ -1,4 +1,4 @@
-//! One statement more.
+//! The lines and blocks of one statement.
 
 ghost use Rattle.std.specs.Prelude.{◌≡◌, ◌++◌, reverse, IfOk, OnOk};
 ghost use Rattle.pm_trees.specs.Blocks as blocks;
@@ -9,7 +9,7 @@ use crate::line::{Line, Word};
 use crate::statement::{Leads, Statement};
 use std::alloc::AllocError;
 
-/// Opens the loop that begins at a place, if one does and it fits.
+/// Opens the REPEAT loop that begins at `at` and ends at `end`, if there is one and it fits into the innermost block.
 #[tactic(auto, using(crate::proofs::Lists::reverse_pushed))]
 pub(crate) fn open_repeat(
     lines: &mut Vec<Line>,
@@ -36,7 +36,7 @@ pub(crate) fn open_repeat(
     Ok(())
 }
 
-/// Whether the innermost block is the loop from a place that begins with its condition, and ends at another.
+/// Whether the innermost block is the WHILE loop that begins at `place` and ends at `behind`.
 #[tactic(auto, using(crate::proofs::Lists::reverse_pushed))]
 fn ends_while(nest: &[Block], place: usize, behind: usize) -> bool
     ensures value { result ≡ blocks.ends_while place behind (reverse nest.now) }
@@ -50,7 +50,7 @@ fn ends_while(nest: &[Block], place: usize, behind: usize) -> bool
     }
 }
 
-/// Whether it is the loop from a place that ends with its condition, and ends at another.
+/// Whether the innermost block is the REPEAT loop that begins at `place` and ends at `behind`.
 #[tactic(auto, using(crate::proofs::Lists::reverse_pushed))]
 fn ends_repeat(nest: &[Block], place: usize, behind: usize) -> bool
     ensures value { result ≡ blocks.ends_repeat place behind (reverse nest.now) }
@@ -64,7 +64,7 @@ fn ends_repeat(nest: &[Block], place: usize, behind: usize) -> bool
     }
 }
 
-/// Whether it is what is done by a value, up to the statement at a place, and ends at another.
+/// Whether the innermost block is the CASE whose case jump is at `place`, and ends at `behind`.
 #[tactic(auto, using(crate::proofs::Lists::reverse_pushed))]
 fn ends_case(nest: &[Block], place: usize, behind: usize) -> bool
     ensures value { result ≡ blocks.ends_case place behind (reverse nest.now) }
@@ -78,7 +78,7 @@ fn ends_case(nest: &[Block], place: usize, behind: usize) -> bool
     }
 }
 
-/// Whether it is what is done by a value, and ends at a place.
+/// Whether the innermost block is a CASE that ends at `place`.
 #[tactic(auto, using(crate::proofs::Lists::reverse_pushed))]
 fn leaves_case(nest: &[Block], place: usize) -> bool
     ensures value { result ≡ blocks.leaves_case place (reverse nest.now) }
@@ -89,7 +89,7 @@ fn leaves_case(nest: &[Block], place: usize) -> bool
     }
 }
 
-/// Whether it is what is done if a condition holds, and ends at a place, where what is done else fits.
+/// Whether the innermost block is an IF that ends at `behind`, and an ELSE part up to `end` fits into the next block.
 #[tactic(auto, using(crate::proofs::Lists::reverse_pushed))]
 fn ends_if(nest: &[Block], limit: usize, end: usize, behind: usize) -> bool
     ensures value { result ≡ blocks.ends_if limit end behind (reverse nest.now) }
@@ -102,7 +102,7 @@ fn ends_if(nest: &[Block], limit: usize, end: usize, behind: usize) -> bool
     }
 }
 
-/// The word of a statement that leads by a condition.
+/// Returns the keyword of a statement that jumps by a condition.
 fn condition_word(limit: usize, again: usize, behind: usize, place: usize, nest: &[Block]) -> Word
     ensures word { result ≡ blocks.condition_word limit again behind place (reverse nest.now) }
 {
@@ -119,7 +119,8 @@ fn condition_word(limit: usize, again: usize, behind: usize, place: usize, nest:
     }
 }
 
-/// The word of a statement that leads always, to one that leads by a value and ends at a place, or at 0.
+/// Returns the keyword of a statement that always jumps. `end` is the end of the case jump at its target, or 0 if there
+/// is none.
 fn always_word(limit: usize, end: usize, behind: usize, place: usize, nest: &[Block]) -> Word
     ensures word { result ≡ blocks.always_word limit end behind place (reverse nest.now) }
 {
@@ -136,7 +137,7 @@ fn always_word(limit: usize, end: usize, behind: usize, place: usize, nest: &[Bl
     }
 }
 
-/// The word of a statement that leads by a value.
+/// Returns the keyword of a case jump.
 fn value_word(at: usize, behind: usize, nest: &[Block]) -> Word
     ensures word { result ≡ blocks.value_word at behind (reverse nest.now) }
 {
@@ -147,7 +148,8 @@ fn value_word(at: usize, behind: usize, nest: &[Block]) -> Word
     }
 }
 
-/// The word of a statement, where these loops begin, and this CASE stands where it leads.
+/// Returns the keyword of a statement. `here` contains the ends of the loops that begin at it and of the case jump at
+/// its target.
 pub(crate) fn word_by(limit: usize, here: Loops, statement: &Statement, nest: &[Block]) -> Word
     ensures word { result
         ≡ blocks.word_by limit here statement.now.at statement.now.behind statement.now.leads (reverse nest.now) }
@@ -161,7 +163,7 @@ pub(crate) fn word_by(limit: usize, here: Loops, statement: &Statement, nest: &[
     }
 }
 
-/// Closes the innermost block.
+/// Closes the innermost block, if there is one.
 #[tactic(auto, using(crate::proofs::Lists::reverse_pushed))]
 fn close_one(nest: &mut Vec<Block>)
     ensures nest { reverse nest.new.items ≡ blocks.without_first (reverse nest.old.items) }
@@ -169,7 +171,7 @@ fn close_one(nest: &mut Vec<Block>)
     nest.pop();
 }
 
-/// Whether a statement of a word closes the innermost block.
+/// Whether a statement with this keyword closes the innermost block.
 fn closes_one(word: Word) -> bool
     ensures value { result ≡ blocks.closes_one word }
 {
@@ -179,7 +181,7 @@ fn closes_one(word: Word) -> bool
     )
 }
 
-/// The block that a statement of a word opens, a CASE up to a place.
+/// Returns the block that a statement with this keyword opens, if any. A CASE block ends at `case_end`.
 fn opened_by(case_end: usize, word: Word, statement: &Statement) -> Option<Block>
     ensures block { result ≡ blocks.opened_by case_end word statement.now }
 {
@@ -205,7 +207,7 @@ fn opened_by(case_end: usize, word: Word, statement: &Statement) -> Option<Block
     }
 }
 
-/// Closes and opens the blocks that a statement of a word ends and begins, a CASE up to a place.
+/// Closes and opens the blocks that a statement with this keyword ends and begins. A CASE block ends at `case_end`.
 #[tactic(auto, using(crate::proofs::Lists::reverse_pushed))]
 pub(crate) fn open_behind(
     nest: &mut Vec<Block>,

@@ -2,8 +2,8 @@
 
 ghost use Rattle.pm_trees.specs.Worked.{WorkedBlocks};
 
-/// A choice, one with ELSE, a loop with its condition first, one with it last, one within another, a jump out of a
-/// loop, two conditions that lead back to one place, what is done by a value, and blocks that end elsewhere.
+/// Choices with and without ELSE, both kinds of loops, nested loops, a jump out of a loop, and two conditions that jump
+/// back to one offset. CASE blocks, and blocks that do not end at their target.
 #[tactic(auto, using(crate::proofs::Computed::worked_blocks))]
 pub fn worked_blocks()
     ensures law { WorkedBlocks }

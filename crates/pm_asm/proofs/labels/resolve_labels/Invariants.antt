@@ -6,7 +6,8 @@ use Rattle.pm_source.specs.Meaning.{found_label}
 use Rattle.pm_asm.specs.Firsts.{places_in}
 use Rattle.pm_asm.proofs.labels.resolve_labels.Given as goal
 
--- an unknown label is among those that are left; the places so far, and those of the labels that are left
+-- An unknown label can only be among the remaining labels. The offsets so far, followed by those of the remaining
+-- labels, are all offsets.
 abbrev pub invariant-loop-name : goal.invariant-loop-name
 invariant-loop-name l = record {
   unknown : list_any (is_unknown_label (places_in l.code)) (texts_seen (drop l.name-index l.names))

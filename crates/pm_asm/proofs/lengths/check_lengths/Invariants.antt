@@ -5,7 +5,8 @@ use Rattle.pm_code.specs.Views.{program_seen}
 use Rattle.pm_asm.specs.Lengths.{first_long, is_countless_long}
 use Rattle.pm_asm.proofs.lengths.check_lengths.Given as goal
 
--- the first segment that is too long is among those that are left, and so is one whose length cannot be counted
+-- The first segment that is too long is among the remaining segments. The same holds for a segment whose length does
+-- not fit in 64 bits.
 abbrev pub invariant-loop-segment : goal.invariant-loop-segment
 invariant-loop-segment l = record {
   long : first_long (program_seen (drop l.segment-index l.program)) ≡ first_long (program_seen l.program);

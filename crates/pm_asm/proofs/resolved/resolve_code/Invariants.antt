@@ -8,7 +8,8 @@ use Rattle.pm_asm.specs.Firsts.{places_in}
 use Rattle.pm_asm.specs.Found.{items_in}
 use Rattle.pm_asm.proofs.resolved.resolve_code.Given as goal
 
--- only the rows that are left have faults; the items so far, and what these mean
+-- Only the remaining rows can have faults. The items so far, followed by the results of the remaining rows, are all
+-- items.
 abbrev pub invariant-loop-row : goal.invariant-loop-row
 invariant-loop-row l = record {
   faults : code_faults (places_in l.code) l.at (map row_seen (drop l.row-index l.code.rows.now))

@@ -2,7 +2,7 @@ use Rattle.std.proofs.Common.{◌≡◌, ◌≤◌, length, reverse, take}
 use Rattle.pm_disasm.specs.Shown.{cut}
 use Rattle.pm_disasm.proofs.segments.without_spaces.Given as goal
 
--- what is left is cut as the whole
+-- The remaining name without its spaces is the whole name without its spaces.
 abbrev pub invariant-spaces : goal.invariant-spaces
 invariant-spaces l = record {
   within : l.count ≤ length l.name;

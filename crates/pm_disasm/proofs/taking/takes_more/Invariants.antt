@@ -5,7 +5,7 @@ use Rattle.pm_disasm.specs.Offsets.{IsNextCut}
 use Rattle.pm_disasm.specs.Split.{parts}
 use Rattle.pm_disasm.proofs.taking.takes_more.Given as goal
 
--- the parts that are left take no more than all
+-- The remaining parts use at most as many entries as all parts.
 abbrev pub invariant-parts : goal.invariant-parts
 invariant-parts l = record {
   inside : l.at ≤ length l.bytes;

@@ -5,7 +5,7 @@ use Rattle.pm_reader.specs.Reader.{reader_seen}
 use Rattle.pm_reader.proofs.Numbering.{seen_from}
 use Rattle.pm_reader.proofs.reading.faults_of_lines.Given as goal
 
--- what was noted, and what is still to be, are all
+-- The faults so far, followed by those of the remaining lines, are all faults.
 abbrev pub invariant-loop-part : goal.invariant-loop-part
 invariant-loop-part l = record {
   count : l.number ≡ length l.yielded;

@@ -5,7 +5,7 @@ use Rattle.pm_reader.specs.Reader.{reader_seen}
 use Rattle.pm_reader.proofs.Numbering.{seen_from}
 use Rattle.pm_reader.proofs.reading.source_of.Given as goal
 
--- what is left says the rest, and has the faults that there are
+-- The result so far, updated with the remaining lines, is the whole result. Only the remaining lines can have faults.
 abbrev pub invariant-loop-part : goal.invariant-loop-part
 invariant-loop-part l = record {
   count : l.number ≡ length l.yielded;

@@ -4,7 +4,7 @@ use Rattle.pm_source.specs.Faults.{lines_from}
 use Rattle.pm_reader.proofs.Ends.{IsUntil}
 use Rattle.pm_reader.proofs.reading.until_last_end.Given as goal
 
--- the last of the lines so far
+-- The last of the lines so far that ends a procedure.
 abbrev pub invariant-loop-part : goal.invariant-loop-part
 invariant-loop-part l = record {
   count : l.number ≡ length l.yielded;

@@ -2,10 +2,10 @@ use Rattle.std.proofs.Common.{◌≡◌, ◌++◌, string_bytes}
 use Rattle.pm_statements.specs.Texts.{blanks, two_each}
 use Rattle.pm_statements.proofs.lines.push_blanks.Given as goal
 
--- the blanks so far with those that are left are all
+-- The spaces so far, followed by the remaining ones, are all spaces.
 abbrev pub invariant-loop-rest : goal.invariant-loop-rest
 invariant-loop-rest l = string_bytes l.out ++ two_each l.rest ≡ string_bytes l.fn.out ++ blanks l.fn.depth
 
--- each time fewer are left
+-- The number of remaining levels decreases.
 abbrev pub decreases-loop-rest : goal.decreases-loop-rest
 decreases-loop-rest l = l.rest

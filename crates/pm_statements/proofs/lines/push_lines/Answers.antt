@@ -9,7 +9,7 @@ use Rattle.pm_statements.specs.Texts.{line, lines}
 use Rattle.pm_statements.proofs.Listed.{lines_done, lines_none, lines_step}
 use Rattle.pm_statements.proofs.lines.push_lines.Goals as goal
 
--- what stands where a list of them ends
+-- A value for an index after the end of the list.
 abbrev nowhere : Left
 nowhere = record {
   leaves = leaves.Words 0;
@@ -18,7 +18,7 @@ nowhere = record {
   role = role.Call;
 }
 
--- where no phrase is left
+-- No phrase remains.
 pub returns-in_default : goal.returns-in_default
 returns-in_default c = record {
   text =
@@ -49,7 +49,7 @@ loop-left-preserved c =
     ∙ lines_step d b (drop i ls) (drop (i + 1) ls) c.loop-left.rest.now c.in-Some.more.now l s out front first
     ∙ c.loop-left.invariant
 
--- where no statement is left
+-- No statement remains.
 pub returns : goal.returns
 returns c = record {
   text =

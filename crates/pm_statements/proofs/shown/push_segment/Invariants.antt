@@ -4,8 +4,8 @@ use Rattle.pm_disasm.specs.Offsets.{IsDecoded}
 use Rattle.pm_statements.specs.Files.{tables_text}
 use Rattle.pm_statements.proofs.shown.push_segment.Given as goal
 
--- the text so far with the procedures that are left, behind the tables that were shown, is the whole, and the segment,
--- if it was decoded, is that one
+-- The text so far, followed by that of the remaining procedures, is the whole text. The remaining text depends on the
+-- attribute tables that were shown. The segment, if it was decoded, is this one.
 abbrev pub invariant-loop-done : goal.invariant-loop-done
 invariant-loop-done l = record {
   text : string_bytes l.text

@@ -3,7 +3,8 @@ use Rattle.std.specs.List.{AllByRecursion}
 use Rattle.pm_statements.specs.Files.{IsSizedTable, callees_from}
 use Rattle.pm_statements.proofs.sized.add_segment.Given as goal
 
--- those so far with the ones that are left are the whole, and what is known of tables is theirs
+-- The sizes so far, followed by the remaining ones, are all sizes. The attribute tables that were read have correct
+-- sizes.
 abbrev pub invariant-loop-done : goal.invariant-loop-done
 invariant-loop-done l = record {
   callees : l.callees.items ++ callees_from l.segment (l.done + 1) (255 - l.done)

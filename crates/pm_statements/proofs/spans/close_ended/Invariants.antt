@@ -2,7 +2,7 @@ use Rattle.std.proofs.Common.{◌≡◌, length, reverse}
 use Rattle.pm_statements.specs.Depths.{open_at}
 use Rattle.pm_statements.proofs.spans.close_ended.Given as goal
 
--- what goes on there is still open
+-- The spans that contain the offset are still open.
 abbrev pub invariant-spans : goal.invariant-spans
 invariant-spans l = open_at l.at (reverse l.ends.items) ≡ open_at l.at (reverse l.fn.ends.items)
 

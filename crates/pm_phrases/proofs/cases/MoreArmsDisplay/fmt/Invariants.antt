@@ -3,7 +3,7 @@ use Rattle.std.specs.Fmt.{HasWritten, IsPlainFormatter}
 use Rattle.pm_phrases.specs.Cases.{more_arms}
 use Rattle.pm_phrases.proofs.cases.MoreArmsDisplay.fmt.Given as goal
 
--- what is written, with what the other arms give, is the whole
+-- The written text, followed by the text of the remaining arms, is the whole text.
 abbrev pub invariant-loop-place : goal.invariant-loop-place
 invariant-loop-place g l =
     IsPlainFormatter l.initial.f → (done : List ℕ) × (HasWritten g.W.Write.write_str_gives l.initial.f done l.f)

@@ -4,7 +4,7 @@ use Rattle.std.specs.Fmt.{HasWritten, IsPlainFormatter}
 use Rattle.pm_phrases.specs.Literals.{apostrophed}
 use Rattle.pm_phrases.proofs.literals.ApostrophesDisplay.fmt.Given as goal
 
--- the apostrophe and the bytes so far
+-- The apostrophe and the bytes written so far.
 abbrev pub invariant-loop-byte : goal.invariant-loop-byte
 invariant-loop-byte g l =
     IsPlainFormatter l.fn.f → HasWritten g.W.Write.write_str_gives l.fn.f (39 ∷ flat_map apostrophed (take l.byte-index l.bytes)) l.f

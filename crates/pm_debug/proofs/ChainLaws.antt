@@ -5,7 +5,7 @@ use Rattle.pm_words.specs.Words.{word_at}
 use Rattle.pm_words.specs.Stack.{is_even}
 use Rattle.pm_debug.specs.Views.{before_frames, chain}
 
--- frames that stand before the rest of a chain
+-- The frames before the rest of a chain.
 abbrev pub behind : List ℕ → Option (List ℕ) → Option (List ℕ)
 behind front (Some frames) = Some (front ++ frames)
 behind front None = None

@@ -1,4 +1,4 @@
--- Frames with the places that their returns lead to, frame by frame.
+-- Frames with the positions to which they return, frame by frame.
 use Rattle.std.proofs.Common.{◌≡◌, ◌∙◌, ◌+◌, ◌<◌, ap, sym, refl, ℕ, List, [], ◌∷◌, ◌++◌, length, drop, get_or, Option, Some, None}
 use Rattle.std.proofs.Common.{add-one, append_assoc, append-nil}
 use Rattle.std.proofs.Math.Seq.{drop-cons}
@@ -9,7 +9,7 @@ use Rattle.pm_debug.specs.Frames.{frame_at, frames_at, onto_frames}
 pub address_left : (addresses : List ℕ) (i : ℕ) → i < length addresses → drop i addresses ≡ get_or addresses i 0 ∷ drop (i + 1) addresses
 address_left addresses i h = rw add-one (drop-cons addresses i 0 h)
 
--- frames that stand before others
+-- The frames before others.
 abbrev pub behind_frames : List Frame → Option (List Frame) → Option (List Frame)
 behind_frames front (Some frames) = Some (front ++ frames)
 behind_frames front None = None

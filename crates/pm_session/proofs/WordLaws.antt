@@ -7,7 +7,7 @@ use Rattle.pm_session.specs.Words.{begins_word, without_empty, pieces_between, w
 
 -- ---- pieces
 
--- bytes in front of the first of these pieces
+-- Bytes before the first of these pieces.
 abbrev pub with_front : List ℕ → List (List ℕ) → List (List ℕ)
 with_front front [] = front ∷ []
 with_front front (piece ∷ pieces) = (front ++ piece) ∷ pieces
@@ -68,7 +68,7 @@ unfolding without_empty
 filled_one [] ps h = absurd (omega arith)
 filled_one (c ∷ word) ps h = refl
 
--- so many bytes of the first word of a line, and the rest of the line
+-- The first `end` bytes of the first word of a line, and the rest of the line.
 pub record IsInWord (line : List ℕ) (end : ℕ) (rest : List ℕ) : Type 0 where
   pub pieces : pieces_between 32 line ≡ with_front (take end line) (pieces_between 32 rest)
   pub left : rest ≡ drop end line

@@ -15,7 +15,7 @@ goes_by : (last : Bool) (f g : ℕ) (below : ℕ → ℕ) → Some g ≡ (if las
 goes_by true f g below e = cc
 goes_by false f g below e = cc
 
--- no frame stands below that of the system
+-- The system's frame ends the chain.
 pub depth_ends : (m : List ℕ) (n f : ℕ) → None ≡ next_frame m f → depth_from m n f ≡ 0
 unfolding depth_from
 depth_ends m zero f e = refl
@@ -34,6 +34,6 @@ depth_none m f = refl
 pub one_more : (k d : ℕ) → k + suc d ≡ k + 1 + d
 one_more k d = omega arith
 
--- blanks of a line of them
+-- Spaces from a line of spaces.
 pub first_blanks : (n : ℕ) → n ≤ 64 → take (2 * n) (replicate 128 32) ≡ blanks n
 first_blanks n few = take-replicate (2 * n) 128 32 (omega (arith, few))

@@ -1,4 +1,4 @@
--- How a session that is written as it goes goes on by one byte, and how it ends.
+-- One byte of a session that is written while it is executed, and the ends of the session.
 use Rattle.std.proofs.Common.{◌≡◌, ℕ, ◌+◌, ◌<◌, ◌≤◌, List, [], ◌∷◌, ◌++◌, Option, None, Some, Result, Ok, Bool, true, false, length, refl, sym, ap, ◌∙◌}
 use Rattle.std.proofs.Common.{append_assoc, append-nil, inl, inr, arith, subst, Vec, drop, get_or, suc}
 use Rattle.std.specs.declared.alloc.Global.{Global}
@@ -31,7 +31,7 @@ use Rattle.pm_session.proofs.SessionLaws.{after_telling, answer_quit, told_byte,
 use Rattle.pm_session.proofs.SessionLaws.{told_quit, told_start, whole_lines_byte, whole_lines_feed, whole_lines_none}
 use Rattle.pm_jobs.proofs.Transfers.{cause_longer, front_after, front_trans}
 
--- a session as far as it went: bytes were read, answers were written, and the last line has these bytes so far
+-- A part of a session. Bytes were read, answers were written, and the last line has these bytes so far.
 pub record IsTalking (old now : Streams) (line : List ℕ) (taken : ℕ) (began d : Session) : Type 0 where
   pub read : List ℕ
   pub shown : List ℕ
@@ -79,7 +79,7 @@ module _ (old now : Streams) (line : List ℕ) (taken : ℕ) (began d : Session)
       prompt = ap (λ lines. (told lines began).text) (whole_lines_byte u.read c h) ∙ u.prompt;
     }
 
-    -- the session is broken off behind a byte
+    -- A fault stops the session after a byte.
     pub cut_behind : (fault : Fault) → source.failed ≡ false
         → ((read : List ℕ) → length read ≡ taken + 1 → IsCause fault source.failed now.sink.failed read)
         → IsInterrupted old (both source now.sink) began fault
@@ -158,7 +158,7 @@ module _ (old now : Streams) (line : List ℕ) (taken : ℕ) (began d : Session)
           answered rest false e = ((told rest (session_after (order_of line) d)).text, ap (λ t. t.text) (told_line line c rest d feed e))
 
   module _ (source : Incoming) (none : ReadsByte now.source.remaining source.remaining None) where
-    -- the input ends behind a line feed
+    -- The input ends after a line feed.
     pub told_at_end : length line ≡ 0 → taken ≤ INPUT_LIMIT → IsAnswered old (both source now.sink) began
     told_at_end size few = let e = empty_is line size in record {
       read = u.read;
@@ -220,7 +220,7 @@ module _ (old now : Streams) (line : List ℕ) (taken : ℕ) (began d : Session)
     cause = rw e (well, inl failed);
   }
 
--- no byte could be taken
+-- No byte could be read.
 pub cut_taking : (old now : Streams) (source : Incoming) (line : List ℕ) (taken : ℕ) (began d : Session)
     → IsTalking old now line taken began d → TakesNone now.source source taken → (fault : Fault) → fault ≡ faults.Read
     → now.sink.failed ≡ false
@@ -231,7 +231,7 @@ cut_taking old now source line taken began d u none fault e well = elim none [
       (λ read count. rw e (well, inr (omega (arith, k.1, count))))
 ]
 
--- ---- what the job comes to
+-- ---- the outcome of the job
 
 told_written : (machine : State) (input : List ℕ) → (debugged machine input).written ≡ (told input (opened machine)).text
 unfolding told
@@ -307,15 +307,15 @@ opened_is d machine a b w l p s =
     ∙ ap (λ passes. record (opened machine) { passes = passes; shows_console = d.shows_console }) p
     ∙ ap (λ shows. record (opened machine) { shows_console = shows }) s
 
--- a session over the machine that starts, with the bytes that wait, is what is said of it
+-- A session of the machine that starts, with the bytes in its queue, is the defined one.
 pub session_said : (talk : Talk) (start : Result State Refusal) (typed : Vec ℕ Global) (m n : State)
     → talk ≡ talks.Session typed → Ok m ≡ start → n ≡ typed_into typed.items m → debugged n ≡ said_talk talk start
 session_said talk start typed m n t e k =
     ap debugged k ∙ ap (λ s. said_debug typed.items s) e ∙ ap (λ t. said_talk t start) (sym t)
 
--- ---- bytes that wait from the start on
+-- ---- bytes that are in the queue from the start on
 
--- one more of them waits
+-- One more byte is in the queue.
 pub typed_more : (bytes : List ℕ) (i : ℕ) (m n : State) → i < length bytes → n ≡ next m (Key (get_or bytes i 0))
     → typed_into (drop i bytes) m ≡ typed_into (drop (i + 1) bytes) n
 typed_more bytes i m n inside e =
@@ -323,6 +323,6 @@ typed_more bytes i m n inside e =
     ap (λ bs. typed_into bs m) (drop-cons bytes i 0 inside ∙ ap (λ j. get_or bytes i 0 ∷ drop j bytes) one)
     ∙ ap (typed_into (drop (i + 1) bytes)) (sym e)
 
--- none is left
+-- No byte is left.
 pub typed_over : (bytes : List ℕ) (i : ℕ) (m : State) → length bytes ≤ i → typed_into (drop i bytes) m ≡ m
 typed_over bytes i m over = ap (λ bs. typed_into bs m) (drop_all i bytes over)

@@ -63,8 +63,8 @@ impl<'a> Loaded<'a> {
     /// # Errors
     ///
     /// - `InvalidMemory`: an address that is read is odd.
-    /// - `NoSegment`: the procedure number is 0 or above that of the segment, the address of the table is odd, or the
-    ///   size of the parameters or of the locals is odd.
+    /// - `NoSegment`: the procedure number is 0 or above that of the segment.
+    /// - `NoSegment`: the address of the table, the size of the parameters or the size of the locals is odd.
     /// - `Unimplemented`: the procedure number in the table is 0.
     #[tactic(auto, unfolding(pm_calls::specs::Tables::attributes))]
     pub(crate) fn table(self, place: u16, procedure: u8) -> Result<Table, ExecError>

@@ -29,8 +29,8 @@ fn standing(machine: &Machine, place: u16) -> Segment<'_>
     Segment { memory, place }
 }
 
-// Returns the segment whose highest word is at `place` and which has `count` calls. Returns `None` if the count cannot
-// grow.
+// Returns the segment whose highest word is at `place` and which has `count` calls. Returns `None` if the count is
+// 65,535 and the segment is not the running one.
 #[tactic(auto, unfolding(pm_calls::specs::Calls::reach_standing))]
 fn standing_reached(machine: &Machine, place: u16, count: u16) -> Option<Segment<'_>>
     ensures reached { (slot keeps : ℕ) → option_map segment_seen result
@@ -43,7 +43,8 @@ fn standing_reached(machine: &Machine, place: u16, count: u16) -> Option<Segment
     Some(standing(machine, place))
 }
 
-// Returns the segment whose code is loaded below SP. Returns `None` if the code is empty or the space is too small.
+// Returns the segment whose code is loaded below SP. Returns `None` if the code is empty or longer than the space
+// between NP and SP.
 #[tactic(auto, unfolding(pm_calls::specs::Calls::reach_loading))]
 fn loading_reached<'a>(machine: &'a Machine, code: &'a [u8]) -> Option<Segment<'a>>
     ensures reached { (slot : ℕ) → option_map segment_seen result

@@ -25,7 +25,8 @@ pub(crate) fn wanted_at(memory: &Memory, sp: u16) -> Wanted
     }
 }
 
-// Returns the number of callers from a frame up to the frame of the requested procedure.
+// Returns the number of callers from a frame up to the frame of the requested procedure. Returns `NoProcedure` if none
+// of 32,768 frames is its frame.
 fn last_frame(memory: &Memory, wanted: Wanted, mp: u16) -> Result<u16, ExecError>
     ensures last { result ≡ last_frame memory.now.words wanted mp }
     ensures most { IfOk result (λ n. n ≤ 32767) }

@@ -91,7 +91,8 @@ fn before_line(text: &str, number: usize) -> Option<&str> {
     None
 }
 
-/// Returns the hint for an `.END` that is refused in line `number`, if the items of its procedure can be counted.
+/// Returns the hint for an `.END` that is refused in line `number`, if the bytes and jump entries of its procedure can
+/// be counted.
 fn hint_at_end(alloc: Global, text: &str, number: usize) -> Option<Hint> {
     match counts_of(alloc, before_line(text, number)?) {
         Ok(Some(counts)) => Some(ended_hint(counts)),

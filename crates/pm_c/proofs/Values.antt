@@ -38,7 +38,7 @@ slot_at (suc k) (s ∷ ss) = slot_at k ss
 abbrev pub plainly : List RattleType → RattleType
 plainly Rs = Struct (record { name = []; args = []; types = []; fields = Rs })
 
--- a handle of a pointer
+-- A handle of a pointer.
 abbrev pub handle_val : Ptr → Val
 handle_val p = vstruct (vcons (ptr_val p) vnil)
 
@@ -55,11 +55,11 @@ pub handle_typed : (p : Ptr) → Good (ty_struct [] (tcons ty_ptr tnil)) (handle
 handle_typed (block_ptr b o) = (tt, (tt, tt))
 handle_typed null_ptr = (tt, (record { fits = lit< tt }, tt))
 
--- a value in a block of the heap
+-- A value in a block of the heap.
 abbrev pub boxed : (R : RattleType) → Global → Ptr → R.Denot → Fml
 boxed R heap = box_owns (ghosts.dealloc_token heap) R
 
--- a pointer to a block that an allocator frees may be compared with null
+-- A pointer to a block that an allocator frees may be compared with null.
 tested : {M : Type 1} {𝓤 : Ura M} (𝓛 : Logic 𝓤) (R : RattleType) (heap : Global) (p : Ptr) (x : R.Denot)
     → ent 𝓤 (sem 𝓛 (boxed R heap p x)) (guard 𝓤 (Testable p) (sem 𝓛 (boxed R heap p x)))
 tested {𝓤 = 𝓤} 𝓛 R heap p x =

@@ -86,7 +86,7 @@ Places (Some p) status old new =
     (status ≡ DONE) × (new ≡ record { segment = p.segment; procedure = p.procedure; offset = p.offset })
 Places None status old new = (status ≡ NO_PLACE) × (new ≡ old)
 
--- the word at an address, if there is one
+-- The word at an address, if there is one.
 abbrev pub Reads : Option ℕ → ℕ → ℕ → ℕ → Type 0
 Reads (Some word) status old new = (status ≡ DONE) × (new ≡ word)
 Reads None status old new = (status ≡ ODD_ADDRESS) × (new ≡ old)

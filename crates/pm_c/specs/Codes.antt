@@ -49,7 +49,7 @@ abbrev pub volume_code : Option VolumeFault → ℕ → ℕ
 volume_code None code = code
 volume_code (Some fault) code = 400 + volume_number fault
 
--- an image on unit 4, and no other disk
+-- An image on unit 4, and no other disk.
 abbrev pub on_unit_4 : List ℕ → List (Option (List ℕ))
 on_unit_4 image = Some image ∷ None ∷ None ∷ None ∷ None ∷ None ∷ []
 

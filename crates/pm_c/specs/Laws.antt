@@ -52,7 +52,7 @@ MountIsTold =
 abbrev pub AnswersAreApart : Type 0
 AnswersAreApart = (stop : Stop) → (stop_code stop ≢ NO_MEMORY) × (stop_code stop ≢ NO_MACHINE)
 
--- the number has a sentence
+-- The number has a sentence.
 abbrev pub IsTold : ℕ → Type 0
 IsTold status = is_some (sentence status) ≡ true
 

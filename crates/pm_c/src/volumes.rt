@@ -234,7 +234,7 @@ pub extern "C" fn pmach_date(
     command(alloc, image, &[], date, out, needed)
 }
 
-/// Removes all files and gives the volume a name.
+/// Removes all files and sets the name of the volume.
 #[unsafe(no_mangle)]
 pub extern "C" fn pmach_zero(
     alloc: Global,

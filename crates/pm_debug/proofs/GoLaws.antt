@@ -1,4 +1,4 @@
--- Runs that nothing stops, and runs that breakpoints alone may stop.
+-- Runs that nothing stops, and runs that only breakpoints may stop.
 use Rattle.std.proofs.Common.{◌≡◌, ◌∙◌, ap, sym, refl, arith, ℕ, zero, suc, Bool, true, false, not, ◌&&◌, List, [], ◌∷◌, length, inl, inr}
 use Rattle.std.specs.Prelude.{◌==◌}
 use Rattle.std.proofs.lemmas.Bool.{cases_Bool, eqb-true}

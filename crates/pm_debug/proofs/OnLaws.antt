@@ -41,7 +41,7 @@ answered_within st k n rest t more stop.Waiting = let h = one_at_most st stop.Wa
 answered_within st k n rest t more stop.Ended = let h = one_at_most st stop.Ended in omega (arith, h)
 answered_within st k n rest t more (stop.Halted e) = let h = one_at_most st (stop.Halted e) in omega (arith, h)
 
--- no run counts more steps than it may make
+-- No run counts more steps than its limit.
 counts_within : (test : ℕ → State → Bool) (n k : ℕ) (s : State) → (run_from test k n s).count ≤ k + n
 unfolding run_from
 counts_within test zero k s = omega arith

@@ -40,7 +40,7 @@ module _ (whole : Option ℕ) (watched : List WatchedWord) (m : List ℕ) (i : �
   unfolding first_changed
   first_here other = next ∙ rw other refl
 
--- no word is left
+-- No word is left.
 pub first_none : (whole : Option ℕ) (left : List WatchedWord) (m : List ℕ) → whole ≡ first_changed left m → left ≡ [] → whole ≡ None
 unfolding first_changed
 first_none whole left m h none = h ∙ ap (λ ws. first_changed ws m) none
@@ -57,7 +57,7 @@ all_more P x xs here rest (suc k) d h = rest k d (omega (arith, h))
 same_state : (s : State) (addresses : List ℕ) → AreAsIn s addresses s
 same_state s addresses k d h = refl
 
--- the word at the first changed address, and those before it
+-- The word at the first changed address, and those before it.
 record FirstOf (watches : List ℕ) (s t : State) (a : ℕ) : Type 0 where
   changed : word_at t.memory a ≢ word_at s.memory a
   front : List ℕ

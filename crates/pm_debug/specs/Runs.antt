@@ -28,7 +28,7 @@ use Rattle.pm_debug.specs.Watches.{first_changed, has_changed, watched_words}
 abbrev pub later : (State → Bool) → ℕ → State → Bool
 later test k s = not (k == 0) && test s
 
--- A run stops in `s`: a test says that it is at its destination, a watched word has changed, or it is at a breakpoint.
+-- A run stops in `s` if the state is its destination, a watched word has changed, or the state is at a breakpoint.
 abbrev pub stops_at : List WatchedWord → List Breakpoint → (State → Bool) → State → Bool
 stops_at watched breaks test s = (test s || has_changed watched s.memory) || is_at_break breaks s
 

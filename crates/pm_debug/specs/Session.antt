@@ -1,5 +1,9 @@
--- A debugger: its machine, its breakpoints and watched addresses in the order in which they were set, the rest of its
--- last run, the number of its passes, and whether a session shows what its commands add to the console.
+-- A debugger has these parts:
+--
+-- - its machine,
+-- - its breakpoints and watched addresses, in the order in which they were set,
+-- - the rest of its last run, and the number of its passes,
+-- - whether a session shows what its commands add to the console.
 use Rattle.std.specs.Prelude.{◌≡◌, ℕ, Bool, List, None}
 use Rattle.pm_machine.specs.State.{State, Whole}
 use Rattle.pm_debug.specs.declared.breaks.Breakpoint.{Breakpoint}

@@ -40,11 +40,11 @@ chain m distance (suc n) a =
     else if is_even a then before_frames a (chain m distance n (word_at m ((a + distance) % 65536)))
     else None
 
--- the static chain of the running procedure: MSSTAT is the first word of a frame
+-- The static chain of the running procedure: MSSTAT is the first word of a frame.
 abbrev pub static_chain : State → ℕ → Option (List ℕ)
 static_chain s limit = chain s.memory 0 limit s.registers.mp
 
--- the dynamic chain: MSDYN is the second word of a frame
+-- The dynamic chain: MSDYN is the second word of a frame.
 abbrev pub dynamic_chain : State → ℕ → Option (List ℕ)
 dynamic_chain s limit = chain s.memory 2 limit s.registers.mp
 

@@ -25,11 +25,11 @@ with_watch a watches =
 unfoldable pub without_watch : ℕ → List ℕ → Result (List ℕ) DebugRefusal
 without_watch a watches = if is_watched a watches then Ok (filter (λ b. not (b == a)) watches) else Err NotSet
 
--- the word at an address, with the address
+-- The word at an address, with the address.
 abbrev pub watched_word : List ℕ → ℕ → WatchedWord
 watched_word m a = record { address = a; word = word_at m a }
 
--- the words at these addresses
+-- The words at these addresses.
 abbrev pub watched_words : List ℕ → List ℕ → List WatchedWord
 watched_words watches m = map (watched_word m) watches
 

@@ -50,7 +50,7 @@ fn frame_at(memory: &Memory, address: u16) -> Option<Frame>
     })
 }
 
-/// Returns the frames at these addresses, or `OddAddress` if one of them has no frame. No addresses need no memory.
+/// Returns the frames at these addresses, or `OddAddress` if an address has no frame. An empty list needs no memory.
 fn frames_at(alloc: Global, memory: &Memory, addresses: &[u16]) -> Result<Vec<Frame>, DebugRefusal>
     ensures frames { ShowsChain (λ frames. frames.items) result (frames_at memory.now.words addresses.now) }
     ensures wanted { OnErr result (0 < length addresses.now) }

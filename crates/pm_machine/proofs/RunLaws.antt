@@ -8,7 +8,7 @@ use Rattle.pm_machine.specs.Steps.{stepped}
 use Rattle.pm_machine.specs.Runs.{after_steps, AllWent, Ran, WentAll, StoppedAfter, last_counts}
 use Rattle.pm_machine.specs.RunLaws.{RunsGoOn, RunsStay, RunsAreOne, SameOutcome}
 
--- steps after others
+-- Steps after others.
 pub after_both : (k m : ℕ) (s : State) → after_steps (m + k) s ≡ after_steps k (after_steps m s)
 unfolding after_steps
 after_both zero m s = let e : m + zero ≡ m = omega arith in rw e refl

@@ -8,9 +8,9 @@ use Rattle.pm_machine.specs.State.{State}
 use Rattle.pm_machine.specs.Steps.{stepped}
 
 pub data Event : Type 0 where
-  -- one instruction
+  -- One instruction.
   Step : Event
-  -- a byte that the operator types
+  -- A byte that the operator types.
   Key : (byte : ℕ) → Event
   -- A word that the operator writes.
   Poke : (address word : ℕ) → Event
@@ -32,7 +32,7 @@ abbrev pub or_same : State → Result Devices MountFault → State
 or_same s (Ok d) = record s { devices = d }
 or_same s (Err fault) = s
 
--- the state after an event
+-- The state after an event.
 abbrev pub next : State → Event → State
 next s Step = (stepped s).0
 next s (Key b) = keyed b s
@@ -40,7 +40,7 @@ next s (Poke a w) = poked a w s
 next s (Mount unit image) = or_same s (mounted unit image s.devices)
 next s (Eject unit) = record s { devices = ejected unit s.devices }
 
--- the state after a list of events
+-- The state after a list of events.
 abbrev pub after_all : State → List Event → State
 after_all s [] = s
 after_all s (e ∷ es) = after_all (next s e) es

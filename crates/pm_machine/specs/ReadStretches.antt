@@ -64,7 +64,7 @@ use Rattle.pm_machine.specs.State.{State}
 use Rattle.pm_machine.specs.Written.{Stretch, call_reached, counted_stretch, left_by_exit, place_on_stack, stretch}
 use Rattle.pm_machine.specs.Written.{stretch_to, touches, transfer_stretch, wanted_at, word_stretch, words_taken}
 
--- the words that are taken off the stack
+-- The words that are taken off the stack.
 abbrev pub taken : Effect → List ℕ → ℕ → List Stretch
 taken e m sp = stretch sp (2 * words_taken e m sp) ∷ []
 
@@ -137,7 +137,7 @@ value_read o m sp = taken_if (value_effect o) m sp ++ value_leads o m sp
 
 -- ---- jumps
 
--- a jump is taken
+-- A jump is taken.
 abbrev pub is_taken : Condition → List ℕ → ℕ → Bool
 is_taken condition.Always m sp = true
 is_taken condition.IfFalse m sp = word_at m sp % 2 == 0

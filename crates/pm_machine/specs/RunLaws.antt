@@ -44,7 +44,7 @@ pub record SameOutcome (c d : ℕ) (a b : Stop) (t u : State) : Type 0 where
   pub answer : a ≡ b
   pub state : t ≡ u
 
--- a run has one outcome
+-- A run has one outcome.
 abbrev pub RunsAreOne : Type 0
 RunsAreOne =
     (limit c d : ℕ) (s t u : State) (a b : Stop) → Ran limit s c a t → Ran limit s d b u → SameOutcome c d a b t u
@@ -87,7 +87,7 @@ RestStays = (s : State) → s.status ≢ status.Running → (stepped s).0 ≡ s
 abbrev pub IsUnitWrite : Instr → Type 0
 IsUnitWrite i = (n : ℕ) × (operation_of i ≡ operation.Standard n) × (procedure_numbered n ≡ OnUnits units.Write)
 
--- a step changes no disk, unless its instruction is UNITWRITE
+-- A step changes no disk, unless its instruction is UNITWRITE.
 abbrev pub StepsKeepDisks : Type 0
 StepsKeepDisks =
     (s : State) → ((i : Instr) → fetched s.memory s.registers.ipc ≡ Ok i → IsUnitWrite i → ⊥) →

@@ -7,7 +7,7 @@ use Rattle.pm_machine.specs.declared.state.Status.{Status}
 use Rattle.pm_stdproc.specs.declared.loads.SlotRow.{SlotRow}
 
 pub record State : Type 0 where
-  -- the 32,768 words
+  -- The 32,768 words.
   pub memory : List ℕ
   pub registers : Registers
   -- The number of steps that succeeded or ended the program, at most the greatest number of 64 bits.
@@ -18,7 +18,7 @@ pub record State : Type 0 where
   pub places : List (Option SegmentPlace)
   -- For each of the 16 slots, the location of its code on a disk. These never change.
   pub rows : List SlotRow
-  -- the disks, the console, the printer and the clock
+  -- The disks, the console, the printer and the clock.
   pub devices : Devices
 
 abbrev pub devices_of : State → Devices

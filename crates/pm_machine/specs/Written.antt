@@ -189,7 +189,7 @@ slot_reached n c (Some None) (Ok None) = Err NoSegment
 slot_reached n c (Some None) (Err e) = Err e
 slot_reached n c None code = Err NoSegment
 
--- the segment that a call reaches
+-- The segment that a call reaches.
 abbrev pub call_reached : Call → State → Result Reached ExecError
 call_reached (Cxp n p) s =
     slot_reached n (parts s) (slice_get s.places n) (code_needed (Cxp n p) s.places s.rows s.devices)
@@ -302,7 +302,7 @@ abbrev pub instruction_written : Result Instr ExecError → State → List Stret
 instruction_written (Ok i) s = operation_written (operation_of i) s
 instruction_written (Err e) s = []
 
--- what the instruction at IPC writes
+-- What the instruction at IPC writes.
 unfoldable pub written : State → List Stretch
 written s = instruction_written (fetched s.memory s.registers.ipc) s
 

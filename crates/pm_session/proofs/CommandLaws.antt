@@ -33,7 +33,7 @@ number_end n h =
     rw below refl
 
 module _ (whole : Option ℕ) (n : ℕ) (rest : List ℕ) (h : whole ≡ number_behind n rest) where
-  -- no byte is left
+  -- No byte is left.
   pub number_is : length rest ≡ 0 → n ≤ 4294967295 → whole ≡ Some n
   number_is none le = h ∙ at rest none
     where

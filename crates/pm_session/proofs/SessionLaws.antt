@@ -19,7 +19,7 @@ use Rattle.pm_machine.specs.Events.{Key, next}
 use Rattle.pm_session.specs.Answers.{after_command, after_keys, after_passing, after_run, answer_text, command_text, passing, session_after}
 use Rattle.pm_session.specs.Sessions.{Told, answer_line, answers, behind_quit, console_line, from_feed, is_quit, told, whole_lines}
 
--- the answers to these lines of an input
+-- The answers to these lines of an input.
 abbrev pub told_lines : List (List ℕ) → List ℕ → Session → Told
 told_lines lines input d = record { text = answers lines d; unread = behind_quit lines input }
 
@@ -37,7 +37,7 @@ pub told_start : (input : List ℕ) (d : Session) → told input d ≡ told_from
 unfolding told lines_of_input
 told_start input d = ap (λ ps. told_lines (without_empty_end ps) input d) (with_front-none (pieces_between 10 input) (pieces_some 10 input))
 
--- a byte that ends no line
+-- A byte that ends no line.
 pub told_byte : (line : List ℕ) (c : ℕ) (rest : List ℕ) (d : Session) → (c == 10) ≡ false → told_from line (c ∷ rest) d ≡ told_from (line ++ c ∷ []) rest d
 told_byte line c rest d h =
     ap (λ ps. told_lines (without_empty_end ps) (line ++ c ∷ rest) d)
@@ -111,7 +111,7 @@ unfolding command_text
 is_answered (Some (Does commands.Quit)) d text h = absurd (cc)
 is_answered _ d text h = refl
 
--- the line feed of `quit`
+-- The line feed of `quit`.
 pub told_quit : (line : List ℕ) (c : ℕ) (rest : List ℕ) (d : Session) → (c == 10) ≡ true → is_quit (order_of line) ≡ true
     → told_from line (c ∷ rest) d ≡ record { text = []; unread = rest }
 told_quit line c rest d h q =
@@ -120,7 +120,7 @@ told_quit line c rest d h q =
     (answers_quit line (lines_of_input rest) d q)
     (behind_quit_here line (lines_of_input rest) (line ++ c ∷ rest) q ∙ line_dropped line c rest)
 
--- the line feed of another line
+-- The line feed of another line.
 pub told_line : (line : List ℕ) (c : ℕ) (rest : List ℕ) (d : Session) → (c == 10) ≡ true → is_quit (order_of line) ≡ false
     → told_from line (c ∷ rest) d ≡ after_telling (answer_line (order_of line) d) (told rest (session_after (order_of line) d))
 unfolding told
@@ -171,7 +171,7 @@ pub whole_lines_none : whole_lines [] ≡ []
 unfolding whole_lines from_feed
 whole_lines_none = refl
 
--- a line feed ends all lines so far
+-- A line feed ends all lines so far.
 pub whole_lines_feed : (text : List ℕ) (c : ℕ) → (c == 10) ≡ true → whole_lines (text ++ c ∷ []) ≡ text ++ c ∷ []
 unfolding whole_lines from_feed
 whole_lines_feed text c h =

@@ -102,7 +102,7 @@ word_ends front (c ∷ rest) line u some b =
     ap without_empty (u ∙ ap (with_front front) (pieces_mark 32 c rest mark) ∙ ap (λ w. w ∷ pieces_between 32 rest) (append-nil front))
     ∙ filled_one front (pieces_between 32 rest) some ∙ ap (λ ws. front ∷ ws) (sym (words_space c rest b))
 
--- the word ends at a space or at the end of the line
+-- The word ends at a space or at the end of the line.
 pub words_at_end : (line : List ℕ) (end : ℕ) (rest : List ℕ) → IsInWord line end rest → begins_word line ≡ true → begins_word rest ≡ false →
     words_of_line line ≡ take end line ∷ words_of_line rest
 words_at_end line zero rest u first b = absurd (both (sym first ∙ ap begins_word (sym u.left) ∙ b))
@@ -117,7 +117,7 @@ words_at_end (c ∷ line) (suc end) rest u first b = word_ends (take (suc end) (
 
 -- ---- carriage returns
 
--- the byte at the end
+-- The byte at the end.
 at_end : ℕ → List ℕ
 at_end c = if c == 13 then [] else c ∷ []
 

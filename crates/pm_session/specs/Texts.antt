@@ -12,7 +12,7 @@ abbrev pub more_numbers : List ℕ → List ℕ
 more_numbers [] = []
 more_numbers (n ∷ ns) = 32 ∷ decimal n ++ more_numbers ns
 
--- numbers with single spaces between them
+-- Numbers with single spaces between them.
 abbrev pub numbers_text : List ℕ → List ℕ
 numbers_text [] = []
 numbers_text (n ∷ ns) = decimal n ++ more_numbers ns
@@ -27,7 +27,7 @@ abbrev pub more_parts : {A : Type 0} → List ℕ → (A → List ℕ) → List 
 more_parts mark text [] = []
 more_parts mark text (x ∷ xs) = mark ++ (text x ++ more_parts mark text xs)
 
--- parts with this mark between each two
+-- Parts with this mark between each two.
 abbrev pub parts_text : {A : Type 0} → List ℕ → (A → List ℕ) → List A → List ℕ
 parts_text mark text [] = []
 parts_text mark text (x ∷ xs) = text x ++ more_parts mark text xs

@@ -88,7 +88,7 @@ frames_text (Some frames) = parts_text (codes ", ") frame_text frames
 
 -- ---- bytes
 
--- a byte as two hexadecimal digits
+-- A byte as two hexadecimal digits.
 abbrev pub pair_text : ℕ → List ℕ
 pair_text byte = upper_digit (byte / 16) ∷ upper_digit (byte % 16) ∷ []
 
@@ -107,7 +107,7 @@ bytes_text (b ∷ bs) = parts_text (codes " ") pair_text (b ∷ bs) ++ (32 ∷ 3
 abbrev pub usage_text : List ℕ × List ℕ × Reading → List ℕ
 usage_text row = row.0 ++ row.1
 
--- both words of a setting
+-- Both words of a setting.
 abbrev pub setting_text : List ℕ × List ℕ × Command → List ℕ
 setting_text row = row.0 ++ (32 ∷ row.1)
 

@@ -27,7 +27,7 @@ abbrev pub begins_word : List ℕ → Bool
 begins_word [] = false
 begins_word (c ∷ line) = not (c == 32)
 
--- a line without the carriage return at its end
+-- A line without the carriage return at its end.
 unfoldable pub without_return : List ℕ → List ℕ
 without_return [] = []
 without_return (c ∷ []) = if c == 13 then [] else c ∷ []

@@ -57,7 +57,7 @@ module _ (old now : Streams) (page : List ℕ) (taken : ℕ) (show : Show) (limi
     run = u.run;
   }
 
-  -- the page is written and cleared
+  -- The page is written and cleared.
   pub under_way_cleared : (sink : Outgoing) (blank : List ℕ) → Appends now.sink.contents sink.contents page → blank ≡ []
       → IsUnderWay old (both now.source sink) blank taken show limit began n m
   under_way_cleared sink blank a e = record {
@@ -69,7 +69,7 @@ module _ (old now : Streams) (page : List ℕ) (taken : ℕ) (show : Show) (limi
     run = u.run;
   }
 
-  -- the limit is reached
+  -- The limit is reached.
   pub over_limit : taken ≤ INPUT_LIMIT → n ≡ 0 → ComesToEnd old now page show limit began endings.Limit m
   over_limit few none = record {
     read = u.read;
@@ -102,7 +102,7 @@ module _ (old now : Streams) (page : List ℕ) (taken : ℕ) (show : Show) (limi
         cause = cause u.read u.count;
       }
 
-  -- the page could not be written
+  -- The page could not be written.
   pub broken_writing : (sink : Outgoing) (fault : Fault) → taken ≤ INPUT_LIMIT → AppendsFront now.sink.contents sink.contents page
       → now.source.failed ≡ false → IsCause fault false sink.failed [] → StopsShort old (both now.source sink) show limit began fault
   broken_writing sink fault few a well cause =
@@ -199,7 +199,7 @@ module _ (old now : Streams) (page : List ℕ) (taken : ℕ) (show : Show) (limi
           ∙ ap (after_showing u.shown) (run_of-waits show n key rest m after some step) ∙ ap (λ t. after_showing u.shown (run_of show n rest t)) (sym keyed);
     }
 
-    -- no byte is left
+    -- No byte is left.
     pub over_waiting : (source : Incoming) → taken ≤ INPUT_LIMIT → stepped m ≡ (after, Waiting)
         → ReadsByte now.source.remaining source.remaining None
         → ComesToEnd old (both source now.sink) page show limit began endings.Waiting after

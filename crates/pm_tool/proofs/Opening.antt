@@ -19,7 +19,7 @@ module _ {Z : Type 0} (rest rest' : List (Option (Vec ℕ Z))) (image : Option (
       let one = ap length next in
       omega arith
 
-  -- the image is a volume
+  -- The image is a volume.
   pub fault_later : (fault : Option VolumeFault) → fault ≡ first_disk_fault (images_of rest) → disk_fault (option_map vec_items image) ≡ None
       → fault ≡ first_disk_fault (images_of rest')
   fault_later fault so_far sound =

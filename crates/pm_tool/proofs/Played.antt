@@ -127,7 +127,7 @@ pub started_broken : (old new : Streams) (show : Show) (limit : ℕ) (start : Re
     → BreaksOff old new fault (λ input. said_run show (run_of show limit input m)) → BreaksOff old new fault (said_started show limit start)
 started_broken old new show limit start m fault e b = subst (λ s. BreaksOff old new fault (said_started show limit s)) e b
 
--- none starts: the job is refused before any input is read
+-- None starts: the job is refused before any input is read.
 pub talk_refused : (talk : Talk) (old : Streams) (start : Result State Refusal) (refusal : Refusal) (outcome : Outcome)
     → Err refusal ≡ start
     → ((unread : List ℕ) → IsOutcome outcome (refused refusal unread)) → Finishes old old outcome (said_talk talk start)

@@ -67,7 +67,7 @@ module _ (old now : Streams) (line : List ℕ) (taken : ℕ) (began d : Session)
     more_run : (rest : List ℕ) → told ((u.read ++ c ∷ []) ++ rest) began ≡ after_telling u.shown (told_from line (c ∷ rest) d)
     more_run rest = ap (λ input. told input began) (append_assoc u.read (c ∷ []) rest) ∙ u.run (c ∷ rest)
 
-    -- a byte of the line
+    -- A byte of the line.
     pub talking_byte : (line' : List ℕ) → (c == 10) ≡ false → line' ≡ line ++ c ∷ [] → IsTalking old (both source now.sink) line' (taken + 1) began d
     talking_byte line' h e = record {
       read = u.read ++ c ∷ [];
@@ -96,7 +96,7 @@ module _ (old now : Streams) (line : List ℕ) (taken : ℕ) (began d : Session)
     }
 
     module _ (feed : (c == 10) ≡ true) (sink : Outgoing) where
-      -- a line is answered
+      -- A line is answered.
       pub talking_line : (line' : List ℕ) (d' : Session) → is_quit (order_of line) ≡ false
           → Appends now.sink.contents sink.contents (answer_line (order_of line) d) → line' ≡ []
           → d' ≡ session_after (order_of line) d → IsTalking old (both source sink) line' (taken + 1) began d'
@@ -120,7 +120,7 @@ module _ (old now : Streams) (line : List ℕ) (taken : ℕ) (began d : Session)
           regroup : (a b : List ℕ) (t : Told) → after_telling a (after_telling b t) ≡ after_telling (a ++ b) t
           regroup a b t = ap (λ text. record t { text = text }) (sym (append_assoc a b t.text))
 
-      -- the session ends by `quit`
+      -- The session ends by `quit`.
       pub told_by_quit : is_quit (order_of line) ≡ true → Appends now.sink.contents sink.contents (answer_line (order_of line) d)
           → taken + 1 ≤ INPUT_LIMIT → IsAnswered old (both source sink) began
       told_by_quit q a few = record {
@@ -136,7 +136,7 @@ module _ (old now : Streams) (line : List ℕ) (taken : ℕ) (began d : Session)
         drained = λ e. cc;
       }
 
-      -- the answer could not be written
+      -- The answer could not be written.
       pub cut_answering : (fault : Fault) → AppendsFront now.sink.contents sink.contents (answer_line (order_of line) d)
           → taken + 1 ≤ INPUT_LIMIT → source.failed ≡ false
           → IsCause fault false sink.failed [] → IsInterrupted old (both source sink) began fault
@@ -173,7 +173,7 @@ module _ (old now : Streams) (line : List ℕ) (taken : ℕ) (began d : Session)
     }
 
     module _ (some : 0 < length line) (sink : Outgoing) where
-      -- the last line has no line feed
+      -- The last line has no line feed.
       pub told_at_last : Appends now.sink.contents sink.contents (answer_line (order_of line) d) → taken ≤ INPUT_LIMIT
           → IsAnswered old (both source sink) began
       told_at_last a few = record {
@@ -204,7 +204,7 @@ module _ (old now : Streams) (line : List ℕ) (taken : ℕ) (began d : Session)
         cause = rw well (cause_longer fault sink.failed u.read (rw u.count few) cause);
       }
 
-  -- no byte could be read
+  -- No byte could be read.
   pub cut_reading : (source : Incoming) (fault : Fault) → Keeps now.source.remaining source.remaining → fault ≡ faults.Read
       → source.failed ≡ true → now.sink.failed ≡ false
       → IsInterrupted old (both source now.sink) began fault

@@ -23,7 +23,7 @@ use Rattle.pm_tool.specs.declared.work.Work.{Work}
 use Rattle.pm_tool.specs.declared.work.Work.TheVariants as works
 use Rattle.pm_tool.specs.Hex.{hex_spelled}
 
--- the images, as lists of bytes
+-- The images, as lists of bytes.
 abbrev pub images_of : {Z : Type 0} → List (Option (Vec ℕ Z)) → List (Option (List ℕ))
 images_of disks = map (option_map vec_items) disks
 
@@ -32,7 +32,7 @@ abbrev pub disk_fault : Option (List ℕ) → Option VolumeFault
 disk_fault None = None
 disk_fault (Some image) = image_fault image
 
--- the first fault of the images, in the order of their units
+-- The first fault of the images, in the order of their units.
 abbrev pub first_disk_fault : List (Option (List ℕ)) → Option VolumeFault
 first_disk_fault [] = None
 first_disk_fault (image ∷ images) = option_or (disk_fault image) (first_disk_fault images)
@@ -82,7 +82,7 @@ abbrev pub loaded : Option (List ℕ) → Result State Refusal
 loaded None = Err refusals.Hex
 loaded (Some program) = started (raw_start program)
 
--- the machine that a job starts
+-- The machine that a job starts.
 abbrev pub machine_at : Start → Result State Refusal
 machine_at (starts.Bare text) = loaded (hex_spelled text.items)
 machine_at (starts.Booted disks name system) =

@@ -3,7 +3,7 @@ use Rattle.std.specs.Prelude.{ℕ, ◌+◌, ◌*◌, ◌==◌, ◌||◌, ◌&&�
 use Rattle.std.specs.Prelude.{◌∷◌, Option, Some, None, if◌then◌else◌, nat_lt}
 use Rattle.std.specs.Char.{digit_value}
 
--- a tab, a line feed, a carriage return or a space
+-- A tab, a line feed, a carriage return or a space.
 abbrev pub is_space : ℕ → Bool
 is_space c = c == 9 || c == 10 || c == 13 || c == 32
 

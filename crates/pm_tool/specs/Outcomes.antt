@@ -86,9 +86,12 @@ SaysWhy outcome = Names outcome.exit outcome.refusal (string_bytes outcome.messa
 abbrev pub no_others : List (Option (List ℕ))
 no_others = None ∷ None ∷ None ∷ None ∷ None ∷ []
 
--- The defined output of a job for an input: what it writes, how it ends, its message, the image that is saved and those
--- of units 5, 9, 10, 11 and 12, its printer bytes, the unread part of the input, and the state in which an error
--- stopped it.
+-- The defined output of a job for an input:
+--
+-- - what it writes, how it ends, and its message,
+-- - the image that is saved and those of units 5, 9, 10, 11 and 12,
+-- - its printer bytes, and the unread part of the input,
+-- - the state in which an error stopped it.
 pub record Said : Type 0 where
   pub written : List ℕ
   pub exit : Exit

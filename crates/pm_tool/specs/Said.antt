@@ -55,7 +55,7 @@ first_kept savings.First devices = ejected_image 4 devices
 first_kept savings.All devices = ejected_image 4 devices
 first_kept savings.Others devices = None
 
--- the images on the other disk units
+-- The images on the other disk units.
 abbrev pub others_in : Devices → List (Option (List ℕ))
 others_in devices = ejected_image 5 devices ∷ ejected_image 9 devices ∷ ejected_image 10 devices
     ∷ ejected_image 11 devices ∷ ejected_image 12 devices ∷ []

@@ -73,7 +73,8 @@ fn slot_of(file: &CodeFile<'_>, number: u8) -> Option<u8>
     None
 }
 
-/// Returns the fault of the code file with this name, if the file exists.
+/// Returns the hint about the code file with this name: its fault, or its slots. Returns `None` if there is no such
+/// file.
 fn hint_of_code(volume: &Volume, name: &str) -> Option<Hint> {
     let entry = volume.find(name)?;
     match CodeFile::read(volume.file(&entry)?) {

@@ -58,11 +58,11 @@ pub enum Job {
         selection: Selection,
     },
     /// Opens a debugger of the same program, which does not run by itself. Each line of the input is a command and is
-    /// answered by one line before the next one is read. The session ends after the line of `quit` or with the input.
-    /// The job then ends well, even if the machine did not.
+    /// answered before the next one is read. The session ends after the line of `quit` or with the input. The job then
+    /// succeeds, even if the machine did not.
     ///
-    /// The console output is not shown, and no input is passed to the console. The bytes of `typed` are in the console
-    /// input queue from the start on.
+    /// The console output is shown only by commands, and no input is passed to the console. The bytes of `typed` are in
+    /// the console input queue from the start on.
     Debug {
         disks: [Option<Vec<u8>>; 6],
         name: String,
@@ -71,16 +71,16 @@ pub enum Job {
     },
     /// Assembles the source text in the input. Each byte above 127 is character 127. The output is one of four:
     ///
-    /// - The code file of its program, or its listing. Any other text is refused with `refused asm N LINE`, which are
-    ///   the number of its first fault and the line. A text with a segment that is too long is refused with `refused
-    ///   asm 7 SEGMENT`.
+    /// - The code file of its program, or its listing. Any other text is refused with `refused asm N LINE`: the number
+    ///   of its first fault, and the line. If one of its segments is too long, it is refused with `refused asm 7
+    ///   SEGMENT`.
     /// - A line for each of its faults, in ascending order of the lines that they name: the message for a text with
     ///   only this fault. These are the first fault of each line that has one. If there are none, they are the first
     ///   fault of the labels of each line. If there are none of these either, it is the segment that is too long. The
     ///   job is refused with the first of them, as above. If there are none, nothing is written.
-    /// - A line `SSS PPP OOOOO NAME` for each of its procedures and labels, in the order of the text. The columns are
-    ///   the number of the segment, the number of the procedure, the offset in bytes from the entry of the procedure,
-    ///   and the label, or `.PROC` for the procedure itself. Any other text is refused as above.
+    /// - A line `SSS PPP OOOOO NAME` for each of its procedures and labels, in the order of the text. SSS and PPP are
+    ///   the numbers of the segment and the procedure. OOOOO is the offset in bytes from the entry of the procedure.
+    ///   NAME is the label, or `.PROC` for the procedure itself. Any other text is refused as above.
     Asm(AsmOutput),
     /// Disassembles the code file in the input. Any other input is refused with `refused code N` and the slot that the
     /// fault names. The output is one of four:
@@ -94,9 +94,9 @@ pub enum Job {
     /// - Its code as statements. For each segment, in ascending order, each procedure has a line with its name and a
     ///   line for each statement. A statement is its instructions with each operation on its operands.
     Dis(DisOutput),
-    /// Executes a command on the volume of an image. A put reads its bytes or text from the input; no other command
-    /// reads it. The output is the list, the bytes or the text of a file. After a change the outcome has the image to
-    /// be saved.
+    /// Executes a command on the volume of an image. A put reads its bytes or text from the input, and a copy reads the
+    /// image of the other volume from it. No other command reads the input. The output is the list, the bytes or the
+    /// text of a file. After a change the outcome has the image to be saved.
     ///
     /// # Errors
     ///

@@ -21,7 +21,7 @@ unfolding depth_from
 depth_ends m zero f e = refl
 depth_ends m (suc n) f e = ends_by (f == SYSTEM_FRAME || not (is_even f)) (word_at m ((f + 2) % 65536)) (depth_from m n (word_at m ((f + 2) % 65536))) e
 
--- one frame more
+-- One frame more.
 pub depth_goes : (m : List ℕ) (n f g : ℕ) → Some g ≡ next_frame m f → depth_from m (suc n) f ≡ suc (depth_from m n g)
 unfolding depth_from
 depth_goes m n f g e = goes_by (f == SYSTEM_FRAME || not (is_even f)) (word_at m ((f + 2) % 65536)) g (depth_from m n) e
@@ -30,7 +30,7 @@ pub depth_none : (m : List ℕ) (f : ℕ) → depth_from m 0 f ≡ 0
 unfolding depth_from
 depth_none m f = refl
 
--- a frame that is counted
+-- A frame that is counted.
 pub one_more : (k d : ℕ) → k + suc d ≡ k + 1 + d
 one_more k d = omega arith
 

@@ -13,7 +13,7 @@ use Rattle.pm_opcode.specs.Reading.{front_byte, front_number, front_word, read_b
 use Rattle.pm_code.specs.Text.{implied_texts, item_text, operands_text, signed_text}
 use Rattle.pm_disasm.specs.Text.{text_at}
 
--- a signed byte as a number
+-- A signed byte as a number.
 pub positive : (a : ℕ) → a < 128 → signed_text (signed_byte a) ≡ decimal a
 positive a h =
     let low : nat_lt a 128 ≡ true = le-leb (suc a) 128 h in

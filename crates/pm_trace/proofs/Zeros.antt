@@ -44,7 +44,7 @@ padded_last : (n : ℕ) → n < 10 → padded 1 n ≡ (48 + n) ∷ []
 unfolding padded
 padded_last n h = rw (decimal_digit n h) refl
 
--- a word in five digits
+-- A word in five digits.
 pub five_digits : (n : ℕ) → n < 65536 → padded 5 n ≡ (48 + n / 10 / 10 / 10 / 10) ∷ (48 + n / 10 / 10 / 10 % 10) ∷ (48 + n / 10 / 10 % 10) ∷ (48 + n / 10 % 10)
     ∷ (48 + n % 10) ∷ []
 five_digits n h =
@@ -54,7 +54,7 @@ five_digits n h =
     ∙ ap (λ u. u ++ (48 + n / 10 / 10 % 10) ∷ []) (padded_step 0 (n / 10 / 10 / 10) (omega arith)
     ∙ ap (λ u. u ++ (48 + n / 10 / 10 / 10 % 10) ∷ []) (padded_last (n / 10 / 10 / 10 / 10) (omega arith)))))
 
--- a word in five digits: its first one, and two pairs
+-- A word in five digits: its first one, and two pairs.
 pub digits_by_pairs : (n : ℕ) → n < 65536 → padded 5 n ≡ (48 + n / 100 / 100) ∷ (48 + n / 100 % 100 / 10) ∷ (48 + n / 100 % 100 % 10)
     ∷ (48 + n % 100 / 10) ∷ (48 + n % 100 % 10) ∷ []
 digits_by_pairs n h =
@@ -65,7 +65,7 @@ digits_by_pairs n h =
     let e : n % 10 ≡ n % 100 % 10 = omega arith in
     rw (sym a, sym b, sym c, sym d, sym e) (five_digits n h)
 
--- a count in seven digits
+-- A count in seven digits.
 pub seven_digits : (n : ℕ) → n < 10000000 → padded 7 n ≡ (48 + n / 10 / 10 / 10 / 10 / 10 / 10) ∷ (48 + n / 10 / 10 / 10 / 10 / 10 % 10)
     ∷ (48 + n / 10 / 10 / 10 / 10 % 10) ∷ (48 + n / 10 / 10 / 10 % 10) ∷ (48 + n / 10 / 10 % 10) ∷ (48 + n / 10 % 10) ∷ (48 + n % 10) ∷ []
 seven_digits n h =

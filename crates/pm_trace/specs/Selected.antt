@@ -25,12 +25,12 @@ stands_in (codes_of.Procedure segment procedure) None = false
 stands_in (codes_of.Procedure segment procedure) (Some place) =
     place.segment == segment && place.procedure == procedure
 
--- the names of the calls and of the returns
+-- The names of the calls and of the returns.
 abbrev pub calls_and_returns : List (List ℕ)
 calls_and_returns =
     codes "CIP" ∷ codes "CBP" ∷ codes "CXP" ∷ codes "CLP" ∷ codes "CGP" ∷ codes "RNP" ∷ codes "RBP" ∷ []
 
--- an instruction of this name is a call or a return
+-- An instruction of this name is a call or a return.
 abbrev pub is_call_or_return : List ℕ → Bool
 is_call_or_return name = list_any (bytes_eq name) calls_and_returns
 

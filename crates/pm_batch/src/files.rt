@@ -63,7 +63,7 @@ fn answer(volume: Volume, reply: Reply) -> Made
     }
 }
 
-/// Returns a copy of the file name of a command, if it names an existing file and there is memory.
+/// Returns a copy of the name of the file that a command reads or changes, if it names one and there is memory.
 fn wanted_name(alloc: Global, command: &FileCommand) -> Option<String> {
     match command {
         FileCommand::Get(name) | FileCommand::GetText(name) | FileCommand::Remove(name) => {

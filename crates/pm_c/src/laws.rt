@@ -8,12 +8,9 @@ pub fn wanted_length_is_enough()
     ensures law { WantedLengthIsEnough }
 {}
 
-/// These laws hold:
-///
-/// - The status of a start is 0 if and only if the image is a volume on which the program starts.
-/// - The status of a mount is 0 if and only if the image is a volume and was mounted.
-/// - No answer of a machine has the status of a call that was not executed.
-/// - Each answer of a machine, a run, a start, a unit, a volume and a breakpoint has a sentence.
+/// The status of a start is 0 if and only if the image is a volume on which the program starts. The status of a mount
+/// is 0 if and only if the image is a volume and was mounted. No answer of a machine has the status of a call that was
+/// not executed. Each answer of a machine, a run, a start, a unit, a volume and a breakpoint has a sentence.
 #[tactic(auto, using(crate::proofs::StatusLaws::start_is_told, crate::proofs::StatusLaws::mount_is_told, crate::proofs::StatusLaws::answers_are_apart, crate::proofs::SentenceLaws::answers_are_told))]
 pub fn answers_are_told()
     ensures start { StartIsTold }

@@ -16,18 +16,18 @@ use Rattle.pm_access.specs.Reached.{Seen, reached_seen}
 use Rattle.pm_access.specs.Reading.{next_up, table_and_entry}
 use Rattle.pm_access.specs.Writing.{meets}
 
--- one of two lists of stretches has one of the bytes
+-- One of two lists of ranges contains one of the bytes.
 pub meets_both : (b : Bytes) (ss ts : List Stretch) → meets b (ss ++ ts) ≡ (meets b ss || meets b ts)
 meets_both b ss ts = list_any-append (touches b.address b.count) ss ts
 
--- the lowest bit of an address does not count
+-- The lowest bit of an address does not count.
 pub word_below : (m : List ℕ) (a : ℕ) → word_at m (a - a % 2) ≡ word_at m a
 unfolding word_at
 word_below m a =
     let half : (a - a % 2) / 2 ≡ a / 2 = omega arith in
     ap (slice_index m) half
 
--- what a call reads, by what is seen of the segment that it reaches
+-- What a call reads in the segment that it reaches.
 abbrev pub seen_read : Call → Registers → Option Seen → List Stretch
 seen_read call r (Some at) = table_and_entry call r at
 seen_read call r None = []
@@ -36,18 +36,18 @@ pub read_seen : (call : Call) (r : Registers) (at : Result Reached ExecError) �
 read_seen call r (Ok at) = refl
 read_seen call r (Err e) = refl
 
--- the frame one link further up
+-- The frame one link further up.
 pub up_next : (m : List ℕ) (a k : ℕ) (f : Result ℕ ExecError) → f ≡ up m a k → next_up m f ≡ up m a (k + 1)
 unfolding up
 up_next m a k f e = rw (add-one, e) refl
 
--- the static links of one frame more
+-- The static link of one more frame.
 pub links_more : (b : Bytes) (m : List ℕ) (a k : ℕ) (f : Result ℕ ExecError) → f ≡ up m a k
     → meets b (links_read m a (k + 1)) ≡ (meets b (word_stretch f) || meets b (links_read m a k))
 unfolding links_read
 links_more b m a k f e = rw (add-one, e) (meets_both b (word_stretch (up m a k)) (links_read m a k))
 
--- the words of one frame more
+-- The words of one more frame.
 pub frames_more : (b : Bytes) (m : List ℕ) (a k f : ℕ) → f ≡ frame_up m a k
     → meets b (frames_read m a (k + 1)) ≡ (meets b (left_read m f) || meets b (frames_read m a k))
 unfolding frames_read

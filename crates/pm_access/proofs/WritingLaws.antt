@@ -17,21 +17,21 @@ use Rattle.pm_access.specs.declared.stretches.Bytes.{Bytes}
 use Rattle.pm_access.specs.Reached.{Seen, reached_seen}
 use Rattle.pm_access.specs.Writing.{frame_and_code, meets}
 
--- no word stands above the memory
+-- A word above the memory is 0.
 pub word_above : (m : List ℕ) (a : ℕ) → IsMemory m → 65535 < a → word_at m a ≡ 0
 unfolding word_at
 word_above m a h l =
     let past : length m ≤ a / 2 = omega (arith, h.size) in
     get_or_past m (a / 2) 0 past
 
--- no code put in is the memory as it is
+-- Without loaded code the memory is unchanged.
 pub no_code : (m : List ℕ) (a : ℕ) → with_bytes m a [] ≡ m
 unfolding with_bytes
 no_code m a =
     let whole : overwritten (bytes_of m) a [] ≡ bytes_of m = search (rules, take-append-drop) in
     rw whole (words_of-bytes_of m)
 
--- what a call writes, by what is seen of the segment that it reaches
+-- What a call writes in the segment that it reaches.
 abbrev pub seen_written : Call → ℕ → Option Seen → List Stretch
 seen_written call sp (Some at) = frame_and_code call sp at
 seen_written call sp None = []
@@ -42,7 +42,7 @@ written_seen call sp (Err e) = refl
 
 -- ---- EXIT
 
--- the first frame whose caller is the wanted procedure
+-- The first frame whose caller is the requested procedure.
 pub last_there : (m : List ℕ) (p : Wanted) (a k : ℕ) → k < 32768 → Passes m p a k → met m p (frame_up m a k) ≡ Ok true → last_frame m p a ≡ Ok k
 unfolding last_frame
 last_there m p a k l h e =
@@ -50,7 +50,7 @@ last_there m p a k l h e =
     let found : least_below (stops m p a) 32768 ≡ Some k = least_is (stops m p a) k 32768 l (stops-not m p a k h) there in
     rw (found, e) refl
 
--- or the first frame at which the walk fails
+-- The first frame at which the walk fails.
 pub last_fails : (m : List ℕ) (p : Wanted) (a k : ℕ) (e : ExecError) → k < 32768 → Passes m p a k → met m p (frame_up m a k) ≡ Err e → last_frame m p a ≡ Err e
 unfolding last_frame
 last_fails m p a k x l h e =
@@ -58,7 +58,7 @@ last_fails m p a k x l h e =
     let found : least_below (stops m p a) 32768 ≡ Some k = least_is (stops m p a) k 32768 l (stops-not m p a k h) there in
     rw (found, e) refl
 
--- or there is none
+-- No such frame exists.
 pub last_none : (m : List ℕ) (p : Wanted) (a n : ℕ) → n ≡ 32768 → Passes m p a n → last_frame m p a ≡ Err NoProcedure
 unfolding last_frame
 last_none m p a n w h =
@@ -66,7 +66,7 @@ last_none m p a n w h =
     let whole : least_below (stops m p a) 32768 ≡ None = rw w at found in
     rw whole refl
 
--- the words of one frame more
+-- The words of one more frame.
 pub ips_more : (b : Bytes) (m : List ℕ) (a k f : ℕ) → f ≡ frame_up m a k
     → meets b (ips_written m a (k + 1)) ≡ (touches b.address b.count (stretch ((f + 8) % 65536) 2) || meets b (ips_written m a k))
 unfolding ips_written

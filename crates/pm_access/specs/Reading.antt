@@ -10,12 +10,12 @@ use Rattle.pm_machine.specs.ReadStretches.{entry_words, table_read}
 use Rattle.pm_machine.specs.Written.{Stretch}
 use Rattle.pm_access.specs.Reached.{Seen}
 
--- a call in a segment: the table of the procedure, and what its entry reads
+-- A call in a segment reads the table of the procedure and what its entry reads.
 abbrev pub table_and_entry : Call → Registers → Seen → List Stretch
 table_and_entry call r at =
     table_read at.memory at.place (procedure_called call)
     ++ entry_words call at.memory r (attributes at.memory at.place (procedure_called call))
 
--- the frame that the static link of a frame leads to, if that was found
+-- The frame to which the static link of a frame leads, if that frame was found.
 abbrev pub next_up : List ℕ → Result ℕ ExecError → Result ℕ ExecError
 next_up m frame = frame >>= λ f. load m f

@@ -1,4 +1,4 @@
--- Whether what a step writes has one of the bytes that are asked about.
+-- Whether one of the bytes of a query is written.
 use Rattle.std.specs.Prelude.{ℕ, Bool, List, ◌∷◌}
 use Rattle.std.specs.List.{list_any}
 use Rattle.pm_families.specs.declared.families.Call.{Call}
@@ -8,11 +8,11 @@ use Rattle.pm_machine.specs.Written.{Stretch, frame_written, stretch_to, touches
 use Rattle.pm_access.specs.declared.stretches.Bytes.{Bytes}
 use Rattle.pm_access.specs.Reached.{Seen}
 
--- one of these stretches has one of the bytes
+-- One of these ranges contains one of the bytes.
 abbrev pub meets : Bytes → List Stretch → Bool
 meets bytes stretches = list_any (touches bytes.address bytes.count) stretches
 
--- a call in a segment: the code that is loaded for it, which ends at SP, and its frame
+-- A call in a segment writes the code that is loaded for it, which ends at SP, and its frame.
 abbrev pub frame_and_code : Call → ℕ → Seen → List Stretch
 frame_and_code call sp at =
     stretch_to sp at.loaded

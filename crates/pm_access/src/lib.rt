@@ -1,4 +1,4 @@
-//! What the next step of a machine writes and reads of its memory, by the row of its instruction.
+//! The bytes of memory that the next step of a machine writes and reads, by the rule of its instruction.
 #![tactic(auto)]
 
 mod loaded;

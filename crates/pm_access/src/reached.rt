@@ -11,16 +11,16 @@ use crate::loaded::Loaded;
 use pm_families::Call;
 use pm_machine::Machine;
 
-/// A segment, in the memory with the code that is loaded for its call.
+/// A segment, and the memory with the code that is loaded for its call.
 #[derive(Clone, Copy)]
 pub(crate) struct Segment<'a> {
-    /// That memory.
+    /// The memory with the loaded code.
     pub memory: Loaded<'a>,
     /// The address of its highest word.
     pub place: u16,
 }
 
-// A segment that stands at a place.
+// Returns the segment whose highest word is at `place`, without loaded code.
 fn standing(machine: &Machine, place: u16) -> Segment<'_>
     ensures seen { segment_seen result
         ≡ record { memory = machine.now.state.memory; place = place; loaded = 0 } }
@@ -29,7 +29,8 @@ fn standing(machine: &Machine, place: u16) -> Segment<'_>
     Segment { memory, place }
 }
 
-// A segment that stands at a place, for so many calls.
+// Returns the segment whose highest word is at `place` and which has `count` calls. Returns `None` if the count is
+// 65,535 and the segment is not the running one.
 #[tactic(auto, unfolding(pm_calls::specs::Calls::reach_standing))]
 fn standing_reached(machine: &Machine, place: u16, count: u16) -> Option<Segment<'_>>
     ensures reached { (slot keeps : ℕ) → option_map segment_seen result
@@ -42,7 +43,8 @@ fn standing_reached(machine: &Machine, place: u16, count: u16) -> Option<Segment
     Some(standing(machine, place))
 }
 
-// A segment whose code is loaded.
+// Returns the segment whose code is loaded below SP. Returns `None` if the code is empty or longer than the space
+// between NP and SP.
 #[tactic(auto, unfolding(pm_calls::specs::Calls::reach_loading))]
 fn loading_reached<'a>(machine: &'a Machine, code: &'a [u8]) -> Option<Segment<'a>>
     ensures reached { (slot : ℕ) → option_map segment_seen result
@@ -62,7 +64,7 @@ fn loading_reached<'a>(machine: &'a Machine, code: &'a [u8]) -> Option<Segment<'
     Some(Segment { memory, place })
 }
 
-// The segment of a slot.
+// Returns the segment of a slot, or `None` if a call does not reach it.
 fn slot_reached(machine: &Machine, slot: u8) -> Option<Segment<'_>>
     ensures reached { option_map segment_seen result
         ≡ reached_seen (slot_reached slot (parts machine.now.state) (slice_get machine.now.state.places slot)
@@ -80,7 +82,7 @@ fn slot_reached(machine: &Machine, slot: u8) -> Option<Segment<'_>>
     }
 }
 
-/// The segment that a call reaches, if it reaches one.
+/// Returns the segment that a call reaches, or `None` if it reaches none.
 #[tactic(auto, unfolding(pm_stdproc::specs::Loads::code_needed))]
 pub(crate) fn call_reached(machine: &Machine, call: Call) -> Option<Segment<'_>>
     ensures reached { option_map segment_seen result ≡ reached_seen (call_reached call machine.now.state) }

@@ -1,4 +1,4 @@
-//! Whether the next step reads one of so many bytes of memory, its instruction's own bytes apart.
+//! Whether the next step reads a byte of a range of memory. The bytes of its instruction do not count.
 
 ghost use Rattle.std.specs.Prelude.{◌≡◌};
 ghost use Rattle.pm_machine.specs.Procedures.{is_base_return};
@@ -18,7 +18,7 @@ use pm_machine::Machine;
 use pm_opcode::{Operation, decode};
 use pm_words::Memory;
 
-// An operation on a variable of a frame.
+// Whether an operation on a variable of a frame reads one of the bytes.
 #[tactic(auto, using(crate::proofs::ReadingLaws::meets_both))]
 fn variable_read(bytes: Bytes, what: Variable, machine: &Machine) -> bool
     ensures read { result ≡ meets bytes (variable_read what machine.now.state) }
@@ -37,7 +37,7 @@ fn variable_read(bytes: Bytes, what: Variable, machine: &Machine) -> bool
     }
 }
 
-// What an address on the stack leads to.
+// Whether an operation reads one of the bytes at the address that is on the stack.
 fn led_to(bytes: Bytes, what: Pointer, memory: &Memory, sp: u16) -> bool
     ensures read { result ≡ meets bytes (led_to what memory.now.words sp) }
 {
@@ -54,7 +54,7 @@ fn led_to(bytes: Bytes, what: Pointer, memory: &Memory, sp: u16) -> bool
     }
 }
 
-// An operation on an address that is on the stack.
+// Whether an operation on an address on the stack reads one of the bytes.
 #[tactic(auto, using(crate::proofs::ReadingLaws::meets_both))]
 fn pointer_read(bytes: Bytes, what: Pointer, memory: &Memory, sp: u16) -> bool
     ensures read { result ≡ meets bytes (pointer_read what memory.now.words sp) }
@@ -62,7 +62,7 @@ fn pointer_read(bytes: Bytes, what: Pointer, memory: &Memory, sp: u16) -> bool
     takes_words(bytes, Operation::Pointer(what), memory, sp) || led_to(bytes, what, memory, sp)
 }
 
-// Whether a return takes the old BASE back.
+// Whether a return restores BASE.
 fn is_base_return(what: Return) -> bool
     ensures base { result ≡ is_base_return what }
 {
@@ -72,7 +72,7 @@ fn is_base_return(what: Return) -> bool
     }
 }
 
-// A return from the frame at an address with so many words of a result.
+// Whether a return from the frame at `mp` with `words` words of a result reads one of the bytes.
 fn return_read(bytes: Bytes, words: u8, base: bool, mp: u16) -> bool
     ensures read { result ≡ meets bytes (return_read words base mp) }
 {
@@ -82,7 +82,7 @@ fn return_read(bytes: Bytes, words: u8, base: bool, mp: u16) -> bool
         || base && meets(bytes, usize::from(mp.wrapping_sub(2)), 2)
 }
 
-// What an operation reads.
+// Whether an operation reads one of the bytes.
 fn operation_read(bytes: Bytes, what: Operation, machine: &Machine) -> bool
     ensures read { result ≡ meets bytes (operation_read what machine.now.state) }
 {
@@ -105,12 +105,17 @@ fn operation_read(bytes: Bytes, what: Operation, machine: &Machine) -> bool
     }
 }
 
-/// Whether the instruction at IPC reads one of so many bytes from an address on. Its own bytes do not count, be they
-/// its opcode, its operands, words or a table of jumps in the code. A row that ends with an error reads what it would
-/// read if it went on; but an EXIT that does not find its procedure reads no frame, a call that does not reach its
-/// segment nothing, and one that does not find its table no parameters and no links. An order of sets or of WORDS that
-/// this machine does not have reads what it would compare, a comparison of REAL nothing; STP reads its word also where
-/// all of it changes.
+/// Whether the instruction at IPC reads one of `count` bytes from `address` on. The bytes of the instruction do not
+/// count: its opcode, its operands, and words or a table of jumps in the code.
+///
+/// A step that ends with an error counts as reading what it would read without the error, with these exceptions:
+///
+/// - An EXIT that does not find its procedure reads no frame.
+/// - A call that does not reach its segment reads nothing. A call that does not find its table reads no parameters and
+///   no links.
+/// - An operation on sets or WORDS that this machine does not have reads what it would compare; a comparison of REAL
+///   reads nothing.
+/// - STP reads its word even if it replaces all of it.
 #[tactic(auto, unfolding(pm_machine::specs::ReadStretches::read, pm_machine::specs::Rows::fetched))]
 pub fn reads(machine: &Machine, address: u16, count: u32) -> bool
     ensures reads { result ≡ reads address count machine.now.state }

@@ -1,4 +1,4 @@
-//! What calls read: the table of the procedure, the parameters, and what finds the static link.
+//! What calls read: the table of the procedure, the parameters, and the words that lead to the static link.
 
 ghost use Rattle.std.specs.Prelude.{◌≡◌, pos, ◌+ℤ◌, ◌-ℤ◌};
 ghost use Rattle.pm_words.specs.Words.{word_at};
@@ -17,7 +17,8 @@ use pm_families::Call;
 use pm_machine::Machine;
 use pm_words::ExecError;
 
-// How many links lead from the frame of the procedure with its table at a place to that around one of this level.
+// Returns the number of links from the frame of the procedure with its table at `jtab` to the frame that encloses a
+// procedure of this level.
 fn links_up(memory: Loaded<'_>, jtab: u16, level: i8) -> i16
     ensures links { result ≡ level_of (word_at (loaded_memory memory.entry) jtab) -ℤ level +ℤ pos 1 }
 {
@@ -25,7 +26,7 @@ fn links_up(memory: Loaded<'_>, jtab: u16, level: i8) -> i16
     i16::from(own) - i16::from(level) + 1
 }
 
-// The level of the running procedure, and the links up from its frame.
+// Whether one of the bytes is of the level of the running procedure, or of the links up from its frame.
 fn inner_read(bytes: Bytes, memory: Loaded<'_>, registers: Registers, level: i8) -> bool
     ensures read { result ≡ meets bytes (inner_read (loaded_memory memory.entry) registers level) }
 {
@@ -33,7 +34,7 @@ fn inner_read(bytes: Bytes, memory: Loaded<'_>, registers: Registers, level: i8)
     meets(bytes, usize::from(registers.jtab), 2) || links_by(bytes, memory, registers.mp, links)
 }
 
-// What finds the static link of a procedure of this level.
+// Whether one of the bytes is read to find the static link of a procedure of this level.
 fn static_link_read(
     bytes: Bytes,
     call: Call,
@@ -57,7 +58,7 @@ fn static_link_read(
     }
 }
 
-// The table of a procedure of the segment whose highest word is at a place.
+// Whether one of the bytes is read of the table of a procedure, in the segment whose highest word is at `place`.
 fn table_read(bytes: Bytes, memory: Loaded<'_>, place: u16, procedure: u8) -> bool
     ensures read { result ≡ meets bytes (table_read (loaded_memory memory.entry) place procedure) }
 {
@@ -71,7 +72,7 @@ fn table_read(bytes: Bytes, memory: Loaded<'_>, place: u16, procedure: u8) -> bo
         || meets(bytes, usize::from(jtab.wrapping_sub(8)), 2)
 }
 
-// The static link, and the parameters, which are copied.
+// Whether one of the bytes is read for the static link or of the parameters, which are copied.
 fn entry_words(
     bytes: Bytes,
     call: Call,
@@ -93,7 +94,7 @@ fn entry_words(
     }
 }
 
-// A call in a segment.
+// Whether a call in a segment reads one of the bytes.
 #[tactic(auto, using(crate::proofs::ReadingLaws::meets_both))]
 fn table_and_entry(bytes: Bytes, call: Call, registers: Registers, segment: Segment<'_>) -> bool
     ensures read { result ≡ meets bytes (table_and_entry call registers (segment_seen segment.entry)) }
@@ -111,7 +112,7 @@ fn table_and_entry(bytes: Bytes, call: Call, registers: Registers, segment: Segm
     )
 }
 
-/// A call.
+/// Whether a call reads one of the bytes.
 #[tactic(auto, using(crate::proofs::ReadingLaws::read_seen))]
 pub(crate) fn call_read(bytes: Bytes, what: Call, machine: &Machine) -> bool
     ensures read { result ≡ meets bytes (call_read what machine.now.state) }

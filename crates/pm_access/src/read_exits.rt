@@ -1,4 +1,4 @@
-//! What EXIT reads: of the frames that it leaves, and of the tables of their procedures.
+//! What EXIT reads of the frames that it leaves and of the tables of their procedures.
 
 ghost use Rattle.std.specs.Prelude.{◌≡◌, ◌∷◌, []};
 ghost use Rattle.pm_machine.specs.ReadStretches.{asked_read, exit_leads, exit_read, frames_read, left_read};
@@ -17,21 +17,23 @@ fn is_of_word_at(bytes: Bytes, address: u16) -> bool
     meets(bytes, usize::from(address), 2)
 }
 
-// Where the procedure with its table at a place is left.
+// Whether one of the bytes is of the exit address in the table at `jtab`.
 fn exit_read(bytes: Bytes, jtab: u16) -> bool
     ensures read { result ≡ meets bytes (exit_read jtab ∷ []) }
 {
     is_of_word_at(bytes, jtab.wrapping_sub(4))
 }
 
-// Whether a procedure is the wanted one: its segment's highest word, and its table's.
+// Whether one of the bytes is read to compare a procedure with the requested one: the highest words of its segment and
+// of its table.
 fn asked_read(bytes: Bytes, seg: u16, jtab: u16) -> bool
     ensures read { result ≡ meets bytes (asked_read seg jtab) }
 {
     is_of_word_at(bytes, seg) || is_of_word_at(bytes, jtab)
 }
 
-// A frame that EXIT leaves: the control words that name its caller, with the words of that.
+// Whether EXIT reads one of the bytes when it leaves a frame. It reads the control words of the caller and the words to
+// which they lead.
 fn left_read(bytes: Bytes, memory: &Memory, frame: u16) -> bool
     ensures read { result ≡ meets bytes (left_read memory.now.words frame) }
 {
@@ -44,7 +46,7 @@ fn left_read(bytes: Bytes, memory: &Memory, frame: u16) -> bool
         || asked_read(bytes, seg, jtab)
 }
 
-// The first so many frames from a frame on.
+// Whether EXIT reads one of the bytes of the first `frames` frames from `mp` on.
 fn frames_read(bytes: Bytes, memory: &Memory, mp: u16, frames: u16) -> bool
     ensures read { result ≡ meets bytes (frames_read memory.now.words mp frames) }
 {
@@ -57,7 +59,8 @@ fn frames_read(bytes: Bytes, memory: &Memory, mp: u16, frames: u16) -> bool
     is_read
 }
 
-/// EXIT from the procedure whose number is on the top, and that of its segment below, beside those two words.
+/// Whether EXIT reads one of the bytes, without the two words that it takes off the stack. The procedure number is on
+/// the top and the segment number below it.
 #[tactic(auto, using(crate::proofs::ReadingLaws::meets_both))]
 pub(crate) fn exit_leads(bytes: Bytes, machine: &Machine) -> bool
     ensures read { result ≡ meets bytes (exit_leads machine.now.state) }

@@ -24,14 +24,14 @@ fn is_taken(condition: Condition, memory: &Memory, sp: u16) -> bool
     }
 }
 
-// The entry of the jump table by which a jump with a negative offset leads.
+// Whether a jump with a negative offset reads one of the bytes of its entry in the jump table.
 fn entry_read(bytes: Bytes, registers: Registers, offset: u16) -> bool
     ensures read { result ≡ meets bytes (entry_read registers offset) }
 {
     offset >= 32768 && meets(bytes, usize::from(registers.jtab.wrapping_add(offset)), 2)
 }
 
-/// A jump.
+/// Whether a jump reads one of the bytes.
 #[tactic(auto, using(crate::proofs::ReadingLaws::meets_both))]
 pub(crate) fn jump_read(bytes: Bytes, what: Jump, memory: &Memory, registers: Registers) -> bool
     ensures read { result ≡ meets bytes (jump_read what memory.now.words registers) }

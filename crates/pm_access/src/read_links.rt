@@ -1,4 +1,4 @@
-//! The static links by which a step finds a frame, in the memory with code that is put in.
+//! The static links by which a step finds a frame, in the memory with loaded code.
 
 ghost use Rattle.std.specs.Prelude.{◌≡◌};
 ghost use Rattle.pm_machine.specs.ReadStretches.{frame_read, links_by, links_read};
@@ -22,14 +22,14 @@ fn is_of_word(bytes: Bytes, place: Result<u16, ExecError>) -> bool
     }
 }
 
-// The frame that a frame's static link leads to, if it was found.
+// Returns the frame to which the static link of a frame leads, if that frame was found.
 fn next_up(memory: Loaded<'_>, frame: Result<u16, ExecError>) -> Result<u16, ExecError>
     ensures next { result ≡ next_up (loaded_memory memory.entry) frame }
 {
     memory.load(frame?)
 }
 
-// The static links of so many frames from a frame on.
+// Whether one of the bytes is of the static links of `links` frames from `mp` on.
 fn links_read(bytes: Bytes, memory: Loaded<'_>, mp: u16, links: u8) -> bool
     ensures read { result ≡ meets bytes (links_read (loaded_memory memory.entry) mp links) }
 {
@@ -42,14 +42,14 @@ fn links_read(bytes: Bytes, memory: Loaded<'_>, mp: u16, links: u8) -> bool
     is_read
 }
 
-/// So many links, where that is a number from 0 to 127.
+/// Whether one of the bytes is of `links` static links, if this is a number from 0 to 127.
 pub(crate) fn links_by(bytes: Bytes, memory: Loaded<'_>, mp: u16, links: i16) -> bool
     ensures read { result ≡ meets bytes (links_by (loaded_memory memory.entry) mp links) }
 {
     0 <= links && links <= 127 && links_read(bytes, memory, mp, links as u8)
 }
 
-/// The static links to the frame of a variable of a scope.
+/// Whether one of the bytes is of the static links to the frame of a variable of a scope.
 pub(crate) fn frame_read(bytes: Bytes, scope: Scope, memory: &Memory, mp: u16) -> bool
     ensures read { result ≡ meets bytes (frame_read scope memory.now.words mp) }
 {

@@ -15,7 +15,7 @@ use pm_opcode::Operation;
 use pm_stdproc::{OnMemory, OnUnits, Procedure, procedure_of};
 use pm_words::Memory;
 
-// All bytes that a scan from a place on may look at, by its limit, which is signed.
+// Whether a scan from `place` on can read one of the bytes. The limit is signed.
 fn is_scanned(bytes: Bytes, place: u16, limit: i16) -> bool
     ensures scanned { result ≡ meets bytes (scan_stretch place limit ∷ []) }
 {
@@ -27,7 +27,7 @@ fn is_scanned(bytes: Bytes, place: u16, limit: i16) -> bool
     meets_to(bytes, start + 1, count)
 }
 
-// A procedure on the memory, beside the words that it takes.
+// Whether a procedure on the memory reads one of the bytes, without the words that it takes off the stack.
 fn memory_leads(bytes: Bytes, what: OnMemory, memory: &Memory, sp: u16) -> bool
     ensures read { result ≡ meets bytes (memory_leads what memory.now.words sp) }
 {
@@ -46,7 +46,7 @@ fn memory_leads(bytes: Bytes, what: OnMemory, memory: &Memory, sp: u16) -> bool
     }
 }
 
-// A procedure on the units or the clock, beside the words that it takes.
+// Whether a procedure on the units or the clock reads one of the bytes, without the words that it takes off the stack.
 fn units_lead(bytes: Bytes, what: OnUnits, memory: &Memory, sp: u16) -> bool
     ensures read { result ≡ meets bytes (units_lead what memory.now.words sp) }
 {
@@ -56,7 +56,7 @@ fn units_lead(bytes: Bytes, what: OnUnits, memory: &Memory, sp: u16) -> bool
     }
 }
 
-// What a procedure reads beside the words that it takes.
+// Whether a procedure reads one of the bytes, without the words that it takes off the stack.
 fn procedure_leads(bytes: Bytes, what: Procedure, machine: &Machine) -> bool
     ensures read { result ≡ meets bytes (procedure_leads what machine.now.state) }
 {
@@ -69,7 +69,7 @@ fn procedure_leads(bytes: Bytes, what: Procedure, machine: &Machine) -> bool
     }
 }
 
-/// The standard procedure of a number.
+/// Whether the standard procedure with this number reads one of the bytes.
 #[tactic(auto, using(crate::proofs::ReadingLaws::meets_both))]
 pub(crate) fn standard_read(bytes: Bytes, number: u8, machine: &Machine) -> bool
     ensures read { result ≡ meets bytes (taken_if (standard_effect number) machine.now.state.memory

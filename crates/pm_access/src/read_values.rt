@@ -1,4 +1,4 @@
-//! What the rows on bytes, sets, strings and fields read.
+//! What the instructions on bytes, sets, strings and fields read.
 
 ghost use Rattle.std.specs.Prelude.{◌≡◌, ◌∷◌, []};
 ghost use Rattle.pm_machine.specs.ReadStretches.{compared_read, source_read, text_stretch, value_leads, value_read};
@@ -9,7 +9,7 @@ use pm_families::{Byte, Field, Kind, Text, Value};
 use pm_opcode::Operation;
 use pm_words::Memory;
 
-// A text with its length byte.
+// Whether one of the bytes is of the string at an address or of its length byte.
 fn is_of_text(bytes: Bytes, memory: &Memory, address: u16) -> bool
     ensures text { result ≡ meets bytes (text_stretch memory.now.words address ∷ []) }
 {
@@ -20,14 +20,14 @@ fn is_of_text(bytes: Bytes, memory: &Memory, address: u16) -> bool
     )
 }
 
-// The text that a word names, unless that is a character.
+// Whether one of the bytes is of the string at the address `word`. A word below 256 is a character and has none.
 fn source_read(bytes: Bytes, memory: &Memory, word: u16) -> bool
     ensures read { result ≡ meets bytes (source_read memory.now.words word) }
 {
     word >= 256 && is_of_text(bytes, memory, word)
 }
 
-// What is compared, beside the words that are taken.
+// Whether a comparison reads one of the bytes, without the words that it takes off the stack.
 fn compared_read(bytes: Bytes, kind: Kind, memory: &Memory, sp: u16) -> bool
     ensures read { result ≡ meets bytes (compared_read kind memory.now.words sp) }
 {
@@ -47,7 +47,7 @@ fn compared_read(bytes: Bytes, kind: Kind, memory: &Memory, sp: u16) -> bool
     }
 }
 
-// What values on the stack lead to.
+// Whether an instruction reads one of the bytes to which values on the stack lead.
 fn value_leads(bytes: Bytes, what: Value, memory: &Memory, sp: u16) -> bool
     ensures read { result ≡ meets bytes (value_leads what memory.now.words sp) }
 {
@@ -63,7 +63,7 @@ fn value_leads(bytes: Bytes, what: Value, memory: &Memory, sp: u16) -> bool
     }
 }
 
-/// A row on values that are more than a word, or less.
+/// Whether an instruction on values of other sizes than a word reads one of the bytes.
 #[tactic(auto, using(crate::proofs::ReadingLaws::meets_both))]
 pub(crate) fn value_read(bytes: Bytes, what: Value, memory: &Memory, sp: u16) -> bool
     ensures read { result ≡ meets bytes (value_read what memory.now.words sp) }

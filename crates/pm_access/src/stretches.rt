@@ -1,4 +1,4 @@
-//! Stretches of memory that a step writes or reads, and the words that a row on the stack takes and puts there.
+//! Ranges of memory that a step writes or reads, and the words that an instruction takes off the stack and pushes.
 
 ghost use Rattle.std.specs.Prelude.{◌≡◌, ◌≤◌, ◌∷◌, []};
 ghost use Rattle.pm_words.specs.Words.{word_at};
@@ -12,23 +12,23 @@ use pm_effects::{Effect, Share, effect_of};
 use pm_opcode::Operation;
 use pm_words::Memory;
 
-/// The word at an address, of which the lowest bit does not count.
+/// Returns the word at an address. The lowest bit of the address does not count.
 pub fn word_at(memory: &Memory, address: u16) -> u16
     ensures word { result ≡ word_at memory.now.words address }
 {
     memory.word(address - address % 2).unwrap_or(0)
 }
 
-/// The bytes that are asked about: so many from an address on.
+/// The bytes of a query: `count` bytes from `address` on.
 #[derive(Clone, Copy)]
 pub(crate) struct Bytes {
-    /// The address of the first.
+    /// The address of the first byte.
     pub address: u16,
-    /// How many.
+    /// The number of bytes.
     pub count: u32,
 }
 
-/// Whether a stretch of so many bytes from a place on has one of the bytes.
+/// Whether a range of `count` bytes from `start` on contains one of the bytes.
 pub(crate) fn meets(bytes: Bytes, start: usize, count: usize) -> bool
     ensures meets { result ≡ meets bytes (stretch start count ∷ []) }
 {
@@ -37,14 +37,14 @@ pub(crate) fn meets(bytes: Bytes, start: usize, count: usize) -> bool
     bytes.count > 0 && count > 0 && start < end && first < start.saturating_add(count)
 }
 
-/// Whether one of the bytes is of so many that end before a place, or of as many of them as stand there.
+/// Whether one of the bytes is among the `count` bytes before `end`. If there are fewer, all of them count.
 pub(crate) fn meets_to(bytes: Bytes, end: usize, count: usize) -> bool
     ensures meets { result ≡ meets bytes (stretch_to end count ∷ []) }
 {
     meets(bytes, end.saturating_sub(count), count.min(end))
 }
 
-/// The word at an address, of which the lowest bit does not count; 0 above the memory.
+/// Returns the word at an address, or 0 above the memory. The lowest bit of the address does not count.
 pub(crate) fn word_in(memory: &Memory, address: usize) -> u16
     ensures word { result ≡ word_at memory.now.words address }
 {
@@ -55,7 +55,8 @@ pub(crate) fn word_in(memory: &Memory, address: usize) -> u16
     word_at(memory, address as u16)
 }
 
-/// The sum of a base and the index above it, which stands at an address of the stack.
+/// Returns the sum of a base and an index, modulo 65,536. The index is at address `sp` of the stack and the base above
+/// it.
 pub(crate) fn place_on_stack(memory: &Memory, sp: usize) -> u16
     requires low { sp ≤ 70000 }
     ensures place { result ≡ place_on_stack memory.now.words sp }
@@ -63,7 +64,7 @@ pub(crate) fn place_on_stack(memory: &Memory, sp: usize) -> u16
     word_in(memory, sp + 2).wrapping_add(word_in(memory, sp))
 }
 
-// How many words a share has that begins at an address of the stack.
+// Returns the number of words of an operand that begins at an address of the stack.
 fn words_of(share: Share, memory: &Memory, address: usize) -> usize
     ensures words { result ≡ words_of share memory.now.words address }
     ensures most { result ≤ 65536 }
@@ -74,7 +75,7 @@ fn words_of(share: Share, memory: &Memory, address: usize) -> usize
     }
 }
 
-// How many words are taken off the stack.
+// Returns the number of words that are taken off the stack.
 fn words_taken(effect: Effect, memory: &Memory, sp: u16) -> usize
     ensures words { result ≡ words_taken effect memory.now.words sp }
     ensures most { result ≤ 131072 }
@@ -84,7 +85,7 @@ fn words_taken(effect: Effect, memory: &Memory, sp: u16) -> usize
     top + words_of(effect.below, memory, sp + 2 * top)
 }
 
-/// Whether one of the bytes is written by a row that takes words off the stack and puts so many there.
+/// Whether one of the bytes is written by an instruction that takes words off the stack and pushes `words` words.
 pub(crate) fn pushes(bytes: Bytes, effect: Effect, words: usize, memory: &Memory, sp: u16) -> bool
     requires few { words ≤ 131072 }
     ensures pushes { result ≡ meets bytes (pushes effect words memory.now.words sp) }
@@ -93,7 +94,7 @@ pub(crate) fn pushes(bytes: Bytes, effect: Effect, words: usize, memory: &Memory
     meets_to(bytes, end, 2 * words)
 }
 
-/// Whether one of the bytes is written by a row that puts so many words on the stack as it leaves.
+/// Whether one of the bytes is written by an instruction that pushes as many words as its effect states.
 pub(crate) fn pushes_words(bytes: Bytes, effect: Effect, memory: &Memory, sp: u16) -> bool
     ensures pushes { result ≡ meets bytes (pushes_words effect memory.now.words sp) }
 {
@@ -101,7 +102,7 @@ pub(crate) fn pushes_words(bytes: Bytes, effect: Effect, memory: &Memory, sp: u1
     pushes(bytes, effect, words, memory, sp)
 }
 
-/// Whether one of the bytes is written by an operation that leaves words on the stack, if its effect is told.
+/// Whether one of the bytes is written by an operation that pushes words, if its effect is defined.
 pub(crate) fn leaves_words(bytes: Bytes, what: Operation, memory: &Memory, sp: u16) -> bool
     ensures leaves { result ≡ meets bytes (compare_written (effect_of what) memory.now.words sp) }
 {
@@ -111,7 +112,7 @@ pub(crate) fn leaves_words(bytes: Bytes, what: Operation, memory: &Memory, sp: u
     }
 }
 
-/// Whether one of the bytes is of the words that an operation takes off the stack, if its effect is told.
+/// Whether one of the bytes is of the words that an operation takes off the stack, if its effect is defined.
 pub(crate) fn takes_words(bytes: Bytes, what: Operation, memory: &Memory, sp: u16) -> bool
     ensures takes { result ≡ meets bytes (taken_if (effect_of what) memory.now.words sp) }
 {

@@ -1,4 +1,4 @@
-//! Whether the next step writes one of so many bytes of memory.
+//! Whether the next step writes a byte of a range of memory.
 
 ghost use Rattle.std.specs.Prelude.{◌≡◌};
 ghost use Rattle.pm_rows.specs.Variables.{frame_of, variable_at};
@@ -19,7 +19,12 @@ use pm_opcode::{Operation, decode};
 use pm_words::stack::load;
 use pm_words::{ExecError, Memory};
 
-// The frame so many static links up from a frame.
+// Returns the frame that is `links` static links up from a frame.
+//
+// # Errors
+//
+// - `NoSegment`: `links` is above 127.
+// - `InvalidMemory`: a link on the way is at an odd address.
 fn link(memory: &Memory, mp: u16, links: u8) -> Result<u16, ExecError>
     ensures frame { result ≡ link memory.now.words mp links }
 {
@@ -33,7 +38,7 @@ fn link(memory: &Memory, mp: u16, links: u8) -> Result<u16, ExecError>
     Ok(frame)
 }
 
-// The frame that a variable stands in.
+// Returns the frame of a variable of a scope.
 fn frame_of(scope: Scope, memory: &Memory, registers: Registers) -> Result<u16, ExecError>
     ensures frame { result ≡ frame_of scope memory.now.words registers }
 {
@@ -64,7 +69,7 @@ pub(crate) fn is_of_variable(
     }
 }
 
-// An operation on a variable of a frame.
+// Whether an operation on a variable of a frame writes one of the bytes.
 fn variable_written(bytes: Bytes, what: Variable, machine: &Machine) -> bool
     ensures written { result ≡ meets bytes (variable_written what machine.now.state) }
 {
@@ -77,7 +82,7 @@ fn variable_written(bytes: Bytes, what: Variable, machine: &Machine) -> bool
     }
 }
 
-// An operation on an address that is on the stack.
+// Whether an operation on an address on the stack writes one of the bytes.
 fn pointer_written(bytes: Bytes, what: Pointer, memory: &Memory, sp: u16) -> bool
     ensures written { result ≡ meets bytes (pointer_written what memory.now.words sp) }
 {
@@ -96,7 +101,7 @@ fn pointer_written(bytes: Bytes, what: Pointer, memory: &Memory, sp: u16) -> boo
     }
 }
 
-/// How many words of a result a return takes along.
+/// Returns the number of words of the result of a return.
 pub(crate) fn words_of_return(what: Return) -> u8
     ensures words { result ≡ words_of_return what }
 {
@@ -105,7 +110,7 @@ pub(crate) fn words_of_return(what: Return) -> u8
     }
 }
 
-// A return with so many words.
+// Whether a return with `words` words of a result writes one of the bytes.
 fn return_written(bytes: Bytes, words: u8, memory: &Memory, mp: u16) -> bool
     ensures written { result ≡ meets bytes (return_written words memory.now.words mp) }
 {
@@ -114,7 +119,7 @@ fn return_written(bytes: Bytes, words: u8, memory: &Memory, mp: u16) -> bool
     meets_to(bytes, above, words)
 }
 
-// What an operation writes.
+// Whether an operation writes one of the bytes.
 fn operation_written(bytes: Bytes, what: Operation, machine: &Machine) -> bool
     ensures written { result ≡ meets bytes (operation_written what machine.now.state) }
 {
@@ -138,10 +143,15 @@ fn operation_written(bytes: Bytes, what: Operation, machine: &Machine) -> bool
     }
 }
 
-/// Whether the instruction at IPC writes one of so many bytes from an address on. A row that ends with an error writes
-/// what it would write if it went on; but an EXIT that does not find its procedure writes nothing, nor does a call that
-/// does not reach its segment, and one that does not find its table writes no frame. An order of sets or of WORDS that
-/// this machine does not have writes its result, a comparison of REAL nothing; CHK writes the word that it leaves.
+/// Whether the instruction at IPC writes one of `count` bytes from `address` on.
+///
+/// A step that ends with an error counts as writing what it would write without the error, with these exceptions:
+///
+/// - An EXIT that does not find its procedure writes nothing.
+/// - A call that does not reach its segment writes nothing. A call that does not find its table writes no frame.
+/// - An operation on sets or WORDS that this machine does not have writes its result; a comparison of REAL writes
+///   nothing.
+/// - CHK writes the word that it leaves on the stack.
 #[tactic(auto, unfolding(pm_machine::specs::Written::written, pm_machine::specs::Rows::fetched))]
 pub fn writes(machine: &Machine, address: u16, count: u32) -> bool
     ensures writes { result ≡ writes address count machine.now.state }

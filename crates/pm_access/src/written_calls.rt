@@ -11,7 +11,8 @@ use pm_calls::{Table, is_base, procedure_called};
 use pm_families::Call;
 use pm_machine::Machine;
 
-// The frame of a call of the procedure with this table, for which so many bytes were loaded.
+// Whether one of the bytes is of the frame of a call of the procedure with this table, for which `loaded` bytes were
+// loaded.
 fn is_of_frame(bytes: Bytes, base: bool, loaded: usize, sp: u16, table: Table) -> bool
     ensures frame { result ≡ meets bytes (frame_stretch base loaded sp table ∷ []) }
 {
@@ -26,7 +27,8 @@ fn is_of_frame(bytes: Bytes, base: bool, loaded: usize, sp: u16, table: Table) -
     meets_to(bytes, end, below + 12 + parameters)
 }
 
-// A call in a segment: the code that is loaded for it and ends at SP, and its frame.
+// Whether a call in a segment writes one of the bytes: of the code that is loaded for it and ends at SP, or of its
+// frame.
 fn frame_and_code(bytes: Bytes, call: Call, sp: u16, segment: Segment<'_>) -> bool
     ensures written { result ≡ meets bytes (frame_and_code call sp (segment_seen segment.entry)) }
 {
@@ -40,7 +42,7 @@ fn frame_and_code(bytes: Bytes, call: Call, sp: u16, segment: Segment<'_>) -> bo
     }
 }
 
-/// A call.
+/// Whether a call writes one of the bytes.
 #[tactic(auto, using(crate::proofs::WritingLaws::written_seen))]
 pub(crate) fn call_written(bytes: Bytes, what: Call, machine: &Machine) -> bool
     ensures written { result ≡ meets bytes (call_written what machine.now.state) }

@@ -1,4 +1,4 @@
-//! What EXIT writes: where the callers that it leaves go on.
+//! What EXIT writes: the addresses at which the callers that it leaves continue.
 
 ghost use Rattle.std.specs.Prelude.{◌≡◌, ◌≤◌, IfOk};
 ghost use Rattle.pm_calls.specs.Exits.{last_frame};
@@ -11,10 +11,10 @@ use pm_calls::{Wanted, is_wanted, meet};
 use pm_machine::Machine;
 use pm_words::{ExecError, Memory};
 
-// The frames of a longer chain are a circle.
+// A chain of more frames is a cycle.
 const MOST_FRAMES: u16 = 32_768;
 
-/// The procedure that an EXIT names: its number is on the top, and that of its segment below.
+/// Returns the procedure that an EXIT requests. Its number is on the top and the number of its segment below it.
 pub(crate) fn wanted_at(memory: &Memory, sp: u16) -> Wanted
     ensures wanted { result ≡ wanted_at memory.now.words sp }
 {
@@ -25,7 +25,8 @@ pub(crate) fn wanted_at(memory: &Memory, sp: u16) -> Wanted
     }
 }
 
-// How many callers up from a frame stands that of the wanted procedure.
+// Returns the number of callers from a frame up to the frame of the requested procedure. Returns `NoProcedure` if none
+// of 32,768 frames is its frame.
 fn last_frame(memory: &Memory, wanted: Wanted, mp: u16) -> Result<u16, ExecError>
     ensures last { result ≡ last_frame memory.now.words wanted mp }
     ensures most { IfOk result (λ n. n ≤ 32767) }
@@ -40,7 +41,7 @@ fn last_frame(memory: &Memory, wanted: Wanted, mp: u16) -> Result<u16, ExecError
     Err(ExecError::NoProcedure)
 }
 
-/// How many frames an EXIT leaves.
+/// Returns the number of frames that an EXIT leaves.
 pub(crate) fn left_by_exit(machine: &Machine, wanted: Wanted) -> Result<u16, ExecError>
     ensures left { result ≡ left_by_exit (parts machine.now.state) wanted }
 {
@@ -51,7 +52,7 @@ pub(crate) fn left_by_exit(machine: &Machine, wanted: Wanted) -> Result<u16, Exe
     Ok(last_frame(memory, wanted, registers.mp)? + 1)
 }
 
-// Whether one of the bytes keeps IPC in one of so many frames from a frame on.
+// Whether one of the bytes is of the saved IPC in one of `frames` frames from `mp` on.
 fn is_ip_kept(bytes: Bytes, memory: &Memory, mp: u16, frames: u16) -> bool
     ensures kept { result ≡ meets bytes (ips_written memory.now.words mp frames) }
 {
@@ -64,7 +65,7 @@ fn is_ip_kept(bytes: Bytes, memory: &Memory, mp: u16, frames: u16) -> bool
     is_kept
 }
 
-/// EXIT from the procedure whose number is on the top, and that of its segment below.
+/// Whether EXIT writes one of the bytes. The procedure number is on the top and the segment number below it.
 pub(crate) fn exit_written(bytes: Bytes, machine: &Machine) -> bool
     ensures written { result ≡ meets bytes (exit_written machine.now.state) }
 {

@@ -14,14 +14,15 @@ use pm_machine::Machine;
 use pm_stdproc::{OnMemory, OnUnits, Procedure, procedure_of};
 use pm_words::Memory;
 
-/// So many bytes from a place on, where the count is above 0 as a signed number.
+/// Whether one of the bytes is among `count` bytes from `place` on. A count that is not above 0 as a signed number has
+/// no bytes.
 pub(crate) fn is_counted(bytes: Bytes, place: u16, count: u16) -> bool
     ensures counted { result ≡ meets bytes (counted_stretch place count) }
 {
     0 < count && count < 32768 && meets(bytes, usize::from(place), usize::from(count))
 }
 
-// A procedure on the memory.
+// Whether a procedure on the memory writes one of the bytes.
 fn memory_written(bytes: Bytes, what: OnMemory, memory: &Memory, sp: u16) -> bool
     ensures written { result ≡ meets bytes (memory_written what memory.now.words sp) }
 {
@@ -45,7 +46,7 @@ fn memory_written(bytes: Bytes, what: OnMemory, memory: &Memory, sp: u16) -> boo
     }
 }
 
-/// The place of a transfer, with as many bytes as it counts.
+/// Whether one of the bytes is of the memory of a transfer.
 pub(crate) fn is_transferred(bytes: Bytes, memory: &Memory, sp: u16) -> bool
     ensures transfer { result ≡ meets bytes (transfer_stretch memory.now.words sp ∷ []) }
 {
@@ -54,7 +55,7 @@ pub(crate) fn is_transferred(bytes: Bytes, memory: &Memory, sp: u16) -> bool
     meets(bytes, usize::from(place_on_stack(memory, top + 6)), count)
 }
 
-// A procedure on the units or the clock.
+// Whether a procedure on the units or the clock writes one of the bytes.
 fn units_written(bytes: Bytes, what: OnUnits, memory: &Memory, sp: u16) -> bool
     ensures written { result ≡ meets bytes (units_written what memory.now.words sp) }
 {
@@ -70,7 +71,7 @@ fn units_written(bytes: Bytes, what: OnUnits, memory: &Memory, sp: u16) -> bool
     }
 }
 
-// The load of a segment that the program keeps, by the number of its slot.
+// Whether the load of a segment that the program keeps writes one of the bytes. The segment is that of a slot.
 fn kept_written(bytes: Bytes, slot: u16, machine: &Machine) -> bool
     ensures written { result ≡ meets bytes (kept_written machine.now.state.registers.sp
         (slot_code slot machine.now.state.places machine.now.state.rows machine.now.state.devices)) }
@@ -82,7 +83,7 @@ fn kept_written(bytes: Bytes, slot: u16, machine: &Machine) -> bool
     }
 }
 
-/// The standard procedure of a number.
+/// Whether the standard procedure with this number writes one of the bytes.
 pub(crate) fn procedure_written(bytes: Bytes, number: u8, machine: &Machine) -> bool
     ensures written { result ≡ meets bytes (procedure_written (procedure_numbered number) machine.now.state) }
 {

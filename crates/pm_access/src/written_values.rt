@@ -1,4 +1,4 @@
-//! What the rows on bytes, sets, strings and fields write.
+//! What the instructions on bytes, sets, strings and fields write.
 
 ghost use Rattle.std.specs.Prelude.{◌≡◌, ◌≤◌};
 ghost use Rattle.pm_machine.specs.Written.{lower_words, pushes, set_words, text_length, value_written};
@@ -11,7 +11,7 @@ use pm_families::{Byte, Field, Set, Text, Value};
 use pm_opcode::Operation;
 use pm_words::Memory;
 
-// How many words has the set below that on the top.
+// Returns the number of words of the set below that on the top.
 fn lower_words(memory: &Memory, sp: u16) -> u16
     ensures words { result ≡ lower_words memory.now.words sp }
 {
@@ -20,7 +20,7 @@ fn lower_words(memory: &Memory, sp: u16) -> u16
     word_in(memory, top + 2 * (upper + 1))
 }
 
-// How many words a row on sets puts on the stack.
+// Returns the number of words that an instruction on sets pushes.
 fn set_words(what: Set, memory: &Memory, sp: u16) -> usize
     ensures words { result ≡ set_words what memory.now.words sp }
     ensures most { result ≤ 65536 }
@@ -44,7 +44,7 @@ fn set_words(what: Set, memory: &Memory, sp: u16) -> usize
     }
 }
 
-// A row on sets.
+// Whether an instruction on sets writes one of the bytes.
 fn set_written(bytes: Bytes, what: Set, memory: &Memory, sp: u16) -> bool
     ensures written { result ≡ meets bytes
         (pushes (set_effect what) (set_words what memory.now.words sp) memory.now.words sp) }
@@ -55,14 +55,14 @@ fn set_written(bytes: Bytes, what: Set, memory: &Memory, sp: u16) -> bool
     }
 }
 
-// How many characters a text has that a word names.
+// Returns the number of characters of the string or character that a word names.
 fn text_length(memory: &Memory, word: u16) -> u8
     ensures length { result ≡ text_length memory.now.words word }
 {
     if word < 256 { 1 } else { memory.byte(word) }
 }
 
-/// A row on values that are more than a word, or less.
+/// Whether an instruction on values of other sizes than a word writes one of the bytes.
 pub(crate) fn value_written(bytes: Bytes, what: Value, memory: &Memory, sp: u16) -> bool
     ensures written { result ≡ meets bytes (value_written what memory.now.words sp) }
 {

@@ -1,4 +1,4 @@
--- Jobs that turn bytes into bytes: what each makes of its input, and which read it.
+-- Jobs that convert bytes to bytes: the product of each for its input, and which of them read it.
 use Rattle.std.specs.Prelude.{ℕ, Bool, true, false, List, Result, Ok, Err, string_bytes}
 use Rattle.pm_jobs.specs.declared.output.AsmOutput.TheVariants as asm
 use Rattle.pm_volume.specs.Copies.{repaired}
@@ -12,7 +12,7 @@ use Rattle.pm_batch.specs.Assembly.{made_asm, made_faults, made_symbols}
 use Rattle.pm_batch.specs.Files.{made_check, made_file, made_new, made_salvage, made_volume, takes_input}
 use Rattle.pm_batch.specs.Products.{Product}
 
--- what a job makes of its input
+-- The product of a job for its input.
 abbrev pub made_of : Batch → List ℕ → Product
 made_of (batches.Asm asm.File) input = made_asm false input
 made_of (batches.Asm asm.Listing) input = made_asm true input
@@ -25,12 +25,12 @@ made_of (batches.Repair image) input = made_volume (repaired image.items)
 made_of (batches.Check image) input = made_check image.items
 made_of (batches.Salvage image second) input = made_salvage (salvaged image.items second)
 
--- whether a command reads the input; an image that is no volume is refused before it is read
+-- A command reads the input. An image that is no volume is refused before the input is read.
 abbrev pub reads_file : Result (List ℕ) VolumeFault → Order → Bool
 reads_file (Ok volume) order = takes_input order
 reads_file (Err fault) order = false
 
--- whether a job reads its input, to its end; else it reads none of it
+-- A job reads its input to the end. Otherwise it reads nothing of it.
 abbrev pub reads_input : Batch → Bool
 reads_input (batches.Asm what) = true
 reads_input (batches.Files opened form command) = reads_file opened (order_of command)

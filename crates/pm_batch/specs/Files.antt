@@ -14,7 +14,7 @@ use Rattle.pm_batch.specs.declared.refusal.Refusal.{Refusal}
 use Rattle.pm_batch.specs.declared.refusal.Refusal.TheVariants as refusals
 use Rattle.pm_batch.specs.Products.{Product, Written, Image, Refused, Judged, Saved}
 
--- the volume that an image is, or why it is none
+-- The volume of an image, or the reason why it is none.
 abbrev pub opened_unless : Option VolumeFault → List ℕ → Result (List ℕ) VolumeFault
 opened_unless None image = Ok image
 opened_unless (Some fault) image = Err fault
@@ -22,18 +22,18 @@ opened_unless (Some fault) image = Err fault
 abbrev pub opened_image : List ℕ → Result (List ℕ) VolumeFault
 opened_image image = opened_unless (image_fault image) image
 
--- what a command answered, or the image after a change
+-- The answer of a command, or the image after a change.
 abbrev pub answered : Answer → List ℕ → Product
 answered (Lines text) image = Written text
 answered (Bytes bytes) image = Written bytes
 answered Done image = Image image
 
--- a command that was done, or refused
+-- A command that was executed or refused.
 abbrev pub made_filed : Result Filed FilerFault → Product
 made_filed (Ok f) = answered f.answer f.image
 made_filed (Err fault) = Refused (refusals.Filer fault)
 
--- whether a command takes the input's bytes
+-- A command uses the bytes of the input.
 abbrev pub takes_input : Order → Bool
 takes_input ListFiles = false
 takes_input (Get name) = false
@@ -59,7 +59,7 @@ takes_input ListAll = false
 takes_input (ListFitting pattern) = false
 takes_input (RemoveFitting pattern) = false
 
--- the command with the input's bytes in the place of its own
+-- The command with the bytes of the input instead of its own.
 abbrev pub with_input : Order → List ℕ → Order
 with_input ListFiles input = ListFiles
 with_input (Get name) input = Get name
@@ -85,31 +85,31 @@ with_input ListAll input = ListAll
 with_input (ListFitting pattern) input = ListFitting pattern
 with_input (RemoveFitting pattern) input = RemoveFitting pattern
 
--- a command, with the input's bytes where it takes them, on the volume that an image is
+-- A command on the volume of an image, with the bytes of the input if it uses them.
 abbrev pub made_file : Result (List ℕ) VolumeFault → Order → List ℕ → Product
 made_file (Ok volume) order input = made_filed (filed volume (with_input order input))
 made_file (Err fault) order input = Refused (refusals.Volume fault)
 
--- a new volume, or why there is none
+-- A new volume, or its refusal.
 abbrev pub made_new : Option VolumeFault → List ℕ → ℕ → Product
 made_new None name blocks = Image (blank_image name blocks)
 made_new (Some fault) name blocks = Refused (refusals.Volume fault)
 
--- a volume that is kept, or why there is none
+-- A volume that is saved, or its refusal.
 abbrev pub made_volume : Result (List ℕ) VolumeFault → Product
 made_volume (Ok image) = Image image
 made_volume (Err fault) = Refused (refusals.Volume fault)
 
--- why an image is refused, if it is no volume
+-- The refusal of an image that is no volume.
 abbrev pub refusal_of : Result (List ℕ) VolumeFault → Option Refusal
 refusal_of (Ok volume) = None
 refusal_of (Err fault) = Some (refusals.Volume fault)
 
--- what is wrong with an image, and why it is refused
+-- The faults of an image, and its refusal.
 abbrev pub made_check : List ℕ → Product
 made_check image = Judged (check_text image) (refusal_of (opened_image image))
 
--- a volume that is saved of an image, and what is said of it, or why there is none
+-- The volume with the files of an image and the report about them, or the refusal.
 abbrev pub made_salvage : Result saving.Saved VolumeFault → Product
 made_salvage (Ok s) = Saved s.text s.volume
 made_salvage (Err fault) = Refused (refusals.Volume fault)

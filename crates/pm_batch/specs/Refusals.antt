@@ -1,4 +1,4 @@
--- Why an input is refused, in numbers and words.
+-- The refusals of an input, as numbers and names.
 use Rattle.std.specs.Prelude.{ℕ, Bool, true, false, List, [], ◌∷◌, ◌++◌, Option, None, Some, codes}
 use Rattle.std.specs.Fmt.{decimal}
 use Rattle.pm_words.specs.Errors.{number_of}
@@ -23,7 +23,7 @@ use Rattle.pm_filer.specs.declared.system_fault.SystemFault.TheVariants as syste
 use Rattle.pm_batch.specs.declared.refusal.Refusal.{Refusal}
 use Rattle.pm_batch.specs.declared.refusal.Refusal.TheVariants as refusals
 
--- a space and the number of the execution error, where a start fails by one
+-- A space and the number of the execution error if a start fails with one.
 abbrev pub error_text : BootFault → List ℕ
 error_text boot.NoFile = []
 error_text boot.NotCode = []
@@ -31,40 +31,40 @@ error_text boot.BadCode = []
 error_text (boot.Exec error) = 32 ∷ decimal (number_of error)
 error_text boot.NoMemory = []
 
--- a space and the entry of the directory, the first copy's fault, the slot, the line or the place, where a fault names
--- one
+-- A space and the number that a fault names: an entry of the directory, the fault of the first copy, a slot, a line or
+-- a position.
 abbrev pub entry_text : Option ℕ → List ℕ
 entry_text None = []
 entry_text (Some entry) = 32 ∷ decimal entry
 
--- the number of a fault of a start, and that of the execution error
+-- The number of a fault of a start, and the number of its execution error.
 abbrev pub boot_text : BootFault → List ℕ
 boot_text fault = decimal (boot_number fault) ++ error_text fault
 
--- the number of a volume's fault, and the entry or the first copy's fault that it names
+-- The number of a fault of a volume, and the entry or the fault of the first copy that it names.
 abbrev pub volume_text : VolumeFault → List ℕ
 volume_text fault = decimal (volume_number fault) ++ entry_text (detail_of fault)
 
--- the number of a text's fault, and the line or place that it names
+-- The number of a fault of a text, and the line or position that it names.
 abbrev pub text_fault_text : TextFault → List ℕ
 text_fault_text fault = decimal (text_number fault) ++ entry_text (place_of_text_fault fault)
 
--- the number of a filer's fault, and that of the fault within it
+-- The number of a fault of a volume command, and the number of the fault within it.
 abbrev pub filer_text : FilerFault → List ℕ
 filer_text (filer.Volume fault) = 49 ∷ 32 ∷ volume_text fault
 filer_text (filer.Text fault) = 50 ∷ 32 ∷ text_fault_text fault
 filer_text filer.BadDate = 51 ∷ []
 filer_text filer.NoMemory = 52 ∷ []
 
--- the number of a code file's fault, and the slot that it names
+-- The number of a fault of a code file, and the slot that it names.
 abbrev pub code_text : CodeFault → List ℕ
 code_text fault = decimal (code_number fault) ++ entry_text (slot_of_fault fault)
 
--- the number of a fault of the assembler's text, and the line or the segment that it names
+-- The number of a fault of an assembler source text, and the line or segment that it names.
 abbrev pub asm_text : AsmFault → List ℕ
 asm_text fault = decimal (asm_number fault) ++ entry_text (asm_place fault)
 
--- the number of a fault of the system's segment, and that of the fault within it
+-- The number of a fault of the system segment, and the number of the fault within it.
 abbrev pub system_text : SystemFault → List ℕ
 system_text (system.NoCode fault) = 49 ∷ 32 ∷ code_text fault
 system_text system.NoSegment = 50 ∷ []
@@ -82,7 +82,7 @@ refusal_text (refusals.System fault) = codes "refused system " ++ system_text fa
 refusal_text (refusals.Filer fault) = codes "refused filer " ++ filer_text fault
 refusal_text (refusals.Boot fault) = codes "refused boot " ++ boot_text fault
 
--- a fault that stands for want of memory, which is no refusal
+-- A fault that means that memory is out, which is no refusal.
 abbrev pub is_boot_want : BootFault → Bool
 is_boot_want boot.NoFile = false
 is_boot_want boot.NotCode = false

@@ -1,4 +1,4 @@
-//! The jobs on a text of the assembler.
+//! The jobs on an assembler source text.
 ghost use Rattle.std.specs.Prelude.{◌≡◌, ◌≢◌, ◌++◌, Ok, Err, IfOk, IfErr, OnOk, string_bytes};
 ghost use Rattle.pm_asm.specs.Assembled.{assembled, wanted};
 ghost use Rattle.pm_source.specs.declared.fault.AsmFault.TheVariants.{NoMemory};
@@ -18,14 +18,14 @@ use pm_asm::{
 use std::alloc::{AllocError, Global};
 use std::fmt::Write;
 
-/// The character of the text that a byte is: one above 127 is character 127.
+/// Returns the character of a byte. A byte above 127 is character 127.
 fn character(byte: u8) -> char
     ensures value { result ≡ character_of byte }
 {
     char::from(byte.min(127))
 }
 
-/// The text that bytes are, in memory of its own.
+/// Copies bytes into a new string of their characters.
 #[tactic(auto, unfolding(crate::specs::Assembly::text_of_input))]
 fn text_of(alloc: Global, input: &[u8]) -> Result<String, AllocError>
     ensures text { IfOk result (λ text. string_bytes text ≡ text_of_input input.now) }
@@ -37,7 +37,7 @@ fn text_of(alloc: Global, input: &[u8]) -> Result<String, AllocError>
     Ok(text)
 }
 
-/// The text that an input is. One of characters up to 127 stays where it stands.
+/// Returns the string of the characters of an input. The memory of an ASCII input is reused.
 #[tactic(auto, using(crate::proofs::Characters::ascii_stays))]
 fn text_in_place(alloc: Global, input: Vec<u8>) -> Result<String, AllocError>
     ensures text { IfOk result (λ text. string_bytes text ≡ text_of_input input.items) }
@@ -51,7 +51,8 @@ fn text_in_place(alloc: Global, input: Vec<u8>) -> Result<String, AllocError>
     }
 }
 
-/// The bytes of the code file of a text; with `list` those of its listing. The other of the two is not made.
+/// Assembles a source text and returns the bytes of its code file, or with `list` those of its listing. Only the
+/// requested one is created.
 fn made(alloc: Global, text: &str, list: bool) -> Result<Vec<u8>, AsmFault>
     ensures bytes { IfOk result (λ bytes. wanted list (assembled text.now) ≡ Ok bytes.items) }
     ensures refusal { IfErr result (λ fault. fault ≢ NoMemory → assembled text.now ≡ Err fault) }
@@ -63,7 +64,8 @@ fn made(alloc: Global, text: &str, list: bool) -> Result<Vec<u8>, AsmFault>
     assemble_file(alloc, text)
 }
 
-/// The bytes of the code file of a text, with `list` those of its listing, or why there are none.
+/// Returns the bytes of the code file of a source text, or with `list` those of its listing. The inner error is the
+/// fault of the source text.
 fn wanted(alloc: Global, text: &str, list: bool) -> Result<Result<Vec<u8>, AsmFault>, AllocError>
     ensures bytes { IfOk result (λ bytes. IfOk bytes (λ bytes. wanted list (assembled text.now) ≡ Ok bytes.items)) }
     ensures refusal { IfOk result (λ bytes. IfErr bytes (λ fault. wanted list (assembled text.now) ≡ Err fault)) }
@@ -75,7 +77,7 @@ fn wanted(alloc: Global, text: &str, list: bool) -> Result<Result<Vec<u8>, AsmFa
     }
 }
 
-/// What stands in a text before the line of this number.
+/// Returns the part of a text before the line with this number, which counts from 1.
 fn before_line(text: &str, number: usize) -> Option<&str> {
     let mut line: usize = 1;
     for (place, byte) in text.bytes().enumerate() {
@@ -89,7 +91,8 @@ fn before_line(text: &str, number: usize) -> Option<&str> {
     None
 }
 
-/// What helps at an `.END` that is refused, in the line of this number, if its procedure can be counted.
+/// Returns the hint for an `.END` that is refused in line `number`, if the bytes and jump entries of its procedure can
+/// be counted.
 fn hint_at_end(alloc: Global, text: &str, number: usize) -> Option<Hint> {
     match counts_of(alloc, before_line(text, number)?) {
         Ok(Some(counts)) => Some(ended_hint(counts)),
@@ -97,8 +100,8 @@ fn hint_at_end(alloc: Global, text: &str, number: usize) -> Option<Hint> {
     }
 }
 
-/// A line of a text that has a fault: its number, with what helps there, or what is wrong where nothing is known to
-/// help; below that the line, and below that its mark; if there is memory for that.
+/// Returns the message of a line with a fault, or `None` if memory is out. It has the line number with a hint, or the
+/// fault if there is no hint. Below it are the line and the mark.
 fn told_line(
     alloc: Global,
     text: &str,
@@ -118,7 +121,7 @@ fn told_line(
     told.ok()
 }
 
-/// The line of the text that a fault names, as it is told, if it names one and there is memory for it.
+/// Returns the message of the line that a fault names, if it names one and there is memory.
 fn line_of(alloc: Global, text: &str, fault: AsmFault) -> Option<String> {
     let number = match fault {
         AsmFault::TooLong(_) => return None,
@@ -128,7 +131,7 @@ fn line_of(alloc: Global, text: &str, fault: AsmFault) -> Option<String> {
     told_line(alloc, text, fault, number, line)
 }
 
-/// Bytes that are written, or a refusal with the line of the text that it names.
+/// Returns the bytes, or the refusal with the message of the line that it names.
 fn bytes_made(alloc: Global, text: &str, bytes: Result<Vec<u8>, AsmFault>) -> Made
     ensures bytes { IfOk bytes (λ bytes. product_of result ≡ Written bytes.items) }
     ensures fault { IfErr bytes (λ fault. product_of result ≡ Refused (refusals.Asm fault)) }
@@ -142,7 +145,7 @@ fn bytes_made(alloc: Global, text: &str, bytes: Result<Vec<u8>, AsmFault>) -> Ma
     }
 }
 
-/// The code file of the text that the input is, or with `list` its listing.
+/// Returns the code file of the source text in the input, or with `list` its listing.
 pub(crate) fn assemble(alloc: Global, input: Vec<u8>, list: bool) -> Result<Made, AllocError>
     ensures made { IfOk result (λ made. product_of made ≡ made_asm list input.items) }
 {
@@ -151,7 +154,7 @@ pub(crate) fn assemble(alloc: Global, input: Vec<u8>, list: bool) -> Result<Made
     Ok(bytes_made(alloc, &text, bytes))
 }
 
-/// The lines of the procedures and labels of a text, or why there are none.
+/// Returns the lines of the procedures and labels of a source text. The inner error is the fault of the source text.
 fn symbols(alloc: Global, text: &str) -> Result<Result<Vec<u8>, AsmFault>, AllocError>
     ensures bytes { IfOk result (λ bytes. IfOk bytes (λ bytes. symbol_text text.now ≡ Ok bytes.items)) }
     ensures refusal { IfOk result (λ bytes. IfErr bytes (λ fault. symbol_text text.now ≡ Err fault)) }
@@ -163,7 +166,7 @@ fn symbols(alloc: Global, text: &str) -> Result<Result<Vec<u8>, AsmFault>, Alloc
     }
 }
 
-/// The lines of the procedures and labels of the text that the input is.
+/// Returns the lines of the procedures and labels of the source text in the input.
 pub(crate) fn list_symbols(alloc: Global, input: Vec<u8>) -> Result<Made, AllocError>
     ensures made { IfOk result (λ made. product_of made ≡ made_symbols input.items) }
 {
@@ -172,7 +175,7 @@ pub(crate) fn list_symbols(alloc: Global, input: Vec<u8>) -> Result<Made, AllocE
     Ok(bytes_made(alloc, &text, bytes))
 }
 
-/// Adds the line of a fault.
+/// Appends the line of a fault.
 #[tactic(auto, unfolding(crate::specs::Assembly::fault_line))]
 fn push_fault(text: &mut String, fault: AsmFault) -> Result<(), AllocError>
     ensures text { OnOk result (string_bytes text.new ≡ string_bytes text.old ++ fault_line fault) }
@@ -182,7 +185,7 @@ fn push_fault(text: &mut String, fault: AsmFault) -> Result<(), AllocError>
     Ok(())
 }
 
-/// The lines of faults.
+/// Returns the lines of faults.
 fn lines_of(alloc: Global, faults: &[AsmFault]) -> Result<String, AllocError>
     ensures text { IfOk result (λ text. string_bytes text ≡ fault_lines faults.now) }
 {
@@ -193,7 +196,7 @@ fn lines_of(alloc: Global, faults: &[AsmFault]) -> Result<String, AllocError>
     Ok(text)
 }
 
-/// Why a text with these faults is refused, if it is.
+/// Returns the refusal of a source text with these faults, or `None` if there are none.
 fn first_refusal(faults: &[AsmFault]) -> Option<Refusal>
     ensures refusal { result ≡ first_refusal faults.now }
 {
@@ -203,10 +206,10 @@ fn first_refusal(faults: &[AsmFault]) -> Option<Refusal>
     }
 }
 
-/// How many of the faults of a text are told with their lines.
+/// The maximum number of faults whose lines are shown.
 const TOLD: usize = 20;
 
-/// The lines of the text that the first faults name, in ascending order, as they are told.
+/// Returns the messages of the lines that the first faults name, in ascending order.
 fn lines_told(alloc: Global, text: &str, faults: &[AsmFault]) -> Option<String> {
     let mut told = String::new(alloc);
     let mut faults = faults.iter().take(TOLD);
@@ -228,7 +231,7 @@ fn lines_told(alloc: Global, text: &str, faults: &[AsmFault]) -> Option<String> 
     None
 }
 
-/// The lines of all faults of the text that the input is, and why it is refused, if it is.
+/// Returns the lines of all faults of the source text in the input, and its refusal if it has faults.
 pub(crate) fn find_faults(alloc: Global, input: Vec<u8>) -> Result<Made, AllocError>
     ensures made { IfOk result (λ made. product_of made ≡ made_faults input.items) }
 {

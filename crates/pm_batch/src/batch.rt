@@ -1,4 +1,4 @@
-//! Jobs that turn bytes into bytes, as functions of their input.
+//! Jobs that convert bytes to bytes, as functions of their input.
 ghost use Rattle.std.specs.Prelude.{◌≡◌, IfOk};
 ghost use Rattle.pm_batch.specs.Batches.{made_of, reads_input};
 ghost use Rattle.pm_batch.specs.Products.{product_of};
@@ -12,31 +12,31 @@ use pm_jobs::AsmOutput;
 use pm_volume::{Volume, VolumeFault};
 use std::alloc::{AllocError, Global};
 
-/// A job that turns bytes into bytes.
+/// A job that converts bytes to bytes.
 #[derive(Drop)]
 pub enum Batch {
-    /// What `asm` writes of a text of the assembler.
+    /// An output of `asm` for an assembler source text.
     Asm(AsmOutput),
-    /// A command on a volume; an image that is none is refused, and the form that it has is told.
+    /// A command on a volume. An image that is no volume is refused, and its form is reported.
     Files {
         opened: Result<Volume, VolumeFault>,
         form: Option<Form>,
         command: FileCommand,
     },
-    /// A new volume of this name and so many blocks.
+    /// A new volume with this name and number of blocks.
     New {
         name: String,
         blocks: u16,
     },
-    /// A volume whose first copy of the directory is repaired.
+    /// The repair of the first copy of the directory of a volume.
     Repair {
         image: Vec<u8>,
     },
-    /// An image is looked at.
+    /// A check of an image.
     Check {
         image: Vec<u8>,
     },
-    /// The files of an image are saved into a new volume.
+    /// The copy of the files of an image to a new volume.
     Salvage {
         image: Vec<u8>,
         second: bool,
@@ -44,7 +44,7 @@ pub enum Batch {
 }
 
 impl Batch {
-    /// Whether it reads its input, to the end. Else it reads none of it.
+    /// Whether it reads its input to the end. Otherwise it reads nothing of it.
     pub fn reads_input(&self) -> bool
         ensures value { result ≡ reads_input self.now }
     {
@@ -61,24 +61,24 @@ impl Batch {
     }
 }
 
-/// What a job makes of its input.
+/// The product of a job.
 #[derive(Drop)]
 pub enum Made {
     /// Bytes that are written.
     Bytes(Vec<u8>),
-    /// The image of a volume that is kept.
+    /// The image of a volume that is saved.
     Image(Vec<u8>),
-    /// Nothing, and why; with what a terminal is told in place of the reason, where more is known: of a text of the
-    /// assembler the line that the refusal names, and what helps there.
+    /// A refusal. A terminal shows the text instead of the reason if there is one. For an assembler source text it has
+    /// the line that the refusal names and a hint.
     Refused(Refusal, Option<String>),
-    /// A text that is written on an image or on a text of the assembler, and why that is refused, if it is; with what a
-    /// terminal is told in place of the reason, where more is known.
+    /// A report on an image or an assembler source text, which is written, and its refusal, if any. A terminal shows
+    /// the last text instead of the reason if there is one.
     Judged(Vec<u8>, Option<Refusal>, Option<String>),
-    /// A text that is written, and the image of a volume that is kept.
+    /// A text that is written, and the image of a volume that is saved.
     Saved(Vec<u8>, Vec<u8>),
 }
 
-/// What a job makes of its input. Of a job that reads none the input is empty.
+/// Returns the product of a job for its input. The input of a job that reads nothing is empty.
 pub fn make(alloc: Global, job: Batch, input: Vec<u8>) -> Result<Made, AllocError>
     ensures made { IfOk result (λ made. product_of made ≡ made_of job input.items) }
 {

@@ -16,7 +16,7 @@ use pm_filer::{FileCommand, FilerFault, Reply, apply};
 use pm_volume::{Volume, VolumeFault};
 use std::alloc::{AllocError, Global};
 
-/// The volume that an image is, or why it is none.
+/// Opens an image as a volume, or returns the reason why it is none.
 pub fn open(image: Vec<u8>) -> Result<Volume, VolumeFault>
     ensures opened { result ≡ opened_image image.items }
 {
@@ -26,7 +26,7 @@ pub fn open(image: Vec<u8>) -> Result<Volume, VolumeFault>
     }
 }
 
-/// Whether a command takes the input's bytes.
+/// Whether a command uses the bytes of the input.
 pub(crate) fn takes_input(command: &FileCommand) -> bool
     ensures value { result ≡ takes_input (order_of command.now) }
 {
@@ -39,7 +39,7 @@ pub(crate) fn takes_input(command: &FileCommand) -> bool
     )
 }
 
-/// A command with the input's bytes in the place of its own.
+/// Returns the command with the bytes of the input instead of its own.
 fn with_input(command: FileCommand, input: Vec<u8>) -> FileCommand
     ensures order { order_of result ≡ with_input (order_of command) input.items }
 {
@@ -52,7 +52,7 @@ fn with_input(command: FileCommand, input: Vec<u8>) -> FileCommand
     }
 }
 
-/// What a command answered, or the image of a volume that it changed.
+/// Returns the answer of a command, or the image of the volume that it changed.
 fn answer(volume: Volume, reply: Reply) -> Made
     ensures made { product_of result ≡ answered (answer_of reply) volume }
 {
@@ -63,7 +63,7 @@ fn answer(volume: Volume, reply: Reply) -> Made
     }
 }
 
-/// A copy of the name of the file that a command wants, if it names one and there is memory for it.
+/// Returns a copy of the name of the file that a command reads or changes, if it names one and there is memory.
 fn wanted_name(alloc: Global, command: &FileCommand) -> Option<String> {
     match command {
         FileCommand::Get(name) | FileCommand::GetText(name) | FileCommand::Remove(name) => {
@@ -76,14 +76,14 @@ fn wanted_name(alloc: Global, command: &FileCommand) -> Option<String> {
     }
 }
 
-/// The name of a file of the volume that is another with an ending behind it.
+/// Returns `name` with `ending` appended if the volume has a file of this name.
 fn longer_name(alloc: Global, volume: &Volume, name: &str, ending: &str) -> Option<String> {
     let longer = format!(in alloc; "{name}{ending}").ok()?;
     volume.find(longer.as_str())?;
     Some(longer)
 }
 
-/// What is told where a file is not there: the one with .TEXT or .CODE behind the name, if that is there.
+/// Returns the message for a missing file: the name with .TEXT or .CODE appended, if such a file exists.
 fn told_missing(
     alloc: Global,
     volume: &Volume,
@@ -102,7 +102,7 @@ fn told_missing(
     format!(in alloc; "no file of that name, but there is {longer}").ok()
 }
 
-/// Whether a fault is one behind a header that is that of a volume.
+/// Whether a fault is in an image with the header of a volume.
 fn is_behind_header(fault: VolumeFault) -> bool
     ensures value { result ≡ is_behind_header fault }
 {
@@ -115,7 +115,7 @@ fn is_behind_header(fault: VolumeFault) -> bool
     )
 }
 
-/// Which form an image has, and what takes it.
+/// Returns the sentence about the form of an image and how to read it.
 fn form_sentence(form: Form) -> &'static str
     ensures sentence { result.now ≡ form_sentence form }
 {
@@ -131,8 +131,8 @@ fn form_sentence(form: Form) -> &'static str
     }
 }
 
-/// What is told of an image whose first bytes are those of no volume, where its form is known; nothing where there is
-/// no memory for it.
+/// Returns the message about an image without the header of a volume, if its form is known. Returns `None` if memory is
+/// out.
 pub fn form_told(alloc: Global, fault: VolumeFault, form: Option<Form>) -> Option<String>
     ensures told { IfSome result (λ told. form_told fault form ≡ Some (string_bytes told)) }
 {
@@ -143,8 +143,7 @@ pub fn form_told(alloc: Global, fault: VolumeFault, form: Option<Form>) -> Optio
     String::from_str(alloc, form_sentence(form)).ok()
 }
 
-/// What is told behind what is wrong with an image that is no volume: its form, where that is known, or what takes its
-/// files out.
+/// Returns the message about an image that is no volume: how to copy its files, or its form if that is known.
 fn told_checked(alloc: Global, fault: VolumeFault, form: Option<Form>) -> Option<String> {
     match fault {
         VolumeFault::BadEntry(_) | VolumeFault::TooManyFiles | VolumeFault::PastEnd => {
@@ -156,7 +155,7 @@ fn told_checked(alloc: Global, fault: VolumeFault, form: Option<Form>) -> Option
     }
 }
 
-/// Does a command on the volume that an image is, with the input's bytes where it takes them.
+/// Executes a command on the volume of an image, with the bytes of the input if it uses them.
 pub(crate) fn file(
     alloc: Global,
     opened: Result<Volume, VolumeFault>,
@@ -184,7 +183,7 @@ pub(crate) fn file(
     }
 }
 
-/// What is told where a new volume is not made, if it is not why an image is no volume.
+/// Returns the message for a new volume that cannot be created, if it differs from that for an image.
 fn told_new(alloc: Global, fault: VolumeFault) -> Option<String> {
     match fault {
         VolumeFault::BadHeader => String::from_str(alloc, "a volume has at least 6 blocks").ok(),
@@ -192,7 +191,7 @@ fn told_new(alloc: Global, fault: VolumeFault) -> Option<String> {
     }
 }
 
-/// A new volume without files.
+/// Creates a volume without files.
 pub(crate) fn new_volume(alloc: Global, name: &str, blocks: u16) -> Result<Made, AllocError>
     ensures made { IfOk result (λ made.
         product_of made ≡ made_new (blank_fault name.now blocks) name.now blocks) }
@@ -204,7 +203,7 @@ pub(crate) fn new_volume(alloc: Global, name: &str, blocks: u16) -> Result<Made,
     }
 }
 
-/// An image as a volume, its first copy repaired where it alone is damaged.
+/// Returns the image as a volume. The first copy of the directory is repaired if only this copy is damaged.
 pub(crate) fn repair_volume(alloc: Global, image: Vec<u8>) -> Made
     ensures made { product_of result ≡ made_volume (repaired image.items) }
 {
@@ -217,7 +216,7 @@ pub(crate) fn repair_volume(alloc: Global, image: Vec<u8>) -> Made
     }
 }
 
-/// What is wrong with an image, and why it is refused, if it is no volume.
+/// Returns the faults of an image, and its refusal if it is no volume.
 pub(crate) fn check_image(alloc: Global, image: Vec<u8>) -> Result<Made, AllocError>
     ensures made { IfOk result (λ made. product_of made ≡ made_check image.items) }
 {
@@ -233,7 +232,7 @@ pub(crate) fn check_image(alloc: Global, image: Vec<u8>) -> Result<Made, AllocEr
     Ok(Made::Judged(text.into_bytes(), refusal, told))
 }
 
-/// The files of an image in a new volume, and what is said of each.
+/// Returns the files of an image in a new volume, and the report about each file.
 pub(crate) fn salvage_image(alloc: Global, image: &[u8], second: bool) -> Result<Made, AllocError>
     ensures made { IfOk result (λ made. product_of made ≡ made_salvage (salvaged image.now second)) }
 {

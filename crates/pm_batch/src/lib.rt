@@ -1,4 +1,4 @@
-//! Jobs that turn bytes into bytes, as functions of their input, and why an input is refused.
+//! Jobs that convert bytes to bytes, as functions of their input, and the refusals of an input.
 #![tactic(auto)]
 
 mod assembly;

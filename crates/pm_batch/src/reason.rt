@@ -1,4 +1,4 @@
-//! Why an input is refused, in words.
+//! The messages for refused inputs.
 use crate::refusal::Refusal;
 use pm_codefile::CodeFault;
 use pm_filer::{FilerFault, SystemFault};
@@ -7,7 +7,7 @@ use pm_textfile::TextFault;
 use pm_volume::VolumeFault;
 use std::fmt;
 
-/// What helps where an image is no volume.
+/// Returns the hint for an image that is no volume.
 fn help_for(fault: VolumeFault) -> &'static str {
     match fault {
         VolumeFault::NotBlocks => {
@@ -29,7 +29,7 @@ fn help_for(fault: VolumeFault) -> &'static str {
     }
 }
 
-/// What helps where a volume refuses a command.
+/// Returns the hint for a command that a volume refuses.
 fn help_of_command(fault: VolumeFault) -> &'static str {
     match fault {
         VolumeFault::NoRoom =>
@@ -46,7 +46,7 @@ fn help_of_command(fault: VolumeFault) -> &'static str {
     }
 }
 
-/// What helps where a text, or a text file, has a fault.
+/// Returns the hint for a fault in a text or a text file.
 fn help_of_text(fault: TextFault) -> &'static str {
     match fault {
         TextFault::NoHeader => ", so it is not a text file; 'files get' writes its bytes unchanged",
@@ -56,7 +56,7 @@ fn help_of_text(fault: TextFault) -> &'static str {
     }
 }
 
-/// What helps where the system's segment is not put in.
+/// Returns the hint for a system segment that cannot be added.
 fn help_of_system(fault: SystemFault) -> &'static str {
     match fault {
         SystemFault::NoCode(_) => "; 'asm' of examples/system/system.text makes one",
@@ -66,7 +66,7 @@ fn help_of_system(fault: SystemFault) -> &'static str {
     }
 }
 
-/// Why a command on a volume is refused.
+/// The message for a refused command on a volume.
 #[derive(Clone, Copy)]
 struct Unfiled(FilerFault);
 
@@ -89,7 +89,7 @@ impl fmt::Display for Unfiled {
     }
 }
 
-/// A refusal, as the text that says what is wrong.
+/// The message for a refusal.
 #[derive(Clone, Copy)]
 pub struct Reason(pub Refusal);
 

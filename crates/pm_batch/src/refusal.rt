@@ -1,4 +1,4 @@
-//! Why an input is refused, by number.
+//! The refusals of an input and their numbers.
 ghost use Rattle.std.specs.Prelude.{◌≡◌, Some};
 ghost use Rattle.pm_batch.specs.Refusals.{asm_text, boot_text, code_text, is_want, refusal_text, system_text};
 ghost use Rattle.pm_batch.specs.Refusals.{text_fault_text, volume_text};
@@ -11,27 +11,27 @@ use pm_textfile::TextFault;
 use pm_volume::VolumeFault;
 use std::fmt;
 
-/// Why an input is refused.
+/// The reason why an input is refused.
 #[derive(Clone, Copy)]
 pub enum Refusal {
     /// It is not pairs of hexadecimal digits and white space.
     Hex,
     /// The machine does not start on it.
     Boot(BootFault),
-    /// The image is no volume, or no volume can be made.
+    /// The image is no volume, or no volume can be created.
     Volume(VolumeFault),
     /// A command is refused.
     Filer(FilerFault),
     /// It is no code file.
     Code(CodeFault),
-    /// It is a text that spells no program, or one with a segment that is too long.
+    /// It is not a valid assembler source text, or one of its segments is too long.
     Asm(AsmFault),
-    /// The system's segment is not put in.
+    /// The system segment cannot be added.
     System(SystemFault),
 }
 
 impl Refusal {
-    /// Whether it stands for want of memory, which is no refusal.
+    /// Whether it means that memory is out, which is no refusal.
     pub fn is_want(self) -> bool
         ensures value { result ≡ is_want self }
     {
@@ -49,7 +49,7 @@ impl Refusal {
     }
 }
 
-/// The number of a volume's fault, and the entry or the first copy's fault that it names.
+/// The number of a fault of a volume, and the entry or the fault of the first copy that it names.
 #[derive(Clone, Copy)]
 struct VolumeNumber(VolumeFault);
 
@@ -65,7 +65,7 @@ impl fmt::Display for VolumeNumber {
     }
 }
 
-/// The number of a text's fault, and the line or place that it names.
+/// The number of a fault of a text, and the line or position that it names.
 #[derive(Clone, Copy)]
 struct TextNumber(TextFault);
 
@@ -81,7 +81,7 @@ impl fmt::Display for TextNumber {
     }
 }
 
-/// The number of a code file's fault, and the slot that it names.
+/// The number of a fault of a code file, and the slot that it names.
 #[derive(Clone, Copy)]
 struct CodeNumber(CodeFault);
 
@@ -97,7 +97,7 @@ impl fmt::Display for CodeNumber {
     }
 }
 
-/// The number of a fault of the assembler's text, and the line or the segment that it names.
+/// The number of a fault of an assembler source text, and the line or segment that it names.
 #[derive(Clone, Copy)]
 struct AsmNumber(AsmFault);
 
@@ -113,7 +113,7 @@ impl fmt::Display for AsmNumber {
     }
 }
 
-/// The number of a fault of a start, and that of the execution error by which it fails.
+/// The number of a fault of a start, and the number of its execution error.
 #[derive(Clone, Copy)]
 struct BootNumber(BootFault);
 
@@ -132,7 +132,7 @@ impl fmt::Display for BootNumber {
     }
 }
 
-/// The number of a fault of the system's segment, and that of the fault within it.
+/// The number of a fault of the system segment, and the number of the fault within it.
 #[derive(Clone, Copy)]
 struct SystemNumber(SystemFault);
 

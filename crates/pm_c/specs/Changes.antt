@@ -1,4 +1,4 @@
--- What a call on a handle does to the machine in it.
+-- The change of the machine in a handle by a call.
 use Rattle.std.specs.Prelude.{◌≡◌, ◌≢◌, ℕ, List, length, drop, ◌++◌, Option, None, Some}
 use Rattle.std.specs.Prelude.{[], Result, Ok, Err, if◌then◌else◌, nat_lt, string_bytes}
 use Rattle.pm_debug.specs.Session.{Debugged, session_of}
@@ -20,47 +20,48 @@ use Rattle.pm_c.specs.declared.shows.Shown.{Shown}
 use Rattle.pm_c.specs.declared.status.TheConstants.{DONE, NO_DISK, NO_MACHINE, NO_MEMORY, NO_PLACE, ODD_ADDRESS}
 use Rattle.pm_c.specs.declared.status.TheConstants.{TOO_SHORT}
 
--- an empty handle stays empty, and the status says so; what another one holds changes so
+-- An empty handle remains empty, which the status states. The value of another handle changes by `P`.
 abbrev pub Leads : ℕ → Option Held → Option Held → (Held → Held → Type 0) → Type 0
 Leads status None new P = (status ≡ NO_MACHINE) × (new ≡ None)
 Leads status (Some m) None P = ⊥
 Leads status (Some m) (Some n) P = P m n
 
--- the debugger of the machine changes so, and nothing beside it
+-- The debugger of the machine changes by `P`, and nothing else changes.
 abbrev pub ChangesDebugger : (Debugged → Debugged → Type 0) → Held → Held → Type 0
 ChangesDebugger P m n = P m.debugger n.debugger × (n ≡ record m { debugger = n.debugger })
 
--- the machine changes so, and nothing beside it: the breakpoints, the watched words and the rest of the last run stay
+-- The machine changes by `P`, and nothing else changes: the breakpoints, the watched words and the rest of the last run
+-- are unchanged.
 abbrev pub ChangesMachine : (Whole → Whole → Type 0) → Held → Held → Type 0
 ChangesMachine P = ChangesDebugger (λ d e. P d.machine e.machine × (e ≡ record d { machine = e.machine }))
 
--- one step, and the status of its answer
+-- One step, and the status of its answer.
 abbrev pub StepsTo : ℕ → Whole → Whole → Type 0
 StepsTo status m n = (stop : Stop) × (stepped m.state ≡ (n.state, stop)) × (status ≡ stop_code stop)
 
--- a run of at most limit steps: how many counted, and the status of the last answer
+-- A run of at most `limit` steps: the number of counted steps, and the status of the last answer.
 abbrev pub RunsTo : ℕ → ℕ → ℕ → Whole → Whole → Type 0
 RunsTo limit count status m n = (stop : Stop) × Ran limit m.state count stop n.state × (status ≡ stop_code stop)
 
--- a machine is shown so, and nothing changes
+-- The view `P` of a machine; nothing changes.
 abbrev pub Looks : (Held → Type 0) → Held → Held → Type 0
 Looks P m n = P m × (n ≡ m)
 
--- a machine that starts so, with a session that begins, out of which no disk was taken
+-- A machine at this start, with a new session and without an ejected disk.
 pub record Started (start : Result State BootFault) (m : Held) : Type 0 where
   pub starts : start ≡ Ok m.debugger.machine.state
   pub session : session_of m.debugger ≡ opened m.debugger.machine.state
   pub ejected : m.ejected ≡ None
   pub answer : string_bytes m.answer ≡ []
 
--- a handle holds such a machine
+-- A handle has such a machine.
 abbrev pub Holds : Option Held → Result State BootFault → Type 0
 Holds None start = ⊥
 Holds (Some m) start = Started start m
 
--- ---- bytes for a buffer of the caller's
+-- ---- bytes for a buffer of the caller
 
--- all of the bytes at its front and behind them what stood there, or, where it is too short, what stood there
+-- All bytes at the beginning of the buffer, followed by its old bytes. If the buffer is too short, its old bytes.
 abbrev pub filled : List ℕ → List ℕ → List ℕ
 filled bytes old = if nat_lt (length old) (length bytes) then old else bytes ++ drop (length bytes) old
 
@@ -72,25 +73,25 @@ pub record Fills (bytes : List ℕ) (status : ℕ) (old new : List ℕ) (needed 
   pub holds : new ≡ filled bytes old
   pub says : status ≡ fill_code bytes old
 
--- the same, or for want of memory nothing
+-- The same, or nothing if memory is out.
 pub record Tells (bytes : List ℕ) (status : ℕ) (old new : List ℕ) (needed : ℕ) : Type 0 where
   pub fills : status ≢ NO_MEMORY → Fills bytes status old new needed
   pub none : status ≡ NO_MEMORY → (new ≡ old) × (needed ≡ 0)
 
--- ---- what is shown
+-- ---- views
 
--- the place in the code, if there is one
+-- The position in the code, if there is one.
 abbrev pub Places : Option CodePlace → ℕ → Place → Place → Type 0
 Places (Some p) status old new =
     (status ≡ DONE) × (new ≡ record { segment = p.segment; procedure = p.procedure; offset = p.offset })
 Places None status old new = (status ≡ NO_PLACE) × (new ≡ old)
 
--- the word at an address, if there is one
+-- The word at an address, if there is one.
 abbrev pub Reads : Option ℕ → ℕ → ℕ → ℕ → Type 0
 Reads (Some word) status old new = (status ≡ DONE) × (new ≡ word)
 Reads None status old new = (status ≡ ODD_ADDRESS) × (new ≡ old)
 
--- the registers, the steps and whether the machine goes on
+-- The registers, the steps and the status of the machine.
 abbrev pub shown_of : State → Shown
 shown_of s = record {
   steps = s.steps;
@@ -107,18 +108,19 @@ shown_of s = record {
 
 -- ---- disks
 
--- the volume that an image is, or its first fault
+-- The volume of an image, or its first fault.
 abbrev pub Opens : List ℕ → Result (List ℕ) VolumeFault → Type 0
 Opens image (Ok volume) = (volume ≡ image) × (image_fault image ≡ None)
 Opens image (Err fault) = image_fault image ≡ Some fault
 
--- an image is put on a unit, or refused, and then nothing changes; for want of memory too
+-- An image is mounted on a unit, or refused and nothing changes. If memory is out, nothing changes either.
 pub record Mounts (unit : ℕ) (image : List ℕ) (status : ℕ) (m n : Whole) : Type 0 where
   pub says : status ≢ NO_MEMORY → status ≡ image_code unit image m.state.devices
   pub done : status ≡ DONE → n.state ≡ next m.state (Mount unit image)
   pub same : status ≢ DONE → n ≡ m
 
--- the disk that is taken out of a unit is kept in the place of the one before; where none is there, nothing changes
+-- The disk that is ejected from a unit replaces the one that was ejected before. If the unit has no disk, nothing
+-- changes.
 abbrev pub Takes : Option (List ℕ) → ℕ → Held → Held → Type 0
 Takes None status m n = (status ≡ NO_DISK) × (n.ejected ≡ m.ejected)
 Takes (Some image) status m n = (status ≡ DONE) × (n.ejected ≡ Some image)
@@ -128,7 +130,7 @@ pub record Ejects (unit status : ℕ) (m n : Held) : Type 0 where
   pub event : n.debugger.machine.state ≡ next m.debugger.machine.state (Eject unit)
   pub same : n ≡ record m { debugger = record m.debugger { machine = n.debugger.machine }; ejected = n.ejected }
 
--- an image is given to a buffer, if there is one
+-- An image is copied to a buffer, if there is one.
 abbrev pub GivesImage : Option (List ℕ) → ℕ → List ℕ → List ℕ → ℕ → Type 0
 GivesImage None status old new needed = (status ≡ NO_DISK) × (new ≡ old)
 GivesImage (Some image) status old new needed = Fills image status old new needed

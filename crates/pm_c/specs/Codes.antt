@@ -18,20 +18,21 @@ use Rattle.pm_machine.specs.declared.state.Stop.{Stop}
 use Rattle.pm_machine.specs.declared.state.Stop.TheVariants as stop
 use Rattle.pm_c.specs.declared.status.TheConstants.{DONE, NO_MEMORY, ODD_ADDRESS}
 
--- of what a step answers
+-- The status for the answer of a step.
 abbrev pub stop_code : Stop → ℕ
 stop_code stop.Went = 0
 stop_code stop.Waiting = 1
 stop_code stop.Ended = 2
 stop_code (stop.Halted error) = 100 + number_of error
 
--- of whether a machine goes on
+-- The status for the status of a machine.
 abbrev pub status_code : Status → ℕ
 status_code status.Running = 0
 status_code status.Ended = 2
 status_code (status.Halted error) = 100 + number_of error
 
--- of a machine that does not start: that of the execution error of its first call, or 200 and the fault's number
+-- The status of a machine that does not start: that of the execution error of its first call, or 200 and the number of
+-- the fault.
 abbrev pub boot_code : BootFault → ℕ
 boot_code NoFile = 200 + boot_number NoFile
 boot_code NotCode = 200 + boot_number NotCode
@@ -43,21 +44,21 @@ abbrev pub start_code : Result State BootFault → ℕ
 start_code (Ok machine) = DONE
 start_code (Err fault) = boot_code fault
 
--- an image that is no volume: 400 and the fault's number; a volume: what else is to be said
+-- The status of an image: 400 and the number of the fault if it is no volume, and otherwise `code`.
 abbrev pub volume_code : Option VolumeFault → ℕ → ℕ
 volume_code None code = code
 volume_code (Some fault) code = 400 + volume_number fault
 
--- an image on unit 4, and no other disk
+-- An image on unit 4, and no other disk.
 abbrev pub on_unit_4 : List ℕ → List (Option (List ℕ))
 on_unit_4 image = Some image ∷ None ∷ None ∷ None ∷ None ∷ None ∷ []
 
--- of a program that starts from an image on unit 4
+-- The status of a program that starts from an image on unit 4.
 abbrev pub program_code : List ℕ → List ℕ → ℕ → ℕ
 program_code image name clock =
     volume_code (image_fault image) (start_code (boot_start (on_unit_4 image) 4 name clock))
 
--- of an image that is put on a unit: 300 and the fault's number
+-- The status of an image that is mounted on a unit: 300 and the number of the fault if it is refused.
 abbrev pub mount_code : Result Devices MountFault → ℕ
 mount_code (Ok devices) = DONE
 mount_code (Err fault) = 300 + mount_number fault
@@ -65,6 +66,6 @@ mount_code (Err fault) = 300 + mount_number fault
 abbrev pub image_code : ℕ → List ℕ → Devices → ℕ
 image_code unit image devices = volume_code (image_fault image) (mount_code (mounted unit image devices))
 
--- of a word written at an address
+-- The status of a word that is written at an address.
 abbrev pub poke_code : ℕ → ℕ
 poke_code address = if is_even address then DONE else ODD_ADDRESS

@@ -29,34 +29,35 @@ use Rattle.pm_c.specs.Changes.{fill_code, filled}
 use Rattle.pm_c.specs.Codes.{boot_code, image_code, on_unit_4, program_code, stop_code}
 use Rattle.pm_c.specs.declared.status.TheConstants.{DONE, NO_MACHINE, NO_MEMORY, TOO_SHORT}
 
--- a buffer that is too short stays, and one of the length that is wanted then has just the bytes
+-- A buffer that is too short is unchanged. A buffer of the length that is then requested gets exactly the bytes.
 abbrev pub WantedLengthIsEnough : Type 0
 WantedLengthIsEnough =
     (bytes old room : List ℕ) → fill_code bytes old ≡ TOO_SHORT → length room ≡ length bytes →
     (filled bytes old ≡ old) × (fill_code bytes room ≡ DONE) × (filled bytes room ≡ bytes)
 
--- a program has started, by the status, exactly where its image is a volume on which it starts
+-- The status of a start is 0 if and only if the image is a volume on which the program starts.
 abbrev pub StartIsTold : Type 0
 StartIsTold =
     (image name : List ℕ) (clock : ℕ) →
     program_code image name clock ≡ DONE
     ↔ (image_fault image ≡ None) × IsOk (boot_start (on_unit_4 image) 4 name clock)
 
--- an image is on a unit, by the status, exactly where it is a volume and was put there
+-- The status of a mount is 0 if and only if the image is a volume and was mounted.
 abbrev pub MountIsTold : Type 0
 MountIsTold =
     (unit : ℕ) (image : List ℕ) (devices : Devices) →
     image_code unit image devices ≡ DONE ↔ (image_fault image ≡ None) × IsOk (mounted unit image devices)
 
--- what a machine answers has never the status of a call that was not made
+-- No answer of a machine has the status of a call that was not executed.
 abbrev pub AnswersAreApart : Type 0
 AnswersAreApart = (stop : Stop) → (stop_code stop ≢ NO_MEMORY) × (stop_code stop ≢ NO_MACHINE)
 
--- the number has a sentence
+-- The number has a sentence.
 abbrev pub IsTold : ℕ → Type 0
 IsTold status = is_some (sentence status) ≡ true
 
--- so has each answer of a machine, of a run of its debugger, of a start, of a unit, of a volume and of a breakpoint
+-- Each answer of a machine, of a run of its debugger, of a start, of a unit, of a volume and of a breakpoint has a
+-- sentence.
 pub record AnswersAreTold : Type 0 where
   pub stops : (stop : Stop) → IsTold (stop_code stop)
   pub runs : (reason : BreakReason) → IsTold (go_code reason)
@@ -67,8 +68,8 @@ pub record AnswersAreTold : Type 0 where
   pub not_set : IsTold (500 + refusal_number NotSet)
   pub odd_address : IsTold (500 + refusal_number OddAddress)
 
--- a line and those behind it are a session of the program: its answer, and but behind `quit` the answers to the others
--- of the session that it leaves; a line that is no command is asked for again
+-- A line and those after it are a session of the program: its answer, followed by the answers to the others in the
+-- session that it leaves. Nothing follows `quit`. The answer to a line that is no command is `?`.
 pub record LinesAreASession : Type 0 where
   pub answers : (line : List ℕ) (lines : List (List ℕ)) (d : Session) →
       answers (line ∷ lines) d
@@ -77,8 +78,8 @@ pub record LinesAreASession : Type 0 where
   pub quits : (s : State) → line_answer (codes "quit") (opened s) ≡ []
   pub takes_a_break : (s : State) → line_answer (codes "break 2 1 0") (opened s) ≡ codes "ok" ++ (10 ∷ [])
 
--- a call that sets what stops a run, or that makes one, leaves the session that a line of the debugger leaves, of a run
--- where no breakpoints are passed over
+-- A call that sets a stop or executes a run leaves the same session as a line of the debugger, if the run passes over
+-- no breakpoints.
 pub record CallsAreLines : Type 0 where
   pub sets : (s p o : ℕ) (d : Session) →
       with_breaks d (breaks_after true (code_place s p o) d.breaks) ≡ after_command (commands.Break s p o None) d

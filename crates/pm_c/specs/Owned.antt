@@ -1,4 +1,4 @@
--- What a handle owns.
+-- The memory that a handle owns.
 use base.Fml.{Fml, ftrue, fex}
 use denote.RawPtr.{Ptr, null_ptr}
 use denote.RattleType.{RattleType}
@@ -7,7 +7,7 @@ use Rattle.std.specs.declared.alloc.Global.{Global}
 use Rattle.std.specs.contracts.impls.GlobalAllocator.TheImpl.{ghosts}
 use Rattle.std.specs.Box.Ownership.{box_owns}
 
--- No value: the pointer is null. A value: it stands at the pointer, in a block that the allocator frees.
+-- Without a value the pointer is null. A value is at the pointer, in a block that the allocator frees.
 abbrev pub owned : (R : RattleType) → Ptr → Option R.Denot → Fml
 owned R at None = fex (at ≡ null_ptr) (λ _. ftrue)
 owned R at (Some x) = fex Global (λ heap. box_owns (ghosts.dealloc_token heap) R at x)

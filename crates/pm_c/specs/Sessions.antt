@@ -1,4 +1,4 @@
--- What calls on a handle do to the session of its debugger.
+-- The effect of calls on a handle on the session of its debugger.
 use Rattle.std.specs.Prelude.{◌≡◌, ◌≢◌, ℕ, ◌+◌, Bool, List, [], Option, None, Some, Result, Ok, Err, if◌then◌else◌}
 use Rattle.std.specs.Prelude.{string_bytes}
 use Rattle.pm_words.specs.Errors.{number_of as error_number}
@@ -21,31 +21,31 @@ use Rattle.pm_session.specs.Sessions.{answer_line, is_quit}
 use Rattle.pm_c.specs.declared.held.Held.{Held}
 use Rattle.pm_c.specs.declared.status.TheConstants.{AT_BREAK, CHANGED, DONE, NO_MACHINE, NO_MEMORY}
 
--- as Leads, but for want of memory the machine is gone
+-- The same as `Leads`, but if memory is out, the handle is empty.
 abbrev pub LeadsOrEnds : ℕ → Option Held → Option Held → (Held → Held → Type 0) → Type 0
 LeadsOrEnds status None new P = (status ≡ NO_MACHINE) × (new ≡ None)
 LeadsOrEnds status (Some m) None P = status ≡ NO_MEMORY
 LeadsOrEnds status (Some m) (Some n) P = P m n
 
--- what the program writes in answer to a line; `quit` has no answer
+-- The answer of the program to a line. `quit` has no answer.
 abbrev pub line_answer : List ℕ → Session → List ℕ
 line_answer line d = if is_quit (order_of line) then [] else answer_line (order_of line) d
 
--- a line is done: the session is that behind it, its answer is kept, and the disk that was taken out stays
+-- A line is executed: the session is that after it, its answer is stored, and the ejected disk is unchanged.
 pub record Commands (line : List ℕ) (status : ℕ) (m n : Held) : Type 0 where
   pub done : status ≡ DONE
   pub session : session_of n.debugger ≡ session_after (order_of line) (session_of m.debugger)
   pub answer : string_bytes n.answer ≡ line_answer line (session_of m.debugger)
   pub ejected : n.ejected ≡ m.ejected
 
--- ---- what stops a run
+-- ---- the stops of a run
 
--- of what is set or taken away: 500 and the number of the refusal
+-- The status of what is set or cleared: 500 and the number of the refusal.
 abbrev pub set_code : {A : Type 0} → Result A DebugRefusal → ℕ
 set_code (Ok after) = DONE
 set_code (Err refusal) = 500 + number_of refusal
 
--- a breakpoint without a condition is set, or taken away
+-- A breakpoint without a condition is set or cleared.
 abbrev pub breaks_after : Bool → CodePlace → List Breakpoint → Result (List Breakpoint) DebugRefusal
 breaks_after on place breaks =
     if on then with_break (breakpoint (Code place) None) breaks else without_break (Code place) breaks
@@ -53,13 +53,13 @@ breaks_after on place breaks =
 abbrev pub watches_after : Bool → ℕ → List ℕ → Result (List ℕ) DebugRefusal
 watches_after on address watches = if on then with_watch address watches else without_watch address watches
 
--- the breakpoints are those behind it, or it is refused and they stay; the machine stays
+-- The breakpoints after the call. If it is refused, they are unchanged. The machine is unchanged in both cases.
 pub record SetsBreaks (after : Result (List Breakpoint) DebugRefusal) (status : ℕ) (d e : Debugged) : Type 0 where
   pub says : status ≡ set_code after
   pub session : session_of e ≡ with_breaks (session_of d) after
   pub machine : e.machine ≡ d.machine
 
--- the watched words so; where one was added or taken away, nothing is left of the last run
+-- The same for the watched words. If one was set or cleared, the last run cannot be continued.
 pub record SetsWatches (after : Result (List ℕ) DebugRefusal) (status : ℕ) (d e : Debugged) : Type 0 where
   pub says : status ≡ set_code after
   pub session : session_of e ≡ with_watches (session_of d) after
@@ -67,7 +67,7 @@ pub record SetsWatches (after : Result (List ℕ) DebugRefusal) (status : ℕ) (
 
 -- ---- runs up to a breakpoint or a changed word
 
--- of why such a run ended; it is not to stop anywhere else
+-- The status for the reason of the end of such a run. It has no destination.
 abbrev pub go_code : BreakReason → ℕ
 go_code reasons.Limit = 0
 go_code reasons.There = 0
@@ -77,7 +77,7 @@ go_code reasons.Break = AT_BREAK
 go_code (reasons.Changed address) = CHANGED
 go_code (reasons.Halted error) = 100 + error_number error
 
--- the address of the word that changed, and else what stood there
+-- The address of the word that has changed, and otherwise the old value.
 abbrev pub changed_at : BreakReason → ℕ → ℕ
 changed_at (reasons.Changed address) old = address
 changed_at reasons.Limit old = old
@@ -87,19 +87,19 @@ changed_at reasons.Ended old = old
 changed_at reasons.Break old = old
 changed_at (reasons.Halted error) old = old
 
--- the run of `go`, and what is told of it
+-- The run of `go`, and its reported values.
 pub record GoesSo (run : Gone) (steps status was address : ℕ) (d e : Debugged) : Type 0 where
   pub counts : steps ≡ run.steps
   pub says : status ≡ go_code run.reason
   pub word : address ≡ changed_at run.reason was
   pub session : session_of e ≡ after_run (session_of d) Any run
 
--- it gave up for want of memory, behind the steps that went; of what is left of it nothing is said
+-- The run stopped because memory was out, after the steps that succeeded. The rest of the last run is not specified.
 pub record GoesShort (limit : ℕ) (d e : Debugged) : Type 0 where
   pub gave_up : GaveUp (stops_after d.breaks d.watches nowhere d.machine.state) limit d.machine e.machine
   pub same : e ≡ record d { machine = e.machine; left = e.left }
 
--- a run of at most limit steps, or what is left of it for want of memory
+-- A run of at most `limit` steps, or a part of it if memory is out.
 pub record Goes (limit steps status was address : ℕ) (d e : Debugged) : Type 0 where
   pub went : status ≢ NO_MEMORY → GoesSo (gone d.breaks d.watches limit d.machine.state) steps status was address d e
   pub short : status ≡ NO_MEMORY → GoesShort limit d e

@@ -1,4 +1,4 @@
--- The numbers that programs in C see, computed: each row of the header with its number, worked out by hand.
+-- The numbers that programs in C see, computed. Each number of the header was worked out by hand.
 use Rattle.std.specs.Prelude.{◌≡◌, ℕ, List, Some, None, Result, Err}
 use Rattle.pm_words.specs.declared.error.ExecError.TheVariants.{InvalidIndex, NoSegment, NoProcedure, StackOverflow}
 use Rattle.pm_words.specs.declared.error.ExecError.TheVariants.{DivideByZero, InvalidMemory, SystemIo, UserIo}
@@ -22,7 +22,7 @@ use Rattle.pm_c.specs.declared.status.TheConstants.{DONE, TOO_LONG, NO_MEMORY, T
 use Rattle.pm_c.specs.declared.status.TheConstants.{ODD_ADDRESS, NO_DISK, NO_TEXT, NO_PLACE, NO_KIND, AT_BREAK, CHANGED}
 use Rattle.pm_c.specs.declared.status.TheConstants.{WAITING, ENDED, REFUSED, FAILED, STOPPED, VERSION}
 
--- what calls answer
+-- The statuses of calls.
 pub record WorkedAnswers : Type 0 where
   pub done : DONE ≡ 0
   pub too_long : TOO_LONG ≡ 4
@@ -43,16 +43,16 @@ pub record WorkedAnswers : Type 0 where
   pub failed : FAILED ≡ 3
   pub stopped : STOPPED ≡ 6
   pub version : VERSION ≡ 1
-  -- an even address is written, an odd one is not
+  -- A word is written at an even address, and not at an odd one.
   pub even : poke_code 1024 ≡ 0
   pub odd : poke_code 1025 ≡ 10
-  -- whole jobs: done, refused, an execution error, the limit or the end of the input
+  -- The statuses of whole jobs: success, refusal, an execution error, and the limit or the end of the input.
   pub job_done : exit_number exits.Ended ≡ 0
   pub job_refused : exit_number exits.Refused ≡ 2
   pub job_failed : exit_number exits.ExecutionError ≡ 3
   pub job_stopped : exit_number exits.Stopped ≡ 6
 
--- what a machine answers to a step, and what it shows
+-- The statuses for the answers to a step and for the views of a machine.
 pub record WorkedStops : Type 0 where
   pub went : stop_code stop.Went ≡ 0
   pub waiting : stop_code stop.Waiting ≡ 1
@@ -61,7 +61,7 @@ pub record WorkedStops : Type 0 where
   pub running : status_code status.Running ≡ 0
   pub has_ended : status_code status.Ended ≡ 2
   pub has_halted : status_code (status.Halted InvalidIndex) ≡ 101
-  -- a run of the debugger
+  -- The statuses of a run of the debugger.
   pub limit : go_code reasons.Limit ≡ 0
   pub waits : go_code reasons.Waiting ≡ 1
   pub comes_to_its_end : go_code reasons.Ended ≡ 2
@@ -69,7 +69,7 @@ pub record WorkedStops : Type 0 where
   pub word_changed : go_code (reasons.Changed 1024) ≡ 16
   pub fails : go_code (reasons.Halted StackOverflow) ≡ 104
 
--- a start that is refused by an execution error: 100 and its number
+-- A start that is refused with an execution error: 100 and its number.
 pub record WorkedErrors : Type 0 where
   pub index : start_code (Err (boot.Exec InvalidIndex)) ≡ 101
   pub segment : start_code (Err (boot.Exec NoSegment)) ≡ 102
@@ -86,7 +86,7 @@ pub record WorkedErrors : Type 0 where
 abbrev breaks_code : Result (List Breakpoint) DebugRefusal → ℕ
 breaks_code = set_code
 
--- what is refused beside that: programs from 200 on, units from 300 on, volumes from 400 on, breakpoints from 500 on
+-- The other refusals: programs from 200 on, units from 300 on, volumes from 400 on, breakpoints from 500 on.
 pub record WorkedRefusals : Type 0 where
   pub no_file : start_code (Err boot.NoFile) ≡ 201
   pub not_code : start_code (Err boot.NotCode) ≡ 202

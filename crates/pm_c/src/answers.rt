@@ -9,7 +9,7 @@ use crate::status::{DONE, NO_MEMORY, NO_TEXT, TOO_LONG};
 use pm_tool::{Exit, Job, Kept, Outcome, Reader, run};
 use std::alloc::{AllocError, Global};
 
-// The exit status of a job, or the status of a call that has no answer. The sink fails for want of memory alone.
+// Returns the exit status of a job, or the status of a call without an answer. The sink fails only if memory is out.
 fn exit_code(exit: Exit) -> Result<u32, u32>
     ensures value { IfOk result (λ code. code ≡ exit_number exit) }
     ensures sound { OnOk result (IsSoundExit exit) }
@@ -23,7 +23,7 @@ fn exit_code(exit: Exit) -> Result<u32, u32>
     }
 }
 
-// The image that is to be kept, where there is one, and else what was written and behind it the message.
+// Returns the image to be saved, if there is one, and otherwise what was written followed by the message.
 fn answer_bytes(written: Vec<u8>, outcome: Outcome) -> Result<Vec<u8>, AllocError>
     ensures bytes { IfOk result (λ bytes. bytes.items ≡ or_told (option_map vec_items outcome.image)
         (written.items ++ string_bytes outcome.message)) }
@@ -39,7 +39,7 @@ fn answer_bytes(written: Vec<u8>, outcome: Outcome) -> Result<Vec<u8>, AllocErro
     }
 }
 
-// Does a job: its answer and its exit status, or the status of a call that has no answer.
+// Executes a job. Returns its answer and its exit status, or the status of a call without an answer.
 fn done(alloc: Global, input: &[u8], job: Job) -> Result<(Vec<u8>, u32), u32>
     ensures code { IfOk result (λ a. a.1 ≡ exit_number (job_said job input.now).exit) }
     ensures answer { IfOk result (λ a. HasAnswer a.1) }
@@ -57,7 +57,7 @@ fn done(alloc: Global, input: &[u8], job: Job) -> Result<(Vec<u8>, u32), u32>
     }
 }
 
-/// Does a job, and gives its answer to a buffer.
+/// Executes a job and copies its answer to a buffer.
 pub(crate) fn answer(
     alloc: Global,
     input: &[u8],

@@ -1,11 +1,11 @@
-//! Buffers of the caller's.
+//! The buffers of the caller.
 ghost use Rattle.std.specs.Prelude.{◌≡◌};
 ghost use Rattle.pm_c.specs.Changes.{Fills};
 
 use crate::status::{DONE, TOO_SHORT};
 
-/// The bytes go to the front of a buffer where there is room for all of them, and else none is written. `needed` is how
-/// many they are.
+/// Copies the bytes to the beginning of a buffer if all of them fit. Otherwise writes none and returns `TOO_SHORT`.
+/// `needed` is set to their number.
 pub(crate) fn give(bytes: &[u8], out: &mut [u8], needed: &mut usize) -> u32
     ensures fills { Fills bytes.now result out.old out.new needed.new }
 {

@@ -1,5 +1,5 @@
-//! Each call of the library, made: its status by the numbers of the header, and what it gives. They stand here since no
-//! crate can stand on a static library.
+//! Tests of each call of the library: its status by the numbers of the header, and its answer. They are in this crate
+//! because no crate can depend on a static library.
 mod jobs;
 mod machines;
 mod refusals;
@@ -10,18 +10,18 @@ use crate::shows::Shown;
 use std::alloc::Global;
 use std::process::Abort;
 
-/// How many bytes there is room for in a buffer that calls fill: more than each answer here has.
+/// The size in bytes of the buffer that calls fill. It is above the length of each answer here.
 const ROOM: usize = 32_768;
 
-/// What a call came to: its status and the bytes that it gave.
+/// The result of a call: its status and the bytes of its answer.
 #[derive(Drop)]
 struct Answer {
     status: u32,
     bytes: Vec<u8>,
 }
 
-/// Makes a call that gives bytes to a buffer, its last two parameters. What takes memory ends the test where there is
-/// none, so that no body has a way out at each call.
+/// Executes a call that copies its answer to a buffer, which is given by its last two parameters. The test ends if
+/// memory is out, so no body handles an error at each call.
 macro_rules! answer {
     ($rt:expr, $alloc:expr, $call:ident $(, $given:expr)*) => {{
         let mut bytes = crate::calls::room($rt, $alloc);
@@ -34,21 +34,21 @@ macro_rules! answer {
 
 use answer;
 
-/// A buffer.
+/// Creates a buffer.
 fn room(rt: &impl Abort, alloc: Global) -> Vec<u8> {
     let mut bytes = Vec::new(alloc);
     bytes.resize(ROOM, 0xA5).expect(rt, "memory");
     bytes
 }
 
-/// No place in the code yet.
+/// A position in the code before a call.
 const NOWHERE: Place = Place {
     segment: 0,
     procedure: 0,
     offset: 0,
 };
 
-/// No registers yet.
+/// Registers before a call.
 const NOTHING: Shown = Shown {
     steps: 0,
     status: 0,
@@ -72,7 +72,7 @@ impl Answer {
         self.is(rt, status, text.as_bytes());
     }
 
-    /// The answer of a call that is done is these lines, each with its line feed.
+    /// Checks that the call succeeded and that its answer is these lines, each with its line feed.
     fn lists(&self, rt: &impl Abort, lines: &[&str]) {
         assert_eq!(rt; self.status, 0);
         let mut rest = self.bytes.as_slice();

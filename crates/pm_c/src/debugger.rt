@@ -1,4 +1,4 @@
-//! The debugger on a program of a disk.
+//! The debugger of a program on a disk.
 ghost use Rattle.std.specs.Prelude.{◌≡◌, ◌≢◌, ◌↔◌, [], None};
 ghost use Rattle.std.specs.Str.{IsUtf8};
 ghost use Rattle.pm_tool.specs.Disks.{booted};
@@ -12,9 +12,14 @@ use crate::volumes::{none, text_of};
 use pm_tool::Job;
 use std::alloc::Global;
 
-/// Gives the lines that a debugger answers to the lines of the input, which are its commands: 0, whatever the machine
-/// did. Its program is the code file of a name on the volume of unit 4, which the image is. 2 where that does not
-/// start, and the answer then says why.
+/// Copies the answers of a debugger to the lines of the input, which are its commands. The program is the code file
+/// `name` on the volume in `image`, which is the disk of unit 4. The session succeeds even if the machine does not.
+///
+/// Returns 0 if it succeeded. Otherwise:
+///
+/// - 2: the program does not start. The answer states the reason.
+/// - 12: the name is not UTF-8.
+/// - 4, 5 and 7 as for `pmach_assemble`.
 #[unsafe(no_mangle)]
 pub extern "C" fn pmach_debug(
     alloc: Global,

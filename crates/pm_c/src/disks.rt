@@ -1,4 +1,4 @@
-//! Disks on the units of a machine.
+//! The disks on the units of a machine.
 ghost use Rattle.std.specs.Prelude.{◌≡◌, None, IfOk};
 ghost use Rattle.pm_c.specs.Changes.{ChangesMachine, Ejects, GivesImage, Leads, Looks, Mounts, Opens};
 
@@ -10,7 +10,7 @@ use pm_machine::Machine;
 use pm_volume::{Volume, VolumeFault};
 use std::alloc::{AllocError, Global};
 
-/// The volume that a copy of an image is, or its first fault.
+/// Returns the volume in a copy of an image, or its first fault.
 pub(crate) fn volume_of(
     alloc: Global,
     image: &[u8],
@@ -38,9 +38,15 @@ fn mount(alloc: Global, machine: &mut Machine, unit: u8, image: &[u8]) -> u32
     }
 }
 
-/// Puts a copy of an image on a disk unit: 0. In this order: 8 where the handle is empty, 5 where there is no memory,
-/// 400 and the fault's number where the image is no volume, 301 where the unit is no disk unit, 302 where a disk is
-/// there. Nothing has changed then.
+/// Mounts a copy of an image on a disk unit. Returns 0 if it succeeded.
+///
+/// Otherwise nothing has changed. The statuses are checked in this order:
+///
+/// - 8: the handle is empty.
+/// - 5: out of memory.
+/// - 400 and the number of the fault: the image is no volume.
+/// - 301: the unit is not a disk unit.
+/// - 302: the unit already has a disk.
 #[unsafe(no_mangle)]
 pub extern "C" fn pmach_mount(alloc: Global, handle: &mut Handle, unit: u8, image: &[u8]) -> u32
     ensures mounts { Leads result handle.old.held handle.new.held (ChangesMachine (Mounts unit image.now result)) }
@@ -66,9 +72,13 @@ fn eject(held: &mut Held, unit: u8) -> u32
     }
 }
 
-/// Takes the disk of a unit out of the machine: 0, and `pmach_ejected` gives its image until another one is taken out.
-/// 11 where no disk is there, and for a number that is no disk unit; nothing has changed then. 8 where the handle is
-/// empty.
+/// Ejects the disk of a unit. Returns 0 if it succeeded; `pmach_ejected` then returns its image until another disk is
+/// ejected.
+///
+/// Otherwise nothing has changed:
+///
+/// - 8: the handle is empty.
+/// - 11: the unit has no disk or is not a disk unit.
 #[unsafe(no_mangle)]
 pub extern "C" fn pmach_eject(alloc: Global, handle: &mut Handle, unit: u8) -> u32
     ensures ejects { Leads result handle.old.held handle.new.held (Ejects unit result) }
@@ -94,8 +104,13 @@ fn give_ejected(held: &Held, out: &mut [u8], needed: &mut usize) -> u32
     }
 }
 
-/// Gives the image of the disk that was taken out last: 0. 7 where the buffer is too short, 11 where none was taken
-/// out, 8 where the handle is empty; nothing is written then.
+/// Copies the image of the disk that was ejected last. Returns 0 if it succeeded.
+///
+/// Otherwise nothing is written to the buffer:
+///
+/// - 8: the handle is empty.
+/// - 11: no disk was ejected.
+/// - 7: the buffer is too short.
 #[unsafe(no_mangle)]
 pub extern "C" fn pmach_ejected(
     alloc: Global,

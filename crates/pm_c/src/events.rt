@@ -1,4 +1,4 @@
-//! What happens to a machine: one call for each event.
+//! The events of a machine, with one call for each.
 ghost use Rattle.std.specs.Prelude.{◌≡◌, ◌≢◌, None};
 ghost use Rattle.pm_machine.specs.Events.{Key, Poke, next};
 ghost use Rattle.pm_machine.specs.Runs.{GaveUp, never};
@@ -22,9 +22,14 @@ fn step_code(machine: &mut Machine) -> u32
     }
 }
 
-/// One step: 0 it went, 1 it waits for console bytes and nothing changed, 2 the program has ended, 100 and the number
-/// of the execution error that stops the machine; 8 where the handle is empty. 5 where there is no memory, and nothing
-/// changed then.
+/// Executes one step. Returns one of these statuses:
+///
+/// - 0: the step succeeded.
+/// - 1: the step waits for console bytes, and nothing has changed.
+/// - 2: the program has ended.
+/// - 100 and the number of an execution error, which stops the machine.
+/// - 5: out of memory, and nothing has changed.
+/// - 8: the handle is empty.
 #[unsafe(no_mangle)]
 pub extern "C" fn pmach_step(alloc: Global, handle: &mut Handle) -> u32
     ensures step { Leads result handle.old.held handle.new.held (ChangesMachine (λ m n.
@@ -59,9 +64,11 @@ fn run_code(machine: &mut Machine, limit: u64, steps: &mut u64) -> u32
     }
 }
 
-/// At most `limit` steps, as long as each goes: the status is that of the last one, 0 at the limit, and `steps` says
-/// how many counted. 8 where the handle is empty. 5 where there is no memory: the machine stands after the steps that
-/// went, and `steps` is 0 then.
+/// Executes at most `limit` steps while each succeeds. Returns the status of the last step as `pmach_step`, which is 0
+/// at the limit. `steps` is set to the number of counted steps.
+///
+/// - 5: out of memory. The machine is in the state after the steps that succeeded, and `steps` is 0.
+/// - 8: the handle is empty. `steps` is unchanged.
 #[unsafe(no_mangle)]
 pub extern "C" fn pmach_run(alloc: Global, handle: &mut Handle, limit: u64, steps: &mut u64) -> u32
     ensures ran { Leads result handle.old.held handle.new.held (ChangesMachine (λ m n.
@@ -79,8 +86,12 @@ pub extern "C" fn pmach_run(alloc: Global, handle: &mut Handle, limit: u64, step
     code
 }
 
-/// Lets one more byte wait on the console: 0. 8 where the handle is empty. 5 where there is no memory, and nothing
-/// changed then.
+/// Appends a byte to the console input queue. Returns 0 if it succeeded.
+///
+/// Otherwise nothing has changed:
+///
+/// - 5: out of memory.
+/// - 8: the handle is empty.
 #[unsafe(no_mangle)]
 pub extern "C" fn pmach_key(alloc: Global, handle: &mut Handle, byte: u8) -> u32
     ensures event { Leads result handle.old.held handle.new.held (ChangesMachine (λ m n. result ≢ NO_MEMORY →
@@ -101,7 +112,12 @@ pub extern "C" fn pmach_key(alloc: Global, handle: &mut Handle, byte: u8) -> u32
     code
 }
 
-/// Writes a word at an even address: 0. 10 at an odd address, and nothing changed then. 8 where the handle is empty.
+/// Writes a word at an even address. Returns 0 if it succeeded.
+///
+/// Otherwise nothing has changed:
+///
+/// - 8: the handle is empty.
+/// - 10: the address is odd.
 #[unsafe(no_mangle)]
 pub extern "C" fn pmach_poke(alloc: Global, handle: &mut Handle, address: u16, word: u16) -> u32
     ensures event { Leads result handle.old.held handle.new.held (ChangesMachine (λ m n.
@@ -120,7 +136,7 @@ pub extern "C" fn pmach_poke(alloc: Global, handle: &mut Handle, address: u16, w
     code
 }
 
-/// Frees the machine of a handle, which is empty then. An empty one stays so.
+/// Frees the machine of a handle, which is empty afterwards. An empty handle remains empty.
 #[unsafe(no_mangle)]
 pub extern "C" fn pmach_free(alloc: Global, handle: &mut Handle)
     ensures empty { handle.new.held ≡ None }

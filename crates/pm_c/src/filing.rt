@@ -1,4 +1,5 @@
-//! The kind of a file, and a file of another volume: one call each, for the first file of a name and that of a slot.
+//! The kind of a file, and the copy of a file of another volume. There is one call for the first file of a name and one
+//! for the file of a slot.
 ghost use Rattle.std.specs.Prelude.{◌≡◌, ◌<◌, ◌≤◌, ◌↔◌, []};
 ghost use Rattle.std.specs.Str.{IsUtf8};
 ghost use Rattle.pm_filer.specs.Filed.{Copy, CopySlot, Kind, KindSlot};
@@ -10,7 +11,10 @@ use crate::volumes::{command, none, text_of};
 use pm_filer::FileCommand;
 use std::alloc::Global;
 
-/// Gives the first file of a name a kind. 14 where that is above 15, before all else.
+/// Sets the kind of the first file of a name. The answer is the new image.
+///
+/// - 14: the kind is above 15. This is checked first.
+/// - 12: the name is not UTF-8.
 #[unsafe(no_mangle)]
 pub extern "C" fn pmach_kind(
     alloc: Global,
@@ -41,7 +45,10 @@ pub extern "C" fn pmach_kind(
     }
 }
 
-/// Gives the file of a slot a kind; a file of its name in another slot keeps its own. 14 where the kind is above 15.
+/// Sets the kind of the file of a slot. A file of the same name in another slot is unchanged. The answer is the new
+/// image.
+///
+/// - 14: the kind is above 15.
 #[unsafe(no_mangle)]
 pub extern "C" fn pmach_kind_slot(
     alloc: Global,
@@ -68,7 +75,10 @@ pub extern "C" fn pmach_kind_slot(
     )
 }
 
-/// Adds the first file of a name that the volume of the image `from` has, with its kind and date.
+/// Adds a copy of the first file of a name on the volume in `from`, with its kind and date. The answer is the new
+/// image.
+///
+/// - 12: the name is not UTF-8.
 #[unsafe(no_mangle)]
 pub extern "C" fn pmach_copy(
     alloc: Global,
@@ -90,7 +100,10 @@ pub extern "C" fn pmach_copy(
     }
 }
 
-/// Adds the file of a slot of the volume of the image `from` under this name, with its kind and date.
+/// Adds a copy of the file of a slot of the volume in `from`, with this name and with its kind and date. The answer is
+/// the new image.
+///
+/// - 12: the name is not UTF-8.
 #[unsafe(no_mangle)]
 pub extern "C" fn pmach_copy_slot(
     alloc: Global,

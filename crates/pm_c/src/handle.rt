@@ -1,4 +1,4 @@
-//! The handle of a program in C: one pointer, which is null where there is no machine.
+//! The handle of a program in C: one pointer, which is null if there is no machine.
 ghost use Rattle.std.specs.Prelude.{◌≡◌, Option, Some, None, option_map};
 ghost use Rattle.pm_c.specs.declared.held.Held.{Held};
 
@@ -8,8 +8,8 @@ use std::alloc::Global;
 use std::marker::Model;
 use std::mem;
 
-/// A machine of the caller's, or none. C has it as a struct of one pointer, which it sets to null before the first call
-/// and then leaves alone.
+/// A machine of the caller, or none. In C it is a struct of one pointer. The caller sets it to null before the first
+/// call and must not change it afterwards.
 #[repr(C)]
 #[derive(Drop)]
 pub struct Handle {
@@ -27,7 +27,7 @@ impl Model for Handle {
 }
 
 impl Handle {
-    /// A handle without a machine.
+    /// Creates a handle without a machine.
     pub(crate) fn empty() -> Handle
         ensures none { result.held ≡ None }
     {
@@ -36,7 +36,7 @@ impl Handle {
         }
     }
 
-    // The handle of a block.
+    // Returns the handle of a block.
     fn of_loose(held: Loose<Held, Global>) -> Handle
         ensures value { result.held ≡ Some held.value }
     {
@@ -44,7 +44,7 @@ impl Handle {
         Handle { at: at as *mut u8 }
     }
 
-    // The block of a handle; none of an empty one.
+    // Returns the block of a handle, or `None` for an empty handle.
     fn into_loose(self, alloc: Global) -> Option<Loose<Held, Global>>
         ensures value { option_map (λ loose. loose.value) result ≡ self.held }
     {
@@ -59,14 +59,14 @@ impl Handle {
         }
     }
 
-    /// The handle of a machine.
+    /// Returns the handle of a machine.
     pub(crate) fn of(held: Box<Held>) -> Handle
         ensures value { result.held ≡ Some held.value }
     {
         Handle::of_loose(Loose::of(held))
     }
 
-    // The machine of a handle; none of an empty one.
+    // Returns the machine of a handle, or `None` for an empty handle.
     fn into_box(self, alloc: Global) -> Option<Box<Held>>
         ensures value { option_map (λ held. held.value) result ≡ self.held }
     {
@@ -77,7 +77,7 @@ impl Handle {
     }
 }
 
-/// Takes the machine out of a handle, which is empty then; none out of an empty one.
+/// Removes the machine from a handle, which is empty afterwards, and returns it. Returns `None` for an empty handle.
 pub(crate) fn taken(alloc: Global, handle: &mut Handle) -> Option<Box<Held>>
     ensures value { option_map (λ held. held.value) result ≡ handle.old.held }
     ensures empty { handle.new.held ≡ None }

@@ -1,9 +1,9 @@
-//! What stands behind a handle.
+//! The value of a handle.
 
 use pm_debug::Debugger;
 use pm_volume::Disk;
 
-/// A machine with its debugger, the disk that was taken out of it last, and the answer to the last line of a session.
+/// A machine with its debugger, the disk that was ejected last, and the answer to the last line of a session.
 #[derive(Drop)]
 pub struct Held {
     pub(crate) debugger: Debugger,

@@ -1,4 +1,4 @@
-//! The jobs on texts and code: one call each.
+//! The jobs on source texts and code, with one call for each.
 ghost use Rattle.std.specs.Prelude.{if◌then◌else◌};
 ghost use Rattle.pm_jobs.specs.declared.selection.TheConstants.Selection.{ALL};
 ghost use Rattle.pm_tool.specs.Said.{job_said};
@@ -8,12 +8,16 @@ use crate::answers::answer;
 use pm_tool::{AsmOutput, DisOutput, Job, Selection};
 use std::alloc::Global;
 
-/// Gives the code file of a text of the assembler, or with `list` its listing: 0. 2 where the text is refused, and the
-/// answer then says why.
+/// Copies the code file of an assembler source text, or with `list` its listing. Returns 0 if it succeeded. Returns 2
+/// if the text is refused; the answer then states the reason.
 ///
-/// Of this call and each other one that gives an answer: 7 where the buffer is too short, and nothing is written then;
-/// 4 where the input is too long and 5 where there is no memory, and there is no answer then. `needed` is the length of
-/// the answer.
+/// These statuses apply to each call with an answer:
+///
+/// - 7: the buffer is too short. Nothing is written.
+/// - 4: the input is too long. There is no answer.
+/// - 5: out of memory. There is no answer.
+///
+/// `needed` is set to the length of the answer in bytes, and to 0 if there is none.
 #[unsafe(no_mangle)]
 pub extern "C" fn pmach_assemble(
     alloc: Global,
@@ -33,7 +37,7 @@ pub extern "C" fn pmach_assemble(
     answer(alloc, text, Job::Asm(what), out, needed)
 }
 
-/// Gives a line for each fault of a text of the assembler: 2, or 0 where there is none.
+/// Copies a line for each fault of an assembler source text. Returns 2, or 0 if there is no fault.
 #[unsafe(no_mangle)]
 pub extern "C" fn pmach_assemble_faults(
     alloc: Global,
@@ -46,8 +50,8 @@ pub extern "C" fn pmach_assemble_faults(
     answer(alloc, text, Job::Asm(AsmOutput::Faults), out, needed)
 }
 
-/// Gives a line for each procedure and label of a text of the assembler, `SSS PPP OOOOO NAME`: 0. 2 where the text is
-/// refused, and the answer then says why.
+/// Copies a line `SSS PPP OOOOO NAME` for each procedure and label of an assembler source text. Returns 0 if it
+/// succeeded. Returns 2 if the text is refused; the answer then states the reason.
 #[unsafe(no_mangle)]
 pub extern "C" fn pmach_assemble_symbols(
     alloc: Global,
@@ -60,7 +64,8 @@ pub extern "C" fn pmach_assemble_symbols(
     answer(alloc, text, Job::Asm(AsmOutput::Symbols), out, needed)
 }
 
-/// Gives the text of a code file: 0. 2 where the bytes are no code file, and the answer then says why.
+/// Copies the source text of a code file. Returns 0 if it succeeded. Returns 2 if the bytes are no code file; the
+/// answer then states the reason.
 #[unsafe(no_mangle)]
 pub extern "C" fn pmach_disassemble(
     alloc: Global,
@@ -73,8 +78,8 @@ pub extern "C" fn pmach_disassemble(
     answer(alloc, file, Job::Dis(DisOutput::Text), out, needed)
 }
 
-/// Gives the text of a code file with the names of the standard procedures and of the system's: as
-/// `pmach_disassemble`.
+/// Copies the source text of a code file with the names of the standard procedures and of the system's procedures. The
+/// statuses are those of `pmach_disassemble`.
 #[unsafe(no_mangle)]
 pub extern "C" fn pmach_disassemble_names(
     alloc: Global,
@@ -87,7 +92,8 @@ pub extern "C" fn pmach_disassemble_names(
     answer(alloc, file, Job::Dis(DisOutput::Names), out, needed)
 }
 
-/// Gives the listing of a code file, each line with its offset and its bytes: as `pmach_disassemble`.
+/// Copies the listing of a code file, each line with its offset and its bytes. The statuses are those of
+/// `pmach_disassemble`.
 #[unsafe(no_mangle)]
 pub extern "C" fn pmach_disassemble_list(
     alloc: Global,
@@ -100,7 +106,7 @@ pub extern "C" fn pmach_disassemble_list(
     answer(alloc, file, Job::Dis(DisOutput::Listing), out, needed)
 }
 
-/// Gives a code file in statements: as `pmach_disassemble`.
+/// Copies a code file as statements. The statuses are those of `pmach_disassemble`.
 #[unsafe(no_mangle)]
 pub extern "C" fn pmach_disassemble_statements(
     alloc: Global,
@@ -113,7 +119,7 @@ pub extern "C" fn pmach_disassemble_statements(
     answer(alloc, file, Job::Dis(DisOutput::Statements), out, needed)
 }
 
-/// Gives a code file in statements behind blanks by their depth: as `pmach_disassemble`.
+/// Copies a code file as statements that are indented by their depth. The statuses are those of `pmach_disassemble`.
 #[unsafe(no_mangle)]
 pub extern "C" fn pmach_disassemble_indented(
     alloc: Global,
@@ -126,7 +132,7 @@ pub extern "C" fn pmach_disassemble_indented(
     answer(alloc, file, Job::Dis(DisOutput::Indented), out, needed)
 }
 
-/// Gives a code file in statements in blocks: as `pmach_disassemble`.
+/// Copies a code file as statements in blocks. The statuses are those of `pmach_disassemble`.
 #[unsafe(no_mangle)]
 pub extern "C" fn pmach_disassemble_blocks(
     alloc: Global,
@@ -139,9 +145,14 @@ pub extern "C" fn pmach_disassemble_blocks(
     answer(alloc, file, Job::Dis(DisOutput::Blocks), out, needed)
 }
 
-/// Gives the trace of at most `limit` steps of bare code, which a text spells as pairs of hexadecimal digits: 0 where
-/// the program ended, 3 where an execution error stopped it, 6 at the limit and where it waits for console bytes. 2
-/// where the text spells no program, and the answer then says why.
+/// Copies the trace of at most `limit` steps of bare code, which the text has as pairs of hexadecimal digits. Returns
+/// one of these statuses:
+///
+/// - 0: the program has ended.
+/// - 2: the text is refused. The answer states the reason.
+/// - 3: an execution error stopped the program.
+/// - 6: the limit is reached, or the program waits for console bytes.
+/// - 4, 5 and 7 as for `pmach_assemble`.
 #[unsafe(no_mangle)]
 pub extern "C" fn pmach_raw(
     alloc: Global,

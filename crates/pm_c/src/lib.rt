@@ -1,5 +1,5 @@
-//! What programs in C call: whole jobs, and machines behind handles. Each export states again what the calls below it
-//! promise. There is no global state, and nothing that a caller hands in is kept.
+//! The calls of programs in C: whole jobs, and machines with handles. Each export repeats the guarantees of the calls
+//! below it. There is no global state, and no argument is stored.
 #![tactic(auto)]
 
 mod answers;

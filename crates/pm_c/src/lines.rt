@@ -1,4 +1,4 @@
-//! What a machine does next, as the program's lines say it. These calls change nothing.
+//! The next step of a machine, in the form of the program's lines. These calls change nothing.
 ghost use Rattle.std.specs.Prelude.{◌≡◌, None, IfOk, OnErr, string_bytes};
 ghost use Rattle.pm_disasm.specs.Text.{line_text};
 ghost use Rattle.pm_machine.specs.CodePlaces.{place_in_code};
@@ -12,8 +12,8 @@ use crate::volumes::none;
 use pm_machine::{Machine, place_in_code};
 use std::alloc::{AllocError, Global};
 
-/// A place in the code: the numbers of a segment and a procedure, and the distance in bytes from where the procedure is
-/// entered.
+/// A position in the code: the numbers of a segment and a procedure, and the offset in bytes from the entry of the
+/// procedure.
 #[repr(C)]
 #[derive(Drop)]
 pub struct Place {
@@ -22,7 +22,7 @@ pub struct Place {
     pub offset: u16,
 }
 
-// Gives a text to a buffer, or says that there was no memory for it.
+// Copies a text to a buffer, or returns that memory is out.
 fn tell(text: Result<String, AllocError>, out: &mut [u8], needed: &mut usize) -> u32
     ensures told { IfOk text (λ text. Tells (string_bytes text) result out.old out.new needed.new) }
     ensures none { OnErr text ((result ≡ NO_MEMORY) × (out.new ≡ out.old) × (needed.new ≡ 0)) }
@@ -33,8 +33,13 @@ fn tell(text: Result<String, AllocError>, out: &mut [u8], needed: &mut usize) ->
     }
 }
 
-/// Gives the line of a trace for the step that the machine makes next, without a line feed: 0. 5 where there is no
-/// memory, 7 where the buffer is too short, 8 where the handle is empty; nothing is written then.
+/// Copies the line of a trace for the next step of the machine, without a line feed. Returns 0 if it succeeded.
+///
+/// Otherwise nothing is written to the buffer:
+///
+/// - 8: the handle is empty.
+/// - 5: out of memory.
+/// - 7: the buffer is too short.
 #[unsafe(no_mangle)]
 pub extern "C" fn pmach_line(
     alloc: Global,
@@ -58,7 +63,8 @@ pub extern "C" fn pmach_line(
     code
 }
 
-/// Gives the text of what stands at an address of the memory, an instruction or `.BYTE` and the byte: as `pmach_line`.
+/// Copies the text of the instruction at an address of the memory, or `.BYTE` and the byte if there is none. The
+/// statuses are those of `pmach_line`.
 #[unsafe(no_mangle)]
 pub extern "C" fn pmach_instruction(
     alloc: Global,
@@ -96,8 +102,12 @@ fn locate(machine: &Machine, place: &mut Place) -> u32
     }
 }
 
-/// Shows where the machine stands in the code: 0. 13 where SEG or JTAB is odd, so that it stands nowhere, 8 where the
-/// handle is empty; `place` stays as it was then.
+/// Sets `place` to the position of the machine in the code. Returns 0 if it succeeded.
+///
+/// Otherwise `place` is unchanged:
+///
+/// - 8: the handle is empty.
+/// - 13: SEG or JTAB is odd, so there is no position.
 #[unsafe(no_mangle)]
 pub extern "C" fn pmach_place(alloc: Global, handle: &mut Handle, place: &mut Place) -> u32
     ensures looks { Leads result handle.old.held handle.new.held (Looks (λ m.

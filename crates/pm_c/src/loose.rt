@@ -1,4 +1,4 @@
-//! A box in two parts: its pointer and its allocator.
+//! The two parts of a box: its pointer and its allocator.
 ghost use Rattle.std.specs.Prelude.{◌≡◌};
 ghost use Rattle.std.specs.Box.Ownership.{box_owns};
 
@@ -17,7 +17,7 @@ impl<T, A: Allocator> Model for Loose<T, A> {
 }
 
 impl<T: Drop, A: Allocator> Loose<T, A> {
-    /// The parts of a box.
+    /// Returns the parts of a box.
     pub(crate) fn of(value: Box<T, A>) -> Loose<T, A>
         ensures value { result.value ≡ value.value }
     {
@@ -25,7 +25,7 @@ impl<T: Drop, A: Allocator> Loose<T, A> {
         Loose { at, alloc }
     }
 
-    /// The box of these parts.
+    /// Returns the box of these parts.
     pub(crate) fn into_box(self) -> Box<T, A>
         ensures value { result.value ≡ self.value }
     {

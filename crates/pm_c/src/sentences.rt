@@ -1,4 +1,4 @@
-//! What the numbers that calls answer mean, in words.
+//! The sentences for the numbers that calls return.
 ghost use Rattle.std.specs.Prelude.{◌≡◌, option_map};
 ghost use Rattle.pm_c.specs.Changes.{Fills};
 ghost use Rattle.pm_c.specs.Sentences.{file_sentence, or_nothing, sentence};
@@ -7,7 +7,7 @@ ghost use Rattle.pm_c.specs.declared.status.TheConstants.{VERSION};
 use crate::buffer::give;
 use crate::status::VERSION;
 
-/// The words of a number from 401 on.
+/// Returns the sentence of a number from 401 on.
 #[tactic(auto, unfolding(crate::specs::Sentences::file_sentence, crate::specs::Sentences::file_sentences))]
 fn file_sentence(status: u32) -> Option<&'static str>
     ensures sentence { option_map (λ text. text.now) result ≡ file_sentence status }
@@ -50,7 +50,7 @@ fn file_sentence(status: u32) -> Option<&'static str>
     }
 }
 
-/// The words of a number.
+/// Returns the sentence of a number.
 #[tactic(auto, unfolding(crate::specs::Sentences::sentence, crate::specs::Sentences::call_sentences))]
 fn sentence(status: u32) -> Option<&'static str>
     ensures sentence { option_map (λ text. text.now) result ≡ sentence status }
@@ -93,9 +93,10 @@ fn sentence(status: u32) -> Option<&'static str>
     }
 }
 
-/// Gives the sentence of a status, or of a number in the message of a job, as the program tells it on a terminal, but
-/// without the line, entry or slot that it names there and without what helps: 0. Of another number it is empty. 7
-/// where the buffer is too short, and nothing is written then.
+/// Copies the sentence of a status, or of a number in the message of a job. It is the sentence that the program prints
+/// on a terminal, without the line, entry or slot and without the hint. The sentence of an unknown number is empty.
+///
+/// Returns 0 if it succeeded, or 7 if the buffer is too short; nothing is written then.
 #[unsafe(no_mangle)]
 pub extern "C" fn pmach_sentence(status: u32, out: &mut [u8], needed: &mut usize) -> u32
     ensures gives { Fills (or_nothing (sentence status)) result out.old out.new needed.new }
@@ -104,7 +105,7 @@ pub extern "C" fn pmach_sentence(status: u32, out: &mut [u8], needed: &mut usize
     give(text.as_bytes(), out, needed)
 }
 
-/// The version of the library: 100 times its first number, and its second.
+/// Returns the version of the library: 100 times its first number plus its second number.
 #[unsafe(no_mangle)]
 pub extern "C" fn pmach_version() -> u32
     ensures version { result ≡ VERSION }

@@ -1,5 +1,5 @@
-//! A session of the debugger on the machine of a handle: a line in, its answer out; and calls that set what stops a
-//! run, and make one.
+//! A session of the debugger on the machine of a handle: a line in, its answer out. Other calls set the stops of a run,
+//! or execute a run.
 ghost use Rattle.std.specs.Prelude.{◌≡◌, None, OnOk, string_bytes};
 ghost use Rattle.pm_machine.specs.CodePlaces.{code_place};
 ghost use Rattle.pm_c.specs.Changes.{ChangesDebugger, Fills, Leads, Looks};
@@ -14,7 +14,7 @@ use pm_debug::{BreakReason, DebugRefusal, Debugger};
 use pm_session::answer;
 use std::alloc::{AllocError, Global};
 
-// Does what a line asks for, and keeps the answer.
+// Executes the command of a line and stores the answer.
 fn do_line(alloc: Global, held: &mut Held, line: &[u8]) -> Result<(), AllocError>
     ensures answers { OnOk result (Commands line.now DONE held.old held.new) }
 {
@@ -25,9 +25,12 @@ fn do_line(alloc: Global, held: &mut Held, line: &[u8]) -> Result<(), AllocError
     Ok(())
 }
 
-/// Does what a line of the debugger asks for, without its line feed: 0, and `pmach_answer` gives the answer until the
-/// next line is done. `quit` has none, and changes nothing. 8 where the handle is empty. 5 where there is no memory:
-/// nothing is known of the machine then, so it is freed, and the handle is empty.
+/// Executes the command of a line of the debugger, which is given without its line feed. Returns 0 if it succeeded;
+/// `pmach_answer` then returns the answer until the next line is executed. The answer to `quit` is empty, and `quit`
+/// does not change the session.
+///
+/// - 8: the handle is empty.
+/// - 5: out of memory. The state of the machine is not known then, so it is freed, and the handle is empty.
 #[unsafe(no_mangle)]
 pub extern "C" fn pmach_command(alloc: Global, handle: &mut Handle, line: &[u8]) -> u32
     ensures answers { LeadsOrEnds result handle.old.held handle.new.held (Commands line.now result) }
@@ -45,9 +48,13 @@ pub extern "C" fn pmach_command(alloc: Global, handle: &mut Handle, line: &[u8])
     }
 }
 
-/// Gives the answer to the last line, as the program writes it: with its line feed, and after `console on` behind the
-/// line of what was written to the console. 0. 7 where the buffer is too short, 8 where the handle is empty; nothing is
-/// written then.
+/// Copies the answer to the last line as the program writes it, with its line feed. After `console on`, the line of the
+/// console bytes precedes it. Returns 0 if it succeeded.
+///
+/// Otherwise nothing is written to the buffer:
+///
+/// - 8: the handle is empty.
+/// - 7: the buffer is too short.
 #[unsafe(no_mangle)]
 pub extern "C" fn pmach_answer(
     alloc: Global,
@@ -67,7 +74,7 @@ pub extern "C" fn pmach_answer(
     code
 }
 
-// The status of what is set or taken away.
+// Returns the status of a breakpoint or a watched word that is set or cleared.
 fn set_code(outcome: Result<(), DebugRefusal>) -> u32
     ensures value { result ≡ set_code outcome }
 {
@@ -77,9 +84,15 @@ fn set_code(outcome: Result<(), DebugRefusal>) -> u32
     }
 }
 
-/// Sets a breakpoint, without a condition, or with `on` false takes it away: the number of a segment, that of a
-/// procedure, and the distance in bytes from where it is entered. 0. 501 where there are 64 already, 502 where it is
-/// not set, 8 where the handle is empty; nothing has changed then. `go N` and the other runs of the session stop there.
+/// Sets a breakpoint without a condition, or clears it if `on` is false. The position is the number of a segment, the
+/// number of a procedure, and the offset in bytes from the entry of the procedure. `go N` and the other runs of the
+/// session stop there. Returns 0 if it succeeded.
+///
+/// Otherwise nothing has changed:
+///
+/// - 8: the handle is empty.
+/// - 501: 64 breakpoints are set already.
+/// - 502: the breakpoint is not set.
 #[unsafe(no_mangle)]
 pub extern "C" fn pmach_break(
     alloc: Global,
@@ -105,9 +118,15 @@ pub extern "C" fn pmach_break(
     set_code(outcome)
 }
 
-/// Watches the word at an even address, or with `on` false watches it no more: a run of the session stops where it has
-/// changed. 0. 501 where 64 are watched already, 502 where it is not watched, 503 at an odd address, 8 where the handle
-/// is empty; nothing has changed then.
+/// Watches the word at an even address, or stops watching it if `on` is false. A run of the session stops if the word
+/// has changed. Returns 0 if it succeeded.
+///
+/// Otherwise nothing has changed:
+///
+/// - 8: the handle is empty.
+/// - 503: the address is odd and `on` is true.
+/// - 501: 64 words are watched already.
+/// - 502: the word is not watched and `on` is false.
 #[unsafe(no_mangle)]
 pub extern "C" fn pmach_watch(alloc: Global, handle: &mut Handle, address: u16, on: bool) -> u32
     ensures sets { Leads result handle.old.held handle.new.held (ChangesDebugger (λ d e.
@@ -147,10 +166,15 @@ fn go_code(debugger: &mut Debugger, limit: u64, steps: &mut u64, address: &mut u
     }
 }
 
-/// At most `limit` steps, as `go` of the session where nothing is ignored: up to a breakpoint, 15, or to a watched word
-/// that has changed, 16, of which `address` is the address, and is not written else. At the limit 0, and what else ends
-/// a run as `pmach_run` tells it; `steps` is how many counted. 8 where the handle is empty. 5 where there is no memory:
-/// the machine stands after the steps that went, and `steps` is 0 then.
+/// Executes at most `limit` steps, as `go` of a session without `ignore`. `steps` is set to the number of counted
+/// steps. Returns one of these statuses:
+///
+/// - 0: the limit is reached.
+/// - 1, 2, and 100 and the number of an execution error, as for `pmach_step`.
+/// - 15: a breakpoint stopped the run.
+/// - 16: a watched word has changed. `address` is set to its address. It is unchanged in all other cases.
+/// - 5: out of memory. The machine is in the state after the steps that succeeded, and `steps` is 0.
+/// - 8: the handle is empty. `steps` is unchanged.
 #[unsafe(no_mangle)]
 pub extern "C" fn pmach_go(
     alloc: Global,

@@ -1,4 +1,4 @@
-//! What is to be seen of a machine. These calls change nothing.
+//! The views of a machine. These calls change nothing.
 ghost use Rattle.std.specs.Prelude.{◌≡◌, drop, None};
 ghost use Rattle.pm_words.specs.Words.{word_read};
 ghost use Rattle.pm_c.specs.Changes.{Fills, Leads, Looks, Reads, shown_of};
@@ -9,14 +9,14 @@ use crate::status::{DONE, NO_MACHINE, ODD_ADDRESS, status_code};
 use pm_machine::Machine;
 use std::alloc::Global;
 
-/// The registers of a machine, and how far it went.
+/// The registers of a machine, the number of its steps, and its status.
 #[repr(C)]
 #[derive(Drop)]
 pub struct Shown {
-    /// How many steps went or ended the program, up to the greatest u64.
+    /// The number of steps that succeeded or ended the program, at most 18,446,744,073,709,551,615.
     pub steps: u64,
-    /// 0 where the machine goes on, 2 where the program has ended, 100 and the number of the execution error where that
-    /// has stopped it.
+    /// 0 if the machine continues, 2 if the program has ended, or 100 and the number of the execution error that
+    /// stopped it.
     pub status: u32,
     pub ipc: u16,
     pub sp: u16,
@@ -46,7 +46,7 @@ fn show(machine: &Machine, shown: &mut Shown)
     };
 }
 
-/// Shows the registers: 0. 8 where the handle is empty, and nothing is shown then.
+/// Sets `shown` to the registers. Returns 0, or 8 if the handle is empty; `shown` is unchanged then.
 #[unsafe(no_mangle)]
 pub extern "C" fn pmach_registers(alloc: Global, handle: &mut Handle, shown: &mut Shown) -> u32
     ensures looks { Leads result handle.old.held handle.new.held (Looks (λ m. (result ≡ DONE) ×
@@ -73,8 +73,12 @@ fn read(machine: &Machine, address: u16, word: &mut u16) -> u32
     }
 }
 
-/// Shows the word at an even address: 0. 10 at an odd address, 8 where the handle is empty; `word` stays as it was
-/// then.
+/// Sets `word` to the word at an even address. Returns 0 if it succeeded.
+///
+/// Otherwise `word` is unchanged:
+///
+/// - 8: the handle is empty.
+/// - 10: the address is odd.
 #[unsafe(no_mangle)]
 pub extern "C" fn pmach_word(
     alloc: Global,
@@ -94,7 +98,7 @@ pub extern "C" fn pmach_word(
     code
 }
 
-/// The bytes behind the first `from`.
+/// Returns the bytes after the first `from`.
 fn behind(bytes: &[u8], from: usize) -> &[u8]
     ensures bytes { result.now ≡ drop from bytes.now }
 {
@@ -105,8 +109,12 @@ fn behind(bytes: &[u8], from: usize) -> &[u8]
     }
 }
 
-/// Gives all bytes that were written to the console but for the first `from`: 0. 7 where the buffer is too short, 8
-/// where the handle is empty; nothing is written then.
+/// Copies all bytes that were written to the console, except the first `from`. Returns 0 if it succeeded.
+///
+/// Otherwise nothing is written to the buffer:
+///
+/// - 8: the handle is empty.
+/// - 7: the buffer is too short.
 #[unsafe(no_mangle)]
 pub extern "C" fn pmach_console(
     alloc: Global,
@@ -131,7 +139,8 @@ pub extern "C" fn pmach_console(
     code
 }
 
-/// Gives all bytes that were written to the printer but for the first `from`: as `pmach_console`.
+/// Copies all bytes that were written to the printer, except the first `from`. The statuses are those of
+/// `pmach_console`.
 #[unsafe(no_mangle)]
 pub extern "C" fn pmach_printer(
     alloc: Global,

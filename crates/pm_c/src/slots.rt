@@ -1,5 +1,5 @@
-//! The jobs on the file of a slot: one call each, as those on the first file of a name. Slots count from 1, as the
-//! lines of the list do; 2 where the slot has no file, and the answer then says why.
+//! The jobs on the file of a slot, with one call for each, like those on the first file of a name. Slots count from 1,
+//! in the order of the lines of the list. A call returns 2 if the slot has no file; the answer then states the reason.
 ghost use Rattle.std.specs.Prelude.{◌≡◌, ◌↔◌, []};
 ghost use Rattle.std.specs.Str.{IsUtf8};
 ghost use Rattle.pm_filer.specs.Filed.{ChangeSlot, GetSlot, GetTextSlot, RemoveSlot};
@@ -11,7 +11,7 @@ use crate::volumes::{command, none, text_of};
 use pm_filer::FileCommand;
 use std::alloc::Global;
 
-/// Gives the bytes of the file of a slot.
+/// Copies the bytes of the file of a slot.
 #[unsafe(no_mangle)]
 pub extern "C" fn pmach_get_slot(
     alloc: Global,
@@ -25,7 +25,7 @@ pub extern "C" fn pmach_get_slot(
     command(alloc, image, &[], FileCommand::GetSlot(slot), out, needed)
 }
 
-/// Gives the text of the file of a slot, which is a text file.
+/// Copies the text of the file of a slot, which must be a text file.
 #[unsafe(no_mangle)]
 pub extern "C" fn pmach_get_text_slot(
     alloc: Global,
@@ -46,7 +46,7 @@ pub extern "C" fn pmach_get_text_slot(
     )
 }
 
-/// Removes the file of a slot; a file of the same name in another slot stays.
+/// Removes the file of a slot. A file of the same name in another slot is unchanged. The answer is the new image.
 #[unsafe(no_mangle)]
 pub extern "C" fn pmach_remove_slot(
     alloc: Global,
@@ -67,7 +67,10 @@ pub extern "C" fn pmach_remove_slot(
     )
 }
 
-/// Gives the file of a slot another name; a file of its old name in another slot keeps it.
+/// Changes the name of the file of a slot. A file of the same old name in another slot is unchanged. The answer is the
+/// new image.
+///
+/// - 12: the new name is not UTF-8.
 #[unsafe(no_mangle)]
 pub extern "C" fn pmach_change_slot(
     alloc: Global,

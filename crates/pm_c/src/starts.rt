@@ -1,4 +1,4 @@
-//! How a machine starts.
+//! The start of a machine.
 ghost use Rattle.std.specs.Prelude.{◌≡◌, ◌≢◌, ◌↔◌, Ok, Some, None, is_some, true};
 ghost use Rattle.std.specs.Str.{IsUtf8};
 ghost use Rattle.pm_machine.specs.Start.{raw_start};
@@ -14,7 +14,7 @@ use pm_debug::Debugger;
 use pm_machine::Machine;
 use std::alloc::Global;
 
-// Whether the handle has a machine.
+// Returns whether the handle has a machine.
 fn is_full(alloc: Global, handle: &mut Handle) -> bool
     ensures value { result ≡ is_some handle.old.held }
     ensures same { handle.new.held ≡ handle.old.held }
@@ -28,7 +28,7 @@ fn is_full(alloc: Global, handle: &mut Handle) -> bool
     }
 }
 
-// Puts a machine behind an empty handle.
+// Stores a machine in an empty handle.
 fn put(alloc: Global, handle: &mut Handle, machine: Machine) -> u32
     requires empty { handle.old.held ≡ None }
     ensures put { result ≢ NO_MEMORY → (result ≡ DONE) × Holds handle.new.held (Ok machine.state) }
@@ -48,8 +48,13 @@ fn put(alloc: Global, handle: &mut Handle, machine: Machine) -> u32
     }
 }
 
-/// Puts a machine at its start on bare code into an empty handle: 0. 9 where the handle has a machine, 203 where the
-/// code has more than 60,000 bytes, 5 where there is no memory; the handle stays as it was then.
+/// Creates a machine at its start on bare code in an empty handle. Returns 0 if it succeeded.
+///
+/// Otherwise the handle is unchanged:
+///
+/// - 9: the handle has a machine.
+/// - 203: the code has more than 60,000 bytes.
+/// - 5: out of memory.
 #[unsafe(no_mangle)]
 pub extern "C" fn pmach_new(alloc: Global, handle: &mut Handle, code: &[u8]) -> u32
     ensures start { result ≡ DONE → Holds handle.new.held (raw_start code.now) }
@@ -66,11 +71,18 @@ pub extern "C" fn pmach_new(alloc: Global, handle: &mut Handle, code: &[u8]) -> 
     }
 }
 
-/// Puts a machine at the start of a program into an empty handle: 0. The program is the code file of a name on the
-/// volume of unit 4, which the image is; no other disk is there, and the clock begins at `clock`. In this order: 9
-/// where the handle has a machine, 12 where the name is no text in UTF-8, 400 and the fault's number where the image is
-/// no volume, 200 and the fault's number where the program does not start, 100 and the error's number where its first
-/// call fails. 5 where there is no memory. The handle stays as it was then.
+/// Creates a machine at the start of a program in an empty handle. The program is the code file `name` on the volume in
+/// `image`, which is the disk of unit 4. No other disk is mounted, and the clock is `clock`. Returns 0 if it succeeded.
+///
+/// Otherwise the handle is unchanged. The statuses are checked in this order:
+///
+/// - 9: the handle has a machine.
+/// - 12: the name is not UTF-8.
+/// - 400 and the number of the fault: the image is no volume.
+/// - 200 and the number of the fault: the program does not start.
+/// - 100 and the number of the error: the first call of the program fails.
+///
+/// The status is 5 if memory is out.
 #[unsafe(no_mangle)]
 pub extern "C" fn pmach_boot(
     alloc: Global,

@@ -9,28 +9,28 @@ use pm_volume::VolumeFault;
 /// The version 0.1 of the library, which is that of the program.
 pub const VERSION: u32 = 1;
 
-/// It is done. Of a step and a run: the machine goes on.
+/// The call succeeded. For a step and a run: the machine can continue.
 pub const DONE: u32 = 0;
 
 /// The machine waits for console bytes.
 pub const WAITING: u32 = 1;
 
-/// The program has come to its end.
+/// The program has ended.
 pub const ENDED: u32 = 2;
 
-/// A job is refused, and its answer says why.
+/// A job is refused, and its answer states the reason.
 pub const REFUSED: u32 = 2;
 
 /// An execution error stopped the program of a job.
 pub const FAILED: u32 = 3;
 
-/// The program of a job came to the limit of its steps, or waits for console bytes.
+/// The program of a job reached the limit of its steps, or waits for console bytes.
 pub const STOPPED: u32 = 6;
 
 /// The input of a job is too long.
 pub const TOO_LONG: u32 = 4;
 
-/// There is no memory, and nothing has changed but what the call says.
+/// Memory is out. Nothing has changed, except as the call states.
 pub const NO_MEMORY: u32 = 5;
 
 /// The buffer is too short, and nothing was written to it.
@@ -45,25 +45,25 @@ pub const HAS_MACHINE: u32 = 9;
 /// The address is odd.
 pub const ODD_ADDRESS: u32 = 10;
 
-/// No disk is there.
+/// The unit has no disk.
 pub const NO_DISK: u32 = 11;
 
-/// A name is no text in UTF-8.
+/// A name is not UTF-8.
 pub const NO_TEXT: u32 = 12;
 
-/// The machine stands nowhere in the code.
+/// The machine has no position in the code.
 pub const NO_PLACE: u32 = 13;
 
-/// No file has a kind above 15.
+/// The kind is above 15.
 pub const NO_KIND: u32 = 14;
 
-/// A run has come to a breakpoint.
+/// A breakpoint stopped a run.
 pub const AT_BREAK: u32 = 15;
 
 /// A watched word has changed.
 pub const CHANGED: u32 = 16;
 
-/// The status of a machine's answer.
+/// Returns the status for an answer of a machine.
 pub(crate) fn stop_code(stop: Stop) -> u32
     ensures value { result ≡ stop_code stop }
     ensures other { result ≢ NO_MEMORY }
@@ -76,7 +76,7 @@ pub(crate) fn stop_code(stop: Stop) -> u32
     }
 }
 
-/// The status of a machine that goes on, or does not.
+/// Returns the status for the status of a machine.
 pub(crate) fn status_code(status: Status) -> u32
     ensures value { result ≡ status_code status }
 {
@@ -87,7 +87,7 @@ pub(crate) fn status_code(status: Status) -> u32
     }
 }
 
-/// The status of a machine that does not start.
+/// Returns the status of a machine that does not start.
 pub(crate) fn boot_code(fault: BootFault) -> u32
     ensures value { result ≡ boot_code fault }
     ensures fault { result ≢ DONE }
@@ -101,7 +101,7 @@ pub(crate) fn boot_code(fault: BootFault) -> u32
     }
 }
 
-/// The status of an image that is no volume.
+/// Returns the status of an image that is no volume.
 pub(crate) fn volume_code(fault: VolumeFault) -> u32
     ensures value { result ≡ 400 + number_of fault }
 {

@@ -1,4 +1,6 @@
-//! The jobs on volumes: one call each. An image is looked at and never changed: the answer of a change is the new one.
+//! The jobs on volumes, with one call for each. An image is only read. The answer of a change is the new image.
+//!
+//! Each call with a name returns 12 if the name is not UTF-8.
 ghost use Rattle.std.specs.Prelude.{◌≡◌, ◌≢◌, ◌<◌, ◌≤◌, ◌⊎◌, ◌↔◌, [], IfOk, IfErr, OnOk, string_bytes};
 ghost use Rattle.std.specs.Str.{IsUtf8};
 ghost use Rattle.pm_volume.specs.Headers.{blank_fault};
@@ -13,7 +15,7 @@ use pm_filer::FileCommand;
 use pm_tool::Job;
 use std::alloc::Global;
 
-/// The text of a name, or the status of a call that has no answer.
+/// Returns the text of a name, or the status of a call without an answer.
 pub(crate) fn text_of(alloc: Global, name: &[u8]) -> Result<String, u32>
     ensures text { IfOk result (λ text. string_bytes text ≡ name.now) }
     ensures none { IfErr result (λ code. (code ≡ NO_MEMORY) ⊎ (code ≡ NO_TEXT)) }
@@ -29,7 +31,7 @@ pub(crate) fn text_of(alloc: Global, name: &[u8]) -> Result<String, u32>
     }
 }
 
-/// No answer, and why.
+/// Sets `needed` to 0 and returns the status of a call without an answer.
 pub(crate) fn none(code: u32, needed: &mut usize) -> u32
     ensures code { result ≡ code }
     ensures needed { needed.new ≡ 0 }
@@ -38,7 +40,7 @@ pub(crate) fn none(code: u32, needed: &mut usize) -> u32
     code
 }
 
-/// Does a command on the volume that an image is.
+/// Executes a command on the volume of an image.
 pub(crate) fn command(
     alloc: Global,
     image: &[u8],
@@ -57,7 +59,7 @@ pub(crate) fn command(
     }
 }
 
-/// Gives the list of the files, as `list` of the program.
+/// Copies the list of the files, in the form of the program's `list`.
 #[unsafe(no_mangle)]
 pub extern "C" fn pmach_list(alloc: Global, image: &[u8], out: &mut [u8], needed: &mut usize) -> u32
     ensures answers { Answers (said_files image.now ListFiles []) result out.old out.new needed.new }
@@ -65,7 +67,7 @@ pub extern "C" fn pmach_list(alloc: Global, image: &[u8], out: &mut [u8], needed
     command(alloc, image, &[], FileCommand::List, out, needed)
 }
 
-/// Gives the bytes of the first file of a name.
+/// Copies the bytes of the first file of a name.
 #[unsafe(no_mangle)]
 pub extern "C" fn pmach_get(
     alloc: Global,
@@ -83,7 +85,7 @@ pub extern "C" fn pmach_get(
     }
 }
 
-/// Gives the text of the first file of a name, which is a text file.
+/// Copies the text of the first file of a name, which must be a text file.
 #[unsafe(no_mangle)]
 pub extern "C" fn pmach_get_text(
     alloc: Global,
@@ -101,8 +103,8 @@ pub extern "C" fn pmach_get_text(
     }
 }
 
-/// Adds a file of a name, a kind and these bytes, with the volume's last date. 14 where the kind is above 15, before
-/// all else.
+/// Adds a file with this name, kind and bytes, and with the last date of the volume. Returns 14 if the kind is above
+/// 15; this is checked first.
 #[unsafe(no_mangle)]
 pub extern "C" fn pmach_put(
     alloc: Global,
@@ -130,7 +132,7 @@ pub extern "C" fn pmach_put(
     }
 }
 
-/// Adds a file of a name, the text file of this text, with the volume's last date.
+/// Adds a text file with this name and text, and with the last date of the volume.
 #[unsafe(no_mangle)]
 pub extern "C" fn pmach_put_text(
     alloc: Global,
@@ -171,7 +173,7 @@ pub extern "C" fn pmach_remove(
     }
 }
 
-/// Gives the first file of a name another name.
+/// Changes the name of the first file of a name.
 #[unsafe(no_mangle)]
 pub extern "C" fn pmach_change(
     alloc: Global,
@@ -201,7 +203,7 @@ pub extern "C" fn pmach_change(
     }
 }
 
-/// Moves the files together; bad blocks stay.
+/// Moves the files together. Bad blocks are unchanged.
 #[unsafe(no_mangle)]
 pub extern "C" fn pmach_krunch(
     alloc: Global,
@@ -214,7 +216,7 @@ pub extern "C" fn pmach_krunch(
     command(alloc, image, &[], FileCommand::Krunch, out, needed)
 }
 
-/// Sets the volume's last date: year 0 to 127, month 1 to 12, day 1 to 31.
+/// Sets the last date of the volume: year 0 to 127, month 1 to 12, day 1 to 31.
 #[unsafe(no_mangle)]
 pub extern "C" fn pmach_date(
     alloc: Global,
@@ -232,7 +234,7 @@ pub extern "C" fn pmach_date(
     command(alloc, image, &[], date, out, needed)
 }
 
-/// Forgets all files and gives the volume a name.
+/// Removes all files and sets the name of the volume.
 #[unsafe(no_mangle)]
 pub extern "C" fn pmach_zero(
     alloc: Global,
@@ -250,7 +252,7 @@ pub extern "C" fn pmach_zero(
     }
 }
 
-/// Makes a second copy of the directory.
+/// Adds a second copy of the directory.
 #[unsafe(no_mangle)]
 pub extern "C" fn pmach_duplicate(
     alloc: Global,
@@ -263,7 +265,7 @@ pub extern "C" fn pmach_duplicate(
     command(alloc, image, &[], FileCommand::Duplicate, out, needed)
 }
 
-/// Drops the second copy of the directory.
+/// Removes the second copy of the directory.
 #[unsafe(no_mangle)]
 pub extern "C" fn pmach_single(
     alloc: Global,
@@ -276,7 +278,7 @@ pub extern "C" fn pmach_single(
     command(alloc, image, &[], FileCommand::Single, out, needed)
 }
 
-/// Gives the image of a new volume of a name and so many blocks of 512 bytes, without files.
+/// Copies the image of a new volume with this name and this number of blocks of 512 bytes, without files.
 #[unsafe(no_mangle)]
 pub extern "C" fn pmach_volume(
     alloc: Global,
@@ -295,8 +297,8 @@ pub extern "C" fn pmach_volume(
     }
 }
 
-/// Gives an image whose first copy of the directory alone is damaged with the good second copy in that place, and a
-/// volume as it is.
+/// Copies an image of which only the first copy of the directory is damaged, with the good second copy instead of it.
+/// An image that is a volume is copied unchanged.
 #[unsafe(no_mangle)]
 pub extern "C" fn pmach_repair(
     alloc: Global,
@@ -312,7 +314,7 @@ pub extern "C" fn pmach_repair(
     }
 }
 
-/// Says what is wrong with an image, of any bytes.
+/// Copies the faults of an image, which can have any bytes.
 #[unsafe(no_mangle)]
 pub extern "C" fn pmach_check(
     alloc: Global,
@@ -328,8 +330,8 @@ pub extern "C" fn pmach_check(
     }
 }
 
-/// Gives a new volume with the files of an image whose entries make sense by themselves, by the first copy of the
-/// directory or, with `second`, by the second.
+/// Copies a new volume with files of an image. These are the files whose directory entries are valid by themselves, in
+/// the first copy of the directory or, with `second`, in the second copy.
 #[unsafe(no_mangle)]
 pub extern "C" fn pmach_salvage(
     alloc: Global,

@@ -16,17 +16,17 @@ module _ (bytes whole front : List ℕ) (n more a : ℕ) (some : n ≡ suc more)
   going_on : whole ≡ front ++ addresses_from bytes (suc more) a
   going_on = h ∙ ap (λ k. front ++ addresses_from bytes k a) some
 
-  -- the last address
+  -- The last address.
   pub ahead_ends : nat_lt (next_address bytes a) 65536 ≡ false → whole ≡ front ++ a ∷ []
   ahead_ends e = going_on ∙ ap (λ rest. front ++ rest) (ahead_last bytes more a e)
 
-  -- one address more
+  -- One address more.
   pub ahead_more : nat_lt (next_address bytes a) 65536 ≡ true → whole ≡ (front ++ a ∷ []) ++ addresses_from bytes more (next_address bytes a)
   ahead_more e =
       going_on ∙ ap (λ rest. front ++ rest) (ahead_first bytes more a e)
       ∙ sym (append_assoc front (a ∷ []) (addresses_from bytes more (next_address bytes a)))
 
--- nothing is left
+-- Nothing is left.
 pub ahead_over : (bytes whole front : List ℕ) (a : ℕ) → whole ≡ front ++ addresses_from bytes 0 a → whole ≡ front
 unfolding addresses_from
 ahead_over bytes whole front a h = h ∙ append-nil front

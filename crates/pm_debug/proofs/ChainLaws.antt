@@ -5,7 +5,7 @@ use Rattle.pm_words.specs.Words.{word_at}
 use Rattle.pm_words.specs.Stack.{is_even}
 use Rattle.pm_debug.specs.Views.{before_frames, chain}
 
--- frames that stand before the rest of a chain
+-- The frames before the rest of a chain.
 abbrev pub behind : List ℕ → Option (List ℕ) → Option (List ℕ)
 behind front (Some frames) = Some (front ++ frames)
 behind front None = None
@@ -44,12 +44,12 @@ module _ (m : List ℕ) (distance : ℕ) (whole : Option (List ℕ)) (front : Li
   going_on : whole ≡ behind front (chain m distance (suc more) a)
   going_on = h ∙ ap (λ k. behind front (chain m distance k a)) some
 
-  -- the last frame
+  -- The last frame.
   pub chain_ends : (more == 0 || a == 65492) ≡ true → whole ≡ Some (front ++ a ∷ [])
   chain_ends e = going_on ∙ ap (behind front) (chain_last m distance more a e)
 
   module _ (on : (more == 0 || a == 65492) ≡ false) where
-    -- one frame more
+    -- One frame more.
     pub chain_more : (next : ℕ) → Some next ≡ (if is_even a then Some (word_at m ((a + distance) % 65536)) else None)
         → whole ≡ behind (front ++ a ∷ []) (chain m distance more next)
     chain_more next e =
@@ -57,11 +57,11 @@ module _ (m : List ℕ) (distance : ℕ) (whole : Option (List ℕ)) (front : Li
         rw even.1 (going_on ∙ ap (behind front) (chain_next m distance more a on even.0)
         ∙ behind_one front a (chain m distance more (word_at m ((a + distance) % 65536))))
 
-    -- no frame more, at an odd address
+    -- No frame more, at an odd address.
     pub chain_odd : None ≡ (if is_even a then Some (word_at m ((a + distance) % 65536)) else None) → whole ≡ None
     chain_odd e = going_on ∙ ap (behind front) (chain_none m distance more a on (where_none (is_even a) _ e))
 
--- nothing of the chain is left
+-- Nothing of the chain is left.
 pub chain_over : (m : List ℕ) (distance : ℕ) (whole : Option (List ℕ)) (front : List ℕ) (a : ℕ) → whole ≡ behind front (chain m distance 0 a)
     → whole ≡ Some front
 unfolding chain

@@ -1,4 +1,4 @@
--- Runs that nothing stops, and runs that breakpoints alone may stop.
+-- Runs that nothing stops, and runs that only breakpoints may stop.
 use Rattle.std.proofs.Common.{◌≡◌, ◌∙◌, ap, sym, refl, arith, ℕ, zero, suc, Bool, true, false, not, ◌&&◌, List, [], ◌∷◌, length, inl, inr}
 use Rattle.std.specs.Prelude.{◌==◌}
 use Rattle.std.proofs.lemmas.Bool.{cases_Bool, eqb-true}
@@ -27,7 +27,7 @@ and_false : (b : Bool) → b && false ≡ false
 and_false true = refl
 and_false false = refl
 
--- nothing stops no run
+-- No breakpoints, watched words and destination stop no run.
 pub none_stop : (k : ℕ) (s : State) → later (stops_at [] [] nowhere) k s ≡ false
 unfolding first_changed
 none_stop k s = and_false (not (k == 0))
@@ -59,7 +59,7 @@ outcome_state count stop.Waiting t = refl
 outcome_state count stop.Ended t = refl
 outcome_state count (stop.Halted e) t = refl
 
--- a machine that has ended makes no step
+-- A machine that has ended executes no step.
 ended_is : (st : Status) → has_ended st ≡ true → st ≡ status.Ended
 ended_is status.Ended h = refl
 ended_is status.Running h = absurd (cc)
@@ -91,7 +91,7 @@ go_is_run limit count s t a h =
       | inr going ↦ rw going (ap (gone_by [] []) (without_stops limit s ∙ so) ∙ gone_as count a t)
     ]
 
--- ---- breakpoints alone
+-- ---- only breakpoints
 
 held_later : (k : ℕ) (b : Bool) → (not (k == 0) && b) ≡ true → b ≡ true
 held_later k b h = behind (not (k == 0)) b h
@@ -100,7 +100,7 @@ held_later k b h = behind (not (k == 0)) b h
     behind true b h = h
     behind false b h = absurd (cc)
 
--- without watched words the reason is that of a run which breakpoints alone may stop
+-- Without watched words the reason is that of a run that only breakpoints may stop.
 break_told : (breaks : List Breakpoint) (limit n count : ℕ) (s t : State) (end : RunEnd) → EndsSo (later (is_at_break breaks)) limit n s end count t
     → reason_of [] breaks end t ≡ break_reason end
 unfolding first_changed

@@ -1,4 +1,4 @@
--- What stands in memory from an address on, one instruction after the other.
+-- The instructions from an address on.
 use Rattle.std.specs.Prelude.{ℕ, zero, suc, ◌+◌, nat_lt, List, [], ◌∷◌, Result, Ok, Err, if◌then◌else◌}
 use Rattle.pm_words.specs.Words.{bytes_of}
 use Rattle.pm_opcode.specs.declared.instr.Instr.{Instr}
@@ -6,7 +6,7 @@ use Rattle.pm_opcode.specs.declared.instr.Decode.{Decode}
 use Rattle.pm_opcode.specs.Reading.{reading}
 use Rattle.pm_machine.specs.State.{State}
 
--- how many bytes has what was read: an instruction its own, and a byte that begins none is alone
+-- The size in bytes of what was decoded: that of the instruction, or 1 for a byte that begins no instruction.
 abbrev pub size_of : Result Instr Decode → ℕ
 size_of (Ok i) = i.len
 size_of (Err fault) = 1
@@ -14,12 +14,12 @@ size_of (Err fault) = 1
 abbrev pub next_address : List ℕ → ℕ → ℕ
 next_address bytes at = at + size_of (reading bytes at)
 
--- where instructions stand from an address on, at most so many, and none behind 65,535
+-- The addresses of the instructions from `at` on, at most `n`, and none above 65,535.
 unfoldable pub addresses_from : List ℕ → ℕ → ℕ → List ℕ
 addresses_from bytes zero at = []
 addresses_from bytes (suc n) at = at ∷ (if nat_lt (next_address bytes at) 65536
     then addresses_from bytes n (next_address bytes at) else [])
 
--- where the next instructions stand, from IPC on
+-- The addresses of the next `n` instructions from IPC on.
 abbrev pub addresses_ahead : State → ℕ → List ℕ
 addresses_ahead s n = addresses_from (bytes_of s.memory) n s.registers.ipc

@@ -1,5 +1,5 @@
--- Breakpoints: a run stops before a step at a place in the code, or before one that writes or reads certain words.
--- Some have a condition.
+-- Breakpoints. A run stops before a step at a position in the code, or before a step that writes or reads certain
+-- words. A breakpoint can have a condition.
 use Rattle.std.specs.Prelude.{ℕ, ◌*◌, ◌-◌, min, ◌==◌, ◌&&◌, not, Bool, false, true, List, [], ◌∷◌, ◌++◌, length, map}
 use Rattle.std.specs.Prelude.{filter, Option, Some, None, Result, Ok, Err, if◌then◌else◌, nat_lt}
 use Rattle.std.specs.List.{list_any}
@@ -17,20 +17,21 @@ use Rattle.pm_debug.specs.declared.breaks.Spot.TheVariants.{Code, Reads, Writes}
 use Rattle.pm_debug.specs.declared.refusal.DebugRefusal.{DebugRefusal}
 use Rattle.pm_debug.specs.declared.refusal.DebugRefusal.TheVariants.{Full, NotSet, OddAddress}
 
--- the breakpoint that stands there, with this condition, if any
+-- The breakpoint at `spot` with this condition, if any.
 abbrev pub breakpoint : Spot → Option Condition → Breakpoint
 breakpoint spot condition = record { spot = spot; condition = condition }
 
--- the condition that the word at a is w
+-- The condition that the word at `a` is `w`.
 abbrev pub word_is : ℕ → ℕ → Condition
 word_is a w = record { address = a; word = w }
 
--- ---- which are set
+-- ---- the breakpoints that are set
 
 abbrev pub is_same_place : CodePlace → CodePlace → Bool
 is_same_place a b = a.segment == b.segment && (a.procedure == b.procedure && a.offset == b.offset)
 
--- the same place, or as many words from the same address on, both written or both read
+-- Both spots are the same position, or the same number of words from the same address on, both for writes or both for
+-- reads.
 abbrev pub is_same : Spot → Spot → Bool
 is_same (Code a) (Code b) = is_same_place a b
 is_same (Code a) (Writes address n) = false
@@ -42,27 +43,27 @@ is_same (Reads address n) (Code b) = false
 is_same (Reads a n) (Writes b k) = false
 is_same (Reads a n) (Reads b k) = a == b && n == k
 
--- a breakpoint is set there
+-- A breakpoint is set at `spot`.
 abbrev pub is_set : Spot → List Breakpoint → Bool
 is_set spot breaks = list_any (λ b. is_same spot b.spot) breaks
 
--- words stand at an even address
+-- The words of a spot begin at an even address.
 abbrev pub can_stand : Spot → Bool
 can_stand (Code place) = true
 can_stand (Writes address n) = is_even address
 can_stand (Reads address n) = is_even address
 
--- a condition is of a word at an even address
+-- The address of a condition is even.
 abbrev pub can_be_asked : Option Condition → Bool
 can_be_asked None = true
 can_be_asked (Some c) = is_even c.address
 
--- a breakpoint in the place of another, where this stands at the same place or on the same words
+-- The breakpoint `b` if it has the same spot as `c`, and otherwise `c`.
 abbrev pub instead : Breakpoint → Breakpoint → Breakpoint
 instead b c = if is_same b.spot c.spot then b else c
 
--- One breakpoint more: words or a condition at an odd address are refused; one that stands where another does takes
--- its place, and a new one beside 64 is refused.
+-- The list with the breakpoint `b`. An odd address of words or of a condition is refused. A breakpoint at the same spot
+-- is replaced. A new one in addition to 64 is refused.
 unfoldable pub with_break : Breakpoint → List Breakpoint → Result (List Breakpoint) DebugRefusal
 with_break b breaks =
     if not (can_stand b.spot && can_be_asked b.condition) then Err OddAddress
@@ -70,26 +71,26 @@ with_break b breaks =
     else if nat_lt (length breaks) 64 then Ok (breaks ++ b ∷ [])
     else Err Full
 
--- one breakpoint less, whatever its condition; where none is set, that is refused
+-- The list without the breakpoint at `spot`, with any condition. If none is set there, this is refused.
 unfoldable pub without_break : Spot → List Breakpoint → Result (List Breakpoint) DebugRefusal
 without_break spot breaks =
     if is_set spot breaks then Ok (filter (λ b. not (is_same spot b.spot)) breaks) else Err NotSet
 
--- ---- where a run stops
+-- ---- the states in which a run stops
 
 abbrev pub is_that : CodePlace → Option CodePlace → Bool
 is_that b None = false
 is_that b (Some here) = is_same_place b here
 
--- the machine stands at this place
+-- The machine is at this position.
 abbrev pub stands_at : CodePlace → State → Bool
 stands_at b s = is_that b (place_in_code s)
 
--- the bytes of so many words from an address on; the memory ends with that at 65,535
+-- The number of bytes of `n` words from `address` on that are in the memory, which ends with 65,535.
 abbrev pub bytes_from : ℕ → ℕ → ℕ
 bytes_from address n = min (2 * n) (65536 - address)
 
--- a machine that stands here meets this place, or the step that it makes next writes, or reads, one of these words
+-- The machine at `here` is at the position of a spot, or its next step writes or reads one of the words of the spot.
 abbrev pub is_met_from : Option CodePlace → Spot → State → Bool
 is_met_from here (Code place) s = is_that place here
 is_met_from here (Writes address n) s = writes address (bytes_from address n) s
@@ -98,16 +99,16 @@ is_met_from here (Reads address n) s = reads address (bytes_from address n) s
 abbrev pub is_met : Spot → State → Bool
 is_met spot s = is_met_from (place_in_code s) spot s
 
--- a condition holds in this memory: the word at its address is its word; none always holds
+-- A condition is true in this memory: the word at its address is its word. No condition is always true.
 abbrev pub holds : Option Condition → List ℕ → Bool
 holds None m = true
 holds (Some c) m = word_at m c.address == c.word
 
--- a breakpoint stops a run here: the machine stands at its place, or writes or reads one of its words next, and its
--- condition holds
+-- A breakpoint stops a run here. The machine is at its position, or writes or reads one of its words next, and its
+-- condition is true.
 abbrev pub stops_here : State → Breakpoint → Bool
 stops_here s b = is_met b.spot s && holds b.condition s.memory
 
--- one of them stops a run here
+-- One of the breakpoints stops a run here.
 abbrev pub is_at_break : List Breakpoint → State → Bool
 is_at_break breaks s = list_any (stops_here s) breaks

@@ -9,59 +9,58 @@ use Rattle.pm_debug.specs.declared.watches.WatchedWord.{WatchedWord}
 use Rattle.pm_debug.specs.Runs.{Gone, Left, countable, gone_from, is_there, later, left_behind, stops_at}
 use Rattle.pm_debug.specs.Runs.Left.{AtBreak, Nothing, Rest}
 
--- a run behind others that made so many steps
+-- A run after others that executed `made` steps.
 abbrev pub counted : ℕ → Gone → Gone
 counted made run = record run { steps = made + run.steps }
 
--- A run that a breakpoint stopped behind so many steps passes over it: it stops where it is to go no further, and else
--- makes steps as a run that begins here, up to the most of the whole run, but with the steps of this and the words that
--- were watched when it began.
+-- A run that a breakpoint stopped after `made` steps passes over this breakpoint. If it is at its destination, it
+-- stops. Otherwise it continues as a run that begins here, up to `most` steps of the whole run. Its count includes the
+-- `made` steps, and its watched words are those when the whole run began.
 abbrev pub gone_past : List Breakpoint → List WatchedWord → Depth → ℕ → ℕ → State → Gone
 gone_past breaks watched depth made most s =
     if is_there depth s then record { steps = made; reason = reasons.There; machine = s }
     else counted made (gone_from breaks watched (is_there depth) 0 (most - made) s)
 
--- the last run passes over the breakpoint that stopped it, where it may pass over one more; of so many steps at most
+-- The last run passes over the breakpoint that stopped it if a pass is left, up to `most` steps in all.
 abbrev pub passed : List Breakpoint → ℕ → Left → ℕ → State → Option Gone
 passed breaks zero left most s = None
 passed breaks (suc passes) Nothing most s = None
 passed breaks (suc passes) (Rest depth made watched) most s = None
 passed breaks (suc passes) (AtBreak depth made watched) most s = Some (gone_past breaks watched depth made most s)
 
--- what is left after that
+-- The rest of the last run afterwards.
 abbrev pub left_past : List Breakpoint → Left → ℕ → State → Left
 left_past breaks Nothing most s = Nothing
 left_past breaks (Rest depth made watched) most s = Rest depth made watched
 left_past breaks (AtBreak depth made watched) most s =
     left_behind depth watched (gone_past breaks watched depth made most s)
 
--- it was given up for want of memory
+-- The run stopped because it was out of memory.
 abbrev pub GaveUpPast : List Breakpoint → Left → ℕ → Whole → Whole → Type 0
 GaveUpPast breaks Nothing most m t = ⊥
 GaveUpPast breaks (Rest depth made watched) most m t = ⊥
 GaveUpPast breaks (AtBreak depth made watched) most m t =
     GaveUp (later (stops_at watched breaks (is_there depth))) (most - made) m t
 
--- the steps that the last run has made, where something is left of it
+-- The number of steps of the last run if a rest of it exists.
 abbrev pub made_of : Left → ℕ
 made_of Nothing = 0
 made_of (Rest depth made watched) = made
 made_of (AtBreak depth made watched) = made
 
--- the most steps in all of the last run with so many more
+-- The maximum number of steps of the whole last run with `limit` more.
 abbrev pub most_on : Left → ℕ → ℕ
 most_on left limit = made_of left + countable (made_of left) limit
 
--- ---- all of them
+-- ---- all passes
 
--- a run that has passed over breakpoints, what is left of it, and how many more it may pass over
+-- A run that has passed over breakpoints, its rest, and the number of passes that are left.
 pub record Passed : Type 0 where
   pub run : Gone
   pub left : Left
   pub passes : ℕ
 
--- A run of at most so many steps that ended so passes over one breakpoint behind the other, as long as one stops it and
--- it may pass over more.
+-- A run of at most `most` steps passes over one breakpoint after the other while one stops it and a pass is left.
 unfoldable pub all_passed : List Breakpoint → ℕ → ℕ → Left → Gone → Passed
 all_passed breaks most zero left run = record { run = run; left = left; passes = 0 }
 all_passed breaks most (suc passes) Nothing run = record { run = run; left = Nothing; passes = suc passes }

@@ -14,7 +14,7 @@ number_of NoMemory = 4
 number_of TooDeep = 5
 number_of NothingLeft = 6
 
--- the refusal of a read that fails: too many static links, or an odd address on the way
+-- The refusal of a read that failed: too many static links, or an odd address on the way.
 abbrev pub refusal_of : ExecError → DebugRefusal
 refusal_of errors.NoSegment = TooDeep
 refusal_of errors.InvalidIndex = OddAddress
@@ -28,7 +28,7 @@ refusal_of errors.Unimplemented = OddAddress
 refusal_of errors.StringTooLong = OddAddress
 refusal_of errors.Halt = OddAddress
 
--- a read, or its refusal
+-- The word that was read, or the refusal of the read.
 abbrev pub or_refused : Result ℕ ExecError → Result ℕ DebugRefusal
 or_refused (Ok word) = Ok word
 or_refused (Err error) = Err (refusal_of error)

@@ -1,5 +1,5 @@
--- Runs of the debugger: runs of the machine that stop before a step where a watched word has changed, at a breakpoint,
--- or where they are to go.
+-- Runs of the debugger. They stop before a step if a watched word has changed, at a breakpoint, or at their
+-- destination.
 use Rattle.std.specs.Prelude.{◌≡◌, ℕ, ◌+◌, ◌-◌, min, ◌==◌, ◌&&◌, ◌||◌, not, nat_le, nat_lt, Bool, true, false, List, []}
 use Rattle.std.specs.Prelude.{Option, Some, None, if◌then◌else◌}
 use Rattle.pm_machine.specs.declared.state.RunEnd.{RunEnd}
@@ -24,26 +24,26 @@ use Rattle.pm_debug.specs.Watches.{first_changed, has_changed, watched_words}
 
 -- ---- what stops a run
 
--- a test of the state stops a run after k steps, at s; it does not before the first step
+-- A test of the state stops a run after `k` steps, in state `s`, but not before the first step.
 abbrev pub later : (State → Bool) → ℕ → State → Bool
 later test k s = not (k == 0) && test s
 
--- a run stops at s: it is where a test says that it is to go, a watched word has changed, or it is at a breakpoint
+-- A run stops in `s` if the state is its destination, a watched word has changed, or the state is at a breakpoint.
 abbrev pub stops_at : List WatchedWord → List Breakpoint → (State → Bool) → State → Bool
 stops_at watched breaks test s = (test s || has_changed watched s.memory) || is_at_break breaks s
 
--- what stops a run that begins at this state, with these breakpoints and the words at these addresses watched
+-- The stop of a run that begins in the state `began`, with these breakpoints and the words at these addresses watched.
 abbrev pub stops_after : List Breakpoint → List ℕ → (State → Bool) → State → ℕ → State → Bool
 stops_after breaks watches test began = later (stops_at (watched_words watches began.memory) breaks test)
 
--- ---- why it ends
+-- ---- the reason of the end
 
 abbrev pub has_ended : Status → Bool
 has_ended status.Ended = true
 has_ended status.Running = false
 has_ended (status.Halted e) = false
 
--- why a run ends with a step that answered so
+-- The reason of a run whose last step had this answer.
 abbrev pub answered_so : Stop → BreakReason
 answered_so stop.Went = reasons.Limit
 answered_so stop.Waiting = reasons.Waiting
@@ -54,12 +54,13 @@ abbrev pub changed_or : Option ℕ → BreakReason → BreakReason
 changed_or (Some address) other = reasons.Changed address
 changed_or None other = other
 
--- why a run stops before a step: for a watched word that has changed, else for a breakpoint, else for where it is to go
+-- The reason why a run stops before a step. A watched word that has changed precedes a breakpoint, and a breakpoint
+-- precedes the destination.
 abbrev pub stopped_so : List WatchedWord → List Breakpoint → State → BreakReason
 stopped_so watched breaks s =
     changed_or (first_changed watched s.memory) (if is_at_break breaks s then reasons.Break else reasons.There)
 
--- why a run of the machine that these may stop makes no more steps
+-- The reason why a run of the machine with these stops has ended.
 abbrev pub reason_of : List WatchedWord → List Breakpoint → RunEnd → State → BreakReason
 reason_of watched breaks ends.Limit s = reasons.Limit
 reason_of watched breaks ends.Stopped s = stopped_so watched breaks s
@@ -67,7 +68,7 @@ reason_of watched breaks (ends.Answered answer) s = answered_so answer
 
 -- ---- runs
 
--- what a run of the debugger comes to
+-- The outcome of a run of the debugger.
 pub record Gone : Type 0 where
   pub steps : ℕ
   pub reason : BreakReason
@@ -77,102 +78,101 @@ abbrev pub gone_by : List WatchedWord → List Breakpoint → RunOutcome → Gon
 gone_by watched breaks run =
     record { steps = run.count; reason = reason_of watched breaks run.end run.state; machine = run.state }
 
--- The rest of a run that has made so many steps, of at most so many more. Before each step, but the first of the whole
--- run, it is looked at what may stop it. The watched words are those of the state in which the whole run began.
+-- The rest of a run that has executed `made` steps, at most `limit` more. The stops are checked before each step except
+-- the first of the whole run. The watched words are those of the state in which the whole run began.
 abbrev pub gone_from : List Breakpoint → List WatchedWord → (State → Bool) → ℕ → ℕ → State → Gone
 gone_from breaks watched test made limit s =
     gone_by watched breaks (run_from (later (stops_at watched breaks test)) made limit s)
 
--- The run of at most so many steps to a changed word, to a breakpoint, or to where a test holds. The watched words are
--- those of the state in which it begins. On a machine that has ended there is no run, and so for no steps as well.
+-- The run of at most `limit` steps to a changed word, to a breakpoint, or to a state in which `test` is true. The
+-- watched words are those of the state in which it begins. A machine that has ended executes no step.
 unfoldable pub gone_to : List Breakpoint → List ℕ → (State → Bool) → ℕ → State → Gone
 gone_to breaks watches test limit s =
     if has_ended s.status then record { steps = 0; reason = reasons.Ended; machine = s }
     else gone_from breaks (watched_words watches s.memory) test 0 limit s
 
--- a run that is to go as far as it may
+-- The test of a run without a destination.
 abbrev pub nowhere : State → Bool
 nowhere s = false
 
--- at most so many steps
+-- The run of at most `limit` steps without a destination.
 abbrev pub gone : List Breakpoint → List ℕ → ℕ → State → Gone
 gone breaks watches limit s = gone_to breaks watches nowhere limit s
 
 -- ---- runs over calls
 
--- The machine stands in the frame at this address, or in one above it. Frames are put below SP, so that of a procedure
--- that is called stands below its caller's; above a frame are its caller's and theirs.
+-- The machine is in the frame at this address, or in one at a higher address. A called procedure has its frame below
+-- SP, so below its caller's frame. The frames at higher addresses are those of the callers.
 abbrev pub is_back : ℕ → State → Bool
 is_back frame s = nat_le frame s.registers.mp
 
--- the frame at this address was left: the machine stands in one above it
+-- The frame at this address was left: the machine is in one at a higher address.
 abbrev pub has_left : ℕ → State → Bool
 has_left frame s = nat_lt frame s.registers.mp
 
--- the machine stands where a run is to stop by its depth
+-- The machine is at the destination of a run.
 abbrev pub is_there : Depth → State → Bool
 is_there depths.Any s = nowhere s
 is_there (depths.Back frame) s = is_back frame s
 is_there (depths.Left frame) s = has_left frame s
 is_there (depths.Place place) s = stands_at place s
 
--- the most steps of such a run
+-- The maximum number of steps of such a run.
 abbrev pub most_steps : ℕ
 most_steps = 4294967295
 
--- one instruction: where it is a call, all that is called
+-- One instruction, and if it is a call, the whole called procedure.
 abbrev pub gone_over : List Breakpoint → List ℕ → ℕ → State → Gone
 gone_over breaks watches limit s = gone_to breaks watches (is_back s.registers.mp) limit s
 
--- all of the running procedure that is left, with its return
+-- The rest of the running procedure and its return.
 abbrev pub gone_out : List Breakpoint → List ℕ → ℕ → State → Gone
 gone_out breaks watches limit s = gone_to breaks watches (has_left s.registers.mp) limit s
 
--- up to this place, before the instruction there
+-- Up to this position, before the instruction there.
 abbrev pub gone_until : List Breakpoint → List ℕ → CodePlace → ℕ → State → Gone
 gone_until breaks watches place limit s = gone_to breaks watches (stands_at place) limit s
 
--- ---- runs that go on
+-- ---- continued runs
 
--- What is left of the last run: its rest, where its limit stopped it; where a breakpoint stopped it, that it stands
--- there; each with how far it goes, how many steps it has made, and the watched words as they were when it began; else
--- nothing.
+-- The rest of the last run. It exists if its limit or a breakpoint stopped the run. It consists of the destination, the
+-- number of steps executed, and the watched words with their values when the run began.
 pub data Left : Type 0 where
   Nothing : Left
   Rest : Depth → ℕ → List WatchedWord → Left
   AtBreak : Depth → ℕ → List WatchedWord → Left
 
--- something is left to go on with
+-- The run can be continued.
 abbrev pub has_rest : Left → Bool
 has_rest Nothing = false
 has_rest (Rest depth made watched) = true
 has_rest (AtBreak depth made watched) = false
 
--- the run is over, or its limit or a breakpoint stopped it
+-- The rest of a run: its limit or a breakpoint stopped it, or it is over.
 abbrev pub left_so : Depth → List WatchedWord → ℕ → BreakReason → Left
 left_so depth watched steps reasons.Limit = Rest depth steps watched
 left_so depth watched steps reasons.Break = AtBreak depth steps watched
 left_so depth watched steps other = Nothing
 
--- what is left of a run that began at this state, with the words at these addresses watched
+-- The rest of a run that began in the state `began`, with the words at these addresses watched.
 abbrev pub left_after : Depth → List ℕ → State → ℕ → BreakReason → Left
 left_after depth watches began steps reason = left_so depth (watched_words watches began.memory) steps reason
 
 abbrev pub left_of : Depth → List ℕ → State → Gone → Left
 left_of depth watches began run = left_after depth watches began run.steps run.reason
 
--- as which the last run is seen, with the watched words as they were when it began
+-- How contracts see the last run, with the watched words as they were when it began.
 abbrev pub left_seen : LastRun → List WatchedWord → Left
 left_seen last.Over watched = Nothing
 left_seen (last.AtLimit depth steps) watched = Rest depth steps watched
 left_seen (last.AtBreak depth steps) watched = AtBreak depth steps watched
 
--- the steps of a run are counted up to the greatest number of 64 bits: of so many asked for, those that it may make
--- behind those that it has made
+-- The number of steps that a run may execute after `made` steps: `limit`, but the sum is at most the greatest number of
+-- 64 bits.
 abbrev pub countable : ℕ → ℕ → ℕ
 countable made limit = min limit (18446744073709551615 - made)
 
--- the rest of the last run, of at most so many steps more; there is none where nothing is left of it
+-- The continuation of the last run for at most `limit` more steps. There is none if the run has no rest.
 abbrev pub gone_on : List Breakpoint → Left → ℕ → State → Option Gone
 gone_on breaks Nothing limit s = None
 gone_on breaks (AtBreak depth made watched) limit s = None
@@ -182,18 +182,18 @@ gone_on breaks (Rest depth made watched) limit s =
 abbrev pub left_behind : Depth → List WatchedWord → Gone → Left
 left_behind depth watched run = left_so depth watched run.steps run.reason
 
--- what is left after that
+-- The rest after the continuation.
 abbrev pub left_on : List Breakpoint → Left → ℕ → State → Left
 left_on breaks Nothing limit s = Nothing
 left_on breaks (AtBreak depth made watched) limit s = AtBreak depth made watched
 left_on breaks (Rest depth made watched) limit s =
     left_behind depth watched (gone_from breaks watched (is_there depth) made (countable made limit) s)
 
--- a test of a run's steps and state, for the rest of a run that has made so many
+-- A test of the steps and the state of a run, for the rest of a run that has executed `made` steps.
 abbrev pub behind_steps : ℕ → (ℕ → State → Bool) → ℕ → State → Bool
 behind_steps made test k s = test (made + k) s
 
--- the rest of the last run was given up for want of memory
+-- The continuation of the last run stopped because it was out of memory.
 abbrev pub GaveUpOn : List Breakpoint → Left → ℕ → Whole → Whole → Type 0
 GaveUpOn breaks Nothing limit m t = ⊥
 GaveUpOn breaks (AtBreak depth made watched) limit m t = ⊥
@@ -202,8 +202,8 @@ GaveUpOn breaks (Rest depth made watched) limit m t =
 
 -- ---- laws
 
--- without breakpoints and watched words a run is that of the machine: as many steps, the same state, and the reason is
--- its last answer, but on a machine that has ended
+-- Without breakpoints and watched words, a run is that of the machine, with as many steps and the same state. Its
+-- reason is the last answer. This does not include a machine that has ended.
 abbrev pub GoIsRun : Type 0
 GoIsRun =
     (limit count : ℕ) (s t : State) (answer : Stop) → Ran limit s count answer t →

@@ -1,6 +1,9 @@
--- A debugger: its machine; its breakpoints and the addresses of its watched words, in the order in which they were set;
--- what is left of its last run; over how many breakpoints its runs may pass; and whether a session shows what its
--- commands add to the console.
+-- A debugger has these parts:
+--
+-- - its machine,
+-- - its breakpoints and watched addresses, in the order in which they were set,
+-- - the rest of its last run, and the number of its passes,
+-- - whether a session shows what its commands add to the console.
 use Rattle.std.specs.Prelude.{◌≡◌, ℕ, Bool, List, None}
 use Rattle.pm_machine.specs.State.{State, Whole}
 use Rattle.pm_debug.specs.declared.breaks.Breakpoint.{Breakpoint}
@@ -17,7 +20,7 @@ pub record Session : Type 0 where
   pub passes : ℕ
   pub shows_console : Bool
 
--- what a debugger is seen as: its machine with its room for input and output, and the others as they are
+-- The debugger as contracts see it: its machine with its capacity for input and output, and the other parts unchanged.
 pub record Debugged : Type 0 where
   pub machine : Whole
   pub breaks : List Breakpoint
@@ -36,7 +39,7 @@ session_of d = record {
   shows_console = d.shows_console;
 }
 
--- the last run does not go on: it has no rest and nothing changes, or there is no memory
+-- The last run cannot be continued. Either it has no rest and nothing changes, or memory is out.
 abbrev pub StopsShort : DebugRefusal → ℕ → Debugged → Debugged → Type 0
 StopsShort NothingLeft limit d e = (gone_on d.breaks d.left limit d.machine.state ≡ None) × (e ≡ d)
 StopsShort NoMemory limit d e = GaveUpOn d.breaks d.left limit d.machine e.machine

@@ -1,4 +1,4 @@
--- What is shown of a machine, beside its registers and the line of a trace: always of the state as it is.
+-- The views of a machine in addition to its registers and the line of a trace. They show the state as it is.
 use Rattle.std.specs.Prelude.{◌≡◌, ℕ, zero, suc, ◌+◌, ◌-◌, ◌*◌, ◌/◌, ◌%◌, ◌==◌, ◌||◌, min, ⊤}
 use Rattle.std.specs.Prelude.{List, [], ◌∷◌, length, drop, Option, Some, None, Result, Ok, Err, if◌then◌else◌}
 use Rattle.pm_words.specs.Words.{bytes_at, word_at, words_at}
@@ -11,19 +11,19 @@ use Rattle.pm_debug.specs.declared.refusal.DebugRefusal.TheVariants.{Full, NotSe
 use Rattle.pm_debug.specs.declared.refusal.DebugRefusal.TheVariants.{NothingLeft}
 use Rattle.pm_words.specs.declared.layout.TheConstants.{STACK_END, SYSTEM_FRAME}
 
--- the words on the stack from SP up, below 65,504, at most n of them
+-- The words of the stack from SP up, below 65,504, at most `n`.
 unfoldable pub stack_words : State → ℕ → List ℕ
 stack_words s n = words_at s.memory s.registers.sp (min n ((STACK_END - s.registers.sp) / 2))
 
--- the words from an address on, at most n of them, and none behind 65,534; there is no such list at an odd address
+-- The words from `a` on, at most `n`, and none above 65,534. There is no list if `a` is odd.
 unfoldable pub words_from : State → ℕ → ℕ → Option (List ℕ)
 words_from s a n = if is_even a then Some (words_at s.memory a (min n ((65536 - a) / 2))) else None
 
--- the bytes from an address on, at most n of them, and none behind 65,535
+-- The bytes from `a` on, at most `n`, and none above 65,535.
 abbrev pub bytes_from : State → ℕ → ℕ → List ℕ
 bytes_from s a n = bytes_at s.memory a n
 
--- the last bytes of the console, at most n of them
+-- The last bytes of the console output, at most `n`.
 unfoldable pub console_end : State → ℕ → List ℕ
 console_end s n = drop (length s.devices.console - n) s.devices.console
 
@@ -31,8 +31,8 @@ abbrev pub before_frames : ℕ → Option (List ℕ) → Option (List ℕ)
 before_frames a (Some frames) = Some (a ∷ frames)
 before_frames a None = None
 
--- The frames from a on, each led to by the word at this distance in the one before, at most so many. The frame of the
--- system, 65,492, is the last where it comes. There is no such list where the next frame is asked of an odd address.
+-- The frames from `a` on, at most a given number. The word at offset `distance` of a frame is the address of the next
+-- one. The system's frame, 65,492, is the last. There is no list if the next frame of an odd address is needed.
 unfoldable pub chain : List ℕ → ℕ → ℕ → ℕ → Option (List ℕ)
 chain m distance zero a = Some []
 chain m distance (suc n) a =
@@ -40,19 +40,20 @@ chain m distance (suc n) a =
     else if is_even a then before_frames a (chain m distance n (word_at m ((a + distance) % 65536)))
     else None
 
--- the static chain of the running procedure: MSSTAT is the first word of a frame
+-- The static chain of the running procedure: MSSTAT is the first word of a frame.
 abbrev pub static_chain : State → ℕ → Option (List ℕ)
 static_chain s limit = chain s.memory 0 limit s.registers.mp
 
--- the dynamic chain: MSDYN is the second word of a frame
+-- The dynamic chain: MSDYN is the second word of a frame.
 abbrev pub dynamic_chain : State → ℕ → Option (List ℕ)
 dynamic_chain s limit = chain s.memory 2 limit s.registers.mp
 
--- a variable of the procedure that many static links up
+-- Variable `b` of the procedure that is `depth` static links up.
 unfoldable pub local : State → ℕ → ℕ → Result ℕ ExecError
 local s depth b = link s.memory s.registers.mp depth >>= λ f. load s.memory ((f + 10 + 2 * b) % 65536)
 
--- a chain, or another list, was shown, or refused: by an odd address on the way, or for want of memory
+-- A chain, or another list, was shown, or it was refused because of an odd address on the way or because memory was
+-- out.
 abbrev pub ShowsChain : {Z A : Type 0} → (Z → A) → Result Z DebugRefusal → Option A → Type 0
 ShowsChain view (Ok frames) chain = chain ≡ Some (view frames)
 ShowsChain view (Err OddAddress) chain = chain ≡ None

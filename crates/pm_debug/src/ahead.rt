@@ -8,8 +8,7 @@ use pm_opcode::decode;
 use pm_words::Memory;
 use std::alloc::{AllocError, Global};
 
-/// Where the next instruction stands behind what stands at an address: an instruction, or a byte
-/// that begins none.
+/// Returns the address after the instruction at `address`. A byte that begins no instruction counts as one of 1 byte.
 fn next_address(memory: &Memory, address: u16) -> u64
     ensures next { result ≡ next_address (bytes_of memory.now.words) address }
 {
@@ -20,8 +19,8 @@ fn next_address(memory: &Memory, address: u16) -> u64
     u64::from(address) + u64::from(size)
 }
 
-/// Where instructions stand from an address on, at most `limit`, and none behind 65,535. None of
-/// them want no memory.
+/// Returns the addresses of the instructions from `first` on, at most `limit` and none above 65,535. A `limit` of 0
+/// needs no memory.
 pub(crate) fn addresses_from(
     alloc: Global,
     memory: &Memory,

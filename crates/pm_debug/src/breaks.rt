@@ -1,5 +1,5 @@
-//! Breakpoints: a run stops before a step at a place in the code, or before one that writes or reads certain words.
-//! Some have a condition.
+//! Breakpoints. A run stops before a step at a position in the code, or before a step that writes or reads certain
+//! words. A breakpoint can have a condition.
 
 ghost use Rattle.std.specs.Prelude.{◌≡◌, ◌&&◌, Ok, IfErr, OnOk, OnErr, Err, map};
 ghost use Rattle.pm_debug.specs.Breaks.{bytes_from, can_be_asked, can_stand, holds, instead, is_at_break, is_met_from};
@@ -11,43 +11,52 @@ use pm_access::{reads, word_at, writes};
 use pm_machine::{CodePlace, Machine, place_in_code};
 use pm_words::Memory;
 
-/// The most breakpoints.
+/// The maximum number of breakpoints.
 pub(crate) const MOST_BREAKS: usize = 64;
 
-/// A condition on the memory, which holds where the word at an even address is this one.
+/// A condition on the memory. It is true if the word at `address` is `word`.
 #[derive(Clone, Copy, Default)]
 pub struct Condition {
-    /// The address of the word.
+    /// The address of the word, which must be even.
     pub address: u16,
-    /// What the word is to be.
+    /// The value that the word must have.
     pub word: u16,
 }
 
-/// Where a breakpoint stands.
+/// The steps before which a breakpoint stops a run.
 #[derive(Clone, Copy)]
 pub enum Spot {
-    /// At a place in the code: it stops a run before a step there.
+    /// The steps at a position in the code.
     Code(CodePlace),
-    /// On words of the memory: it stops a run before a step that writes a byte of one of them. One that ends with an
-    /// error writes what it would write if it went on; but an EXIT that does not find its procedure writes nothing, nor
-    /// does a call that does not reach its segment, and one that does not find its table writes no frame. An order of
-    /// sets or of WORDS that this machine does not have writes its result, a comparison of REAL nothing; CHK writes the
-    /// word that it leaves.
+    /// The steps that write a byte of certain words of the memory.
+    ///
+    /// A step that ends with an error counts as writing what it would write without the error, with these exceptions:
+    ///
+    /// - An EXIT that does not find its procedure writes nothing.
+    /// - A call that does not reach its segment writes nothing. A call that does not find its table writes no frame.
+    /// - An operation on sets or WORDS that this machine does not have writes its result; a comparison of REAL writes
+    ///   nothing.
+    /// - CHK writes the word that it leaves on the stack.
     Writes {
-        /// The address of the first word, which is even.
+        /// The address of the first word, which must be even.
         address: u16,
-        /// How many words; with none it never stops a run, and no word stands behind 65,535.
+        /// The number of words. If it is 0, no run stops. Words above 65,535 do not count.
         words: u16,
     },
-    /// On words of the memory: it stops a run before a step that reads a byte of one of them. The instruction's own
-    /// bytes do not count. One that ends with an error reads what it would read if it went on; but an EXIT that does
-    /// not find its procedure reads no frame, a call that does not reach its segment nothing, and one that does not
-    /// find its table no parameters and no links. An order of sets or of WORDS that this machine does not have reads
-    /// what it would compare, a comparison of REAL nothing; STP reads its word also where all of it changes.
+    /// The steps that read a byte of certain words of the memory. The bytes of the instruction itself do not count.
+    ///
+    /// A step that ends with an error counts as reading what it would read without the error, with these exceptions:
+    ///
+    /// - An EXIT that does not find its procedure reads no frame.
+    /// - A call that does not reach its segment reads nothing. A call that does not find its table reads no parameters
+    ///   and no links.
+    /// - An operation on sets or WORDS that this machine does not have reads what it would compare; a comparison of
+    ///   REAL reads nothing.
+    /// - STP reads its word even if it replaces all of it.
     Reads {
-        /// The address of the first word, which is even.
+        /// The address of the first word, which must be even.
         address: u16,
-        /// How many words; with none it never stops a run, and no word stands behind 65,535.
+        /// The number of words. If it is 0, no run stops. Words above 65,535 do not count.
         words: u16,
     },
 }
@@ -58,13 +67,12 @@ impl Default for Spot {
     }
 }
 
-/// A breakpoint: a run stops before a step at its place, or before one that writes or reads its words, where its
-/// condition holds; always, where it has none.
+/// A breakpoint. It stops a run before a step of its `spot` if its condition is true or it has none.
 #[derive(Clone, Copy, Default)]
 pub struct Breakpoint {
-    /// Where it stands.
+    /// The steps before which it stops a run.
     pub spot: Spot,
-    /// What has to hold before the step.
+    /// The condition that must be true before the step.
     pub condition: Option<Condition>,
 }
 
@@ -77,7 +85,7 @@ fn is_same_place(a: CodePlace, b: CodePlace) -> bool
     a.segment == b.segment && a.procedure == b.procedure && a.offset == b.offset
 }
 
-/// Whether two breakpoints stand at the same place, or on the same words for the same kind of step.
+/// Whether two spots are the same position in the code, or the same words for the same kind of access.
 fn is_same(a: Spot, b: Spot) -> bool
     ensures same { result ≡ is_same a b }
 {
@@ -101,14 +109,14 @@ fn is_same(a: Spot, b: Spot) -> bool
     }
 }
 
-/// Whether a breakpoint is set there.
+/// Whether a breakpoint is set at `wanted`.
 fn is_set(breaks: &[Breakpoint], wanted: Spot) -> bool
     ensures set { result ≡ is_set wanted breaks.now }
 {
     breaks.iter().any(|known| is_same(wanted, known.spot))
 }
 
-/// Whether the words of a breakpoint stand at an even address.
+/// Whether the words of a spot begin at an even address. A position in the code has no words.
 fn can_stand(spot: Spot) -> bool
     ensures even { result ≡ can_stand spot }
 {
@@ -119,7 +127,7 @@ fn can_stand(spot: Spot) -> bool
     }
 }
 
-/// Whether the address of a condition's word is even.
+/// Whether the address of a condition is even. No condition is also accepted.
 fn can_be_asked(condition: Option<Condition>) -> bool
     ensures even { result ≡ can_be_asked condition }
 {
@@ -129,7 +137,7 @@ fn can_be_asked(condition: Option<Condition>) -> bool
     }
 }
 
-/// The breakpoints, with this one in the place of that which stands where it does.
+/// Returns the breakpoints with `new` in place of the one at the same spot.
 fn with_instead(breaks: &Breaks, new: Breakpoint) -> Breaks
     ensures breaks { result.items ≡ map (instead new) breaks.now.items }
 {
@@ -144,8 +152,14 @@ fn with_instead(breaks: &Breaks, new: Breakpoint) -> Breaks
     all
 }
 
-/// Sets a breakpoint. It takes the place of one that stands there already; an odd address, of its words or in its
-/// condition, is refused, and a new one beside 64.
+/// Sets a breakpoint. It replaces a breakpoint at the same spot.
+///
+/// # Errors
+///
+/// The list is unchanged after an error.
+///
+/// - `OddAddress`: the address of the words or of the condition is odd.
+/// - `Full`: no breakpoint is at this spot, and 64 are set.
 #[tactic(auto, unfolding(crate::specs::Breaks::with_break))]
 pub(crate) fn set(breaks: &mut Breaks, new: Breakpoint) -> Result<(), DebugRefusal>
     ensures set { OnOk result (with_break new breaks.old.items ≡ Ok breaks.new.items) }
@@ -166,7 +180,7 @@ pub(crate) fn set(breaks: &mut Breaks, new: Breakpoint) -> Result<(), DebugRefus
     Ok(())
 }
 
-/// Takes the breakpoint that stands there away.
+/// Removes the breakpoint at `old`. If none is set there, returns `NotSet` and changes nothing.
 #[tactic(auto, unfolding(crate::specs::Breaks::without_break))]
 pub(crate) fn clear(breaks: &mut Breaks, old: Spot) -> Result<(), DebugRefusal>
     ensures cleared { OnOk result (without_break old breaks.old.items ≡ Ok breaks.new.items) }
@@ -189,14 +203,14 @@ fn is_that(place: CodePlace, here: Option<CodePlace>) -> bool
     }
 }
 
-/// Whether a machine stands at a place in the code.
+/// Whether a machine is at a position in the code.
 pub(crate) fn stands_at(machine: &Machine, place: CodePlace) -> bool
     ensures stands { result ≡ stands_at place machine.now.state }
 {
     is_that(place, place_in_code(machine))
 }
 
-/// Whether a condition holds in a memory; none always does.
+/// Whether a condition is true in a memory. No condition is always true.
 fn holds(condition: Option<Condition>, memory: &Memory) -> bool
     ensures holds { result ≡ holds condition memory.now.words }
 {
@@ -206,14 +220,14 @@ fn holds(condition: Option<Condition>, memory: &Memory) -> bool
     }
 }
 
-/// The bytes of so many words from an address on; the memory ends with that at 65,535.
+/// Returns the number of bytes of `words` words from `address` on that are in the memory, which ends with 65,535.
 fn bytes_from(address: u16, words: u16) -> u32
     ensures bytes { result ≡ bytes_from address words }
 {
     (2 * u32::from(words)).min(65_536 - u32::from(address))
 }
 
-/// Whether a machine that stands here meets a place, or writes or reads certain words next.
+/// Whether a machine at `here` is at a position in the code, or writes or reads certain words in the next step.
 fn is_met(spot: Spot, here: Option<CodePlace>, machine: &Machine) -> bool
     ensures met { result ≡ is_met_from here spot machine.now.state }
 {
@@ -224,7 +238,7 @@ fn is_met(spot: Spot, here: Option<CodePlace>, machine: &Machine) -> bool
     }
 }
 
-/// Whether a run stops for this breakpoint, where the machine stands here.
+/// Whether a run stops for this breakpoint if the machine is at `here`.
 fn stops_for(known: Breakpoint, here: Option<CodePlace>, machine: &Machine) -> bool
     ensures stops { result ≡ (is_met_from here known.spot machine.now.state
         && holds known.condition machine.now.state.memory) }
@@ -232,7 +246,7 @@ fn stops_for(known: Breakpoint, here: Option<CodePlace>, machine: &Machine) -> b
     is_met(known.spot, here, machine) && holds(known.condition, machine.memory())
 }
 
-/// Whether a run stops here for a breakpoint.
+/// Whether a run stops here for one of the breakpoints.
 pub(crate) fn is_at_break(machine: &Machine, breaks: &[Breakpoint]) -> bool
     ensures matches { result ≡ is_at_break breaks.now machine.now.state }
 {

@@ -37,10 +37,15 @@ use pm_words::layout::STACK_END;
 use std::alloc::{AllocError, Global};
 use std::marker::Model;
 
-/// A machine, the breakpoints and the watched words at which a run of it stops, what is left of its last
-/// run, over how many breakpoints its runs may pass, and whether a session shows what its commands add to
-/// the console, seen as the state of the machine, the lists of the breakpoints and of the watched
-/// addresses, and these. What it shows is the state as it is, whatever was shown, written or run before.
+/// A machine with a debugger. A debugger has these parts:
+///
+/// - the machine,
+/// - the breakpoints and the watched addresses at which a run stops,
+/// - the rest of the last run,
+/// - the number of breakpoints that runs may still pass over,
+/// - whether a session shows what its commands add to the console.
+///
+/// Contracts see the machine as its state. The debugger shows this state as it is at the call.
 #[derive(Drop)]
 pub struct Debugger {
     machine: Machine,
@@ -69,7 +74,7 @@ impl Model for Debugger {
 }
 
 impl Debugger {
-    /// A debugger of a machine, without breakpoints and watched words. Its session does not show the console.
+    /// Creates a debugger of a machine, without breakpoints and watched words. Its session does not show the console.
     pub fn new(machine: Machine) -> Debugger
         ensures machine { result.machine ≡ machine }
         ensures breaks { result.breaks ≡ [] }
@@ -89,7 +94,7 @@ impl Debugger {
         }
     }
 
-    /// The machine, which is lent: what is done to it is done to the debugger's.
+    /// Borrows the machine. Changes of the borrowed machine are changes of the debugger's machine.
     pub fn machine(&mut self) -> &mut Machine
         ensures* lends { sem 𝓛 (LendsMachine self.entry result) }
         ensures value { result.now ≡ self.old.machine }
@@ -97,14 +102,14 @@ impl Debugger {
         &mut self.machine
     }
 
-    /// The machine, to be looked at.
+    /// Returns the machine for reading.
     pub fn as_machine(&self) -> &Machine
         ensures value { result.now ≡ self.now.machine }
     {
         &self.machine
     }
 
-    /// The machine, without its breakpoints and watched words.
+    /// Returns the machine and drops the breakpoints and watched words.
     pub fn into_machine(self) -> Machine
         ensures machine { result ≡ self.machine }
     {
@@ -112,10 +117,18 @@ impl Debugger {
         machine
     }
 
-    /// Sets a breakpoint: the number of a segment, the number of a procedure, the distance in bytes from where the
-    /// procedure is entered, and what has to hold there, if anything. One that is set there already goes, and the new
-    /// one has its place in the list, also beside 64 breakpoints; `OddAddress` for a condition at an odd address, and
-    /// `Full` for a new one beside 64.
+    /// Sets a breakpoint at a position in the code: a segment number, a procedure number and an offset in bytes from
+    /// the entry of the procedure. The run stops only if the condition is true, if there is one.
+    ///
+    /// A breakpoint at the same position is replaced, and its place in the list is unchanged. This is also possible
+    /// with 64 breakpoints.
+    ///
+    /// # Errors
+    ///
+    /// Nothing has changed after an error.
+    ///
+    /// - `OddAddress`: the address of the condition is odd.
+    /// - `Full`: no breakpoint is at this position, and 64 are set.
     pub fn set_break(
         &mut self,
         segment: u8,
@@ -139,9 +152,18 @@ impl Debugger {
         breaks::set(&mut self.breaks, Breakpoint { spot, condition })
     }
 
-    /// Sets a breakpoint wherever one may stand, as on words that a step writes or reads, and what has to hold there,
-    /// if anything. One that is set there already goes, and the new one has its place in the list, also beside 64
-    /// breakpoints; `OddAddress` for words or a condition at an odd address, and `Full` for a new one beside 64.
+    /// Sets a breakpoint at any spot: a position in the code, or words that a step writes or reads. The run stops only
+    /// if the condition is true, if there is one.
+    ///
+    /// A breakpoint at the same spot is replaced, and its place in the list is unchanged. This is also possible with 64
+    /// breakpoints.
+    ///
+    /// # Errors
+    ///
+    /// Nothing has changed after an error.
+    ///
+    /// - `OddAddress`: the address of the words or of the condition is odd.
+    /// - `Full`: no breakpoint is at this spot, and 64 are set.
     pub fn set_break_on(
         &mut self,
         spot: Spot,
@@ -157,7 +179,8 @@ impl Debugger {
         breaks::set(&mut self.breaks, new)
     }
 
-    /// Takes the breakpoint at a place away, whatever its condition; `NotSet` where there is none.
+    /// Removes the breakpoint at a position in the code, with any condition. If none is set there, returns `NotSet` and
+    /// changes nothing.
     pub fn clear_break(
         &mut self,
         segment: u8,
@@ -179,8 +202,8 @@ impl Debugger {
         breaks::clear(&mut self.breaks, Spot::Code(place))
     }
 
-    /// Takes the breakpoint away that stands there, as on just these words, whatever its condition; `NotSet` where
-    /// there is none.
+    /// Removes the breakpoint at a spot, with any condition. Words must have the same address and number. If none is
+    /// set there, returns `NotSet` and changes nothing.
     pub fn clear_break_on(&mut self, spot: Spot) -> Result<(), DebugRefusal>
         ensures alone { self.new ≡ record self.old { breaks = self.new.breaks } }
         ensures cleared { OnOk result (without_break spot self.old.breaks ≡ Ok self.new.breaks) }
@@ -190,10 +213,17 @@ impl Debugger {
         breaks::clear(&mut self.breaks, spot)
     }
 
-    /// Watches the word at an even address: a run stops before a step, but the first, where it is
-    /// another than when the run began. Nothing is left of the last run. One that is watched already
-    /// stays, also beside 64 others; `OddAddress` for an odd address, and `Full` for a new one beside
-    /// 64.
+    /// Watches the word at an even address. A run stops before a step, except its first, if this word has changed since
+    /// the run began. A word that is watched already remains watched.
+    ///
+    /// The last run cannot be continued afterwards.
+    ///
+    /// # Errors
+    ///
+    /// Nothing has changed after an error.
+    ///
+    /// - `OddAddress`: the address is odd.
+    /// - `Full`: the word is not watched, and 64 others are.
     pub fn set_watch(&mut self, address: u16) -> Result<(), DebugRefusal>
         ensures alone { self.new ≡ record self.old { watches = self.new.watches; left = self.new.left } }
         ensures left { OnOk result (self.new.left ≡ Nothing) }
@@ -206,8 +236,8 @@ impl Debugger {
         Ok(())
     }
 
-    /// Watches the word at an address no more, and leaves nothing of the last run; `NotSet` where it is
-    /// not watched.
+    /// Stops watching the word at an address. The last run cannot be continued afterwards. If the word is not watched,
+    /// returns `NotSet` and changes nothing.
     pub fn clear_watch(&mut self, address: u16) -> Result<(), DebugRefusal>
         ensures alone { self.new ≡ record self.old { watches = self.new.watches; left = self.new.left } }
         ensures left { OnOk result (self.new.left ≡ Nothing) }
@@ -220,21 +250,22 @@ impl Debugger {
         Ok(())
     }
 
-    /// Lets a session show what its commands add to the console from now on, or no more.
+    /// Sets whether a session shows what its commands add to the console.
     pub fn set_shows_console(&mut self, shows: bool)
         ensures set { self.new ≡ record self.old { shows_console = shows } }
     {
         self.shows_console = shows;
     }
 
-    /// Lets the runs pass over so many breakpoints from now on, each of which `pass` passes over.
+    /// Sets the number of breakpoints that runs may pass over. Each call of `pass` that passes over one uses one of
+    /// them.
     pub fn set_passes(&mut self, passes: u32)
         ensures set { self.new ≡ record self.old { passes = passes } }
     {
         self.passes = passes;
     }
 
-    // Makes a run of at most `limit` steps.
+    // Runs at most `limit` steps to a depth.
     #[tactic(auto, unfolding(crate::specs::Runs::gone_to), using(crate::proofs::OnLaws::gave_up_first))]
     fn run_to(&mut self, depth: Depth, limit: u64) -> Result<(u64, BreakReason), AllocError>
         ensures alone { self.new ≡ record self.old { machine = self.new.machine; left = self.new.left } }
@@ -258,11 +289,19 @@ impl Debugger {
         Ok(ran)
     }
 
-    /// Makes at most `limit` steps, and stops before that where after the first step a watched word is
-    /// another than when the run began or a breakpoint matches, where the program ends, and where a
-    /// step waits or fails: how many steps went or ended the program, and why no more. Of watched
-    /// words the first that changed is told, and before a breakpoint. A change or a breakpoint at the
-    /// limit is not told. After want of memory the machine stands after the steps that went.
+    /// Runs at most `limit` steps. The run stops earlier in these cases:
+    ///
+    /// - A watched word has changed since the run began. This is checked before each step except the first.
+    /// - A breakpoint stops it. This is checked before each step except the first.
+    /// - The program ends.
+    /// - A step waits or fails.
+    ///
+    /// Returns the number of steps that succeeded or ended the program, and the reason of the stop. If several watched
+    /// words have changed, the reason is the first of them in the list. A changed word precedes a breakpoint. A change
+    /// or a breakpoint at the limit is not reported.
+    ///
+    /// After `AllocError` the machine is in the state after the steps that succeeded, and the last run cannot be
+    /// continued.
     pub fn go(&mut self, limit: u64) -> Result<(u64, BreakReason), AllocError>
         ensures alone { self.new ≡ record self.old { machine = self.new.machine; left = self.new.left } }
         ensures gone { IfOk result (λ r. gone self.old.breaks self.old.watches limit self.old.machine.state
@@ -276,9 +315,8 @@ impl Debugger {
         self.run_to(Depth::Any, limit)
     }
 
-    /// Makes one instruction, and where it is a call all that is called: steps until the machine stands
-    /// in the frame of now again, or in one above it. It stops as `go` does as well, and after so many
-    /// steps.
+    /// Executes one instruction, and if it is a call, the whole called procedure. The run stops when the machine is in
+    /// the current frame again, or in a frame at a higher address. It also stops as `go` does, and after `limit` steps.
     pub fn step_over(&mut self, limit: u64) -> Result<(u64, BreakReason), AllocError>
         ensures alone { self.new ≡ record self.old { machine = self.new.machine; left = self.new.left } }
         ensures gone { IfOk result (λ r. gone_over self.old.breaks self.old.watches limit self.old.machine.state
@@ -293,8 +331,8 @@ impl Debugger {
         self.run_to(depth, limit)
     }
 
-    /// Makes what is left of the running procedure, with its return: steps until the machine stands in
-    /// a frame above that of now. It stops as `go` does as well, and after so many steps.
+    /// Executes the rest of the running procedure and its return. The run stops when the machine is in a frame at a
+    /// higher address than the current one. It also stops as `go` does, and after `limit` steps.
     pub fn finish(&mut self, limit: u64) -> Result<(u64, BreakReason), AllocError>
         ensures alone { self.new ≡ record self.old { machine = self.new.machine; left = self.new.left } }
         ensures gone { IfOk result (λ r. gone_out self.old.breaks self.old.watches limit self.old.machine.state
@@ -309,9 +347,9 @@ impl Debugger {
         self.run_to(depth, limit)
     }
 
-    /// Makes steps until the machine stands at a place in the code, before the instruction there: a segment,
-    /// a procedure and an offset, as of a breakpoint. It is not looked for before the first step. It stops
-    /// as `go` does as well, and after so many steps.
+    /// Runs until the machine is at a position in the code, before the instruction there. The position is a segment
+    /// number, a procedure number and an offset in bytes, as of a breakpoint. It is not checked before the first step.
+    /// The run also stops as `go` does, and after `limit` steps.
     pub fn until(
         &mut self,
         segment: u8,
@@ -337,12 +375,19 @@ impl Debugger {
         self.run_to(Depth::Place(place), limit)
     }
 
-    /// Goes on with the last run, where its limit stopped it, for at most `limit` steps more, as if it had
-    /// not been stopped: the steps that are counted are those of the whole run, up to the greatest u64,
-    /// and before each that is not the first of the whole it is looked at breakpoints, at the watched
-    /// words, which are compared with those when the run began, and at where the run is to go.
-    /// `NothingLeft` where the last run did not end by its limit, or words were watched, or watched no
-    /// more, since; nothing changes then.
+    /// Continues the last run, which its limit stopped, for at most `limit` more steps. The result is as if the run had
+    /// not been stopped:
+    ///
+    /// - The returned number is that of the steps of the whole run, at most 18,446,744,073,709,551,615.
+    /// - The breakpoints, the watched words and the destination are checked before each step except the first of the
+    ///   whole run.
+    /// - The watched words are compared with their values when the whole run began.
+    ///
+    /// # Errors
+    ///
+    /// - `NothingLeft`: the limit did not stop the last run, or a word was watched or cleared since. Nothing has
+    ///   changed.
+    /// - `NoMemory`: the machine is in the state after the steps that succeeded.
     #[tactic(auto, unfolding(crate::specs::Runs::gone_on))]
     pub fn go_on(&mut self, limit: u64) -> Result<(u64, BreakReason), DebugRefusal>
         ensures alone { self.new ≡ record self.old { machine = self.new.machine; left = self.new.left } }
@@ -364,9 +409,12 @@ impl Debugger {
         }
     }
 
-    /// Passes over the breakpoint that stopped the last run, where passes are left, of which it takes one: the run
-    /// goes on as if no breakpoint were there, up to `most` steps in all, and stops at the next; or at once, where it
-    /// is to go no further. None, and nothing changes, where no breakpoint stopped it or no pass is left.
+    /// Passes over the breakpoint that stopped the last run, and uses one pass. The run continues without this stop, up
+    /// to `most` steps of the whole run, and stops at the next breakpoint. It stops at once if it is at its
+    /// destination.
+    ///
+    /// Returns `None` and changes nothing if no breakpoint stopped the last run or no pass is left. After `AllocError`
+    /// the machine is in the state after the steps that succeeded.
     #[tactic(auto, unfolding(crate::specs::Passes::passed))]
     pub fn pass(&mut self, most: u64) -> Result<Option<(u64, BreakReason)>, AllocError>
         ensures alone { self.new ≡ record self.old {
@@ -398,7 +446,7 @@ impl Debugger {
         Ok(Some(ran))
     }
 
-    /// The words on the stack from SP up, at most `n`, and none from 65,504 on. None of them want no memory.
+    /// Returns the words of the stack from SP up, at most `n`, and none from 65,504 on. An `n` of 0 needs no memory.
     #[tactic(auto, unfolding(crate::specs::Views::stack_words))]
     pub fn stack(&self, alloc: Global, n: u16) -> Result<Vec<u16>, AllocError>
         ensures words { IfOk result (λ words. words.items ≡ stack_words self.now.machine.state n) }
@@ -410,9 +458,13 @@ impl Debugger {
         Ok(words)
     }
 
-    /// The frames from MP on by their static links, at most `limit`; the frame of the system, 65,492,
-    /// is the last where it comes. `OddAddress` where the link of a frame at an odd address is asked
-    /// for. A chain of none wants no memory.
+    /// Returns the frames from MP on along the static links, at most `limit`. If the chain reaches the system's frame
+    /// at 65,492, this frame is the last. A `limit` of 0 needs no memory.
+    ///
+    /// # Errors
+    ///
+    /// - `OddAddress`: the link of a frame at an odd address is needed.
+    /// - `NoMemory`: out of memory.
     pub fn static_chain(&self, alloc: Global, limit: u16) -> Result<Vec<u16>, DebugRefusal>
         ensures frames { ShowsChain (λ frames. frames.items) result (static_chain self.now.machine.state limit) }
         ensures wanted { OnErr result (0 < limit) }
@@ -421,7 +473,7 @@ impl Debugger {
         chain(alloc, self.machine.memory(), STATIC_LINK, limit, frame)
     }
 
-    /// The frames from MP on by their dynamic links, as the static chain.
+    /// Returns the frames from MP on along the dynamic links, with the same limit and errors as `static_chain`.
     pub fn dynamic_chain(&self, alloc: Global, limit: u16) -> Result<Vec<u16>, DebugRefusal>
         ensures frames { ShowsChain (λ frames. frames.items) result (dynamic_chain self.now.machine.state limit) }
         ensures wanted { OnErr result (0 < limit) }
@@ -430,9 +482,13 @@ impl Debugger {
         chain(alloc, self.machine.memory(), DYNAMIC_LINK, limit, frame)
     }
 
-    /// Variable `b` of the procedure `depth` static links up, the running one for 0. `TooDeep` for
-    /// a depth above 127, before anything is read; `OddAddress` where a link or the variable stands
-    /// at an odd address. Nothing changes.
+    /// Returns variable `b` of the procedure that is `depth` static links up. The running procedure has `depth` 0.
+    /// Nothing changes.
+    ///
+    /// # Errors
+    ///
+    /// - `TooDeep`: `depth` is above 127. This is checked before anything is read.
+    /// - `OddAddress`: a link or the variable is at an odd address.
     #[tactic(auto, unfolding(crate::specs::Views::local))]
     pub fn local(&mut self, depth: u16, b: u16) -> Result<u16, DebugRefusal>
         ensures word { result ≡ or_refused (local self.old.machine.state depth b) }
@@ -449,8 +505,12 @@ impl Debugger {
         }
     }
 
-    /// The words from an even address on, at most `n`, and none behind 65,534; `OddAddress` for an odd
-    /// address. None of them want no memory.
+    /// Returns the words from an even address on, at most `n`, and none above 65,534. An `n` of 0 needs no memory.
+    ///
+    /// # Errors
+    ///
+    /// - `OddAddress`: the address is odd.
+    /// - `NoMemory`: out of memory.
     #[tactic(auto, unfolding(crate::specs::Views::words_from))]
     pub fn words(&self, alloc: Global, address: u16, n: u16) -> Result<Vec<u16>, DebugRefusal>
         ensures words { ShowsChain (λ words. words.items) result (words_from self.now.machine.state address n) }
@@ -464,7 +524,7 @@ impl Debugger {
         Ok(words)
     }
 
-    /// The bytes from an address on, at most `n`, and none behind 65,535.
+    /// Returns the bytes from an address on, at most `n`, and none above 65,535.
     #[tactic(auto, unfolding(pm_words::specs::Words::bytes_at), using(std::proofs::lemmas::List::take_min))]
     pub fn bytes(&self, address: u16, n: u16) -> &[u8]
         ensures bytes { result.now ≡ bytes_from self.now.machine.state address n }
@@ -473,7 +533,7 @@ impl Debugger {
         &bytes[..(n as usize).min(bytes.len())]
     }
 
-    /// The last bytes of the console, at most `n`.
+    /// Returns the last bytes of the console output, at most `n`.
     #[tactic(auto, unfolding(crate::specs::Views::console_end))]
     pub fn console(&self, n: u16) -> &[u8]
         ensures bytes { result.now ≡ console_end self.now.machine.state n }
@@ -482,35 +542,35 @@ impl Debugger {
         &console[console.len().saturating_sub(n as usize)..]
     }
 
-    /// Where the machine stands in the code; nowhere where SEG or JTAB is odd.
+    /// Returns the position of the machine in the code, or `None` if SEG or JTAB is odd.
     pub fn place_in_code(&self) -> Option<CodePlace>
         ensures place { result ≡ place_in_code self.now.machine.state }
     {
         place_in_code(&self.machine)
     }
 
-    /// The breakpoints, in the order in which their places were set.
+    /// Returns the breakpoints in the order in which their spots were first set.
     pub fn breaks(&self) -> &[Breakpoint]
         ensures breaks { result.now ≡ self.now.breaks }
     {
         self.breaks.as_slice()
     }
 
-    /// The addresses of the watched words, in the order in which they were set.
+    /// Returns the addresses of the watched words in the order in which they were set.
     pub fn watches(&self) -> &[u16]
         ensures watches { result.now ≡ self.now.watches }
     {
         self.watches.as_slice()
     }
 
-    /// How many more breakpoints the runs pass over.
+    /// Returns the number of breakpoints that runs may still pass over.
     pub fn passes(&self) -> u32
         ensures passes { result ≡ self.now.passes }
     {
         self.passes
     }
 
-    /// The steps that the last run has made, where its limit or a breakpoint stopped it; else none.
+    /// Returns the number of steps of the last run if its limit or a breakpoint stopped it, and otherwise 0.
     pub fn made(&self) -> u64
         ensures made { result ≡ made_of self.now.left }
     {
@@ -527,9 +587,13 @@ impl Debugger {
         self.shows_console
     }
 
-    /// The frames from MP on by their dynamic links, as the dynamic chain, each with the place that its
-    /// return leads to. `OddAddress` where a frame, or the SEG or the JTAB that it keeps, is odd. A
-    /// chain of none wants no memory.
+    /// Returns the frames from MP on along the dynamic links, as `dynamic_chain`, each with the position to which it
+    /// returns. A `limit` of 0 needs no memory.
+    ///
+    /// # Errors
+    ///
+    /// - `OddAddress`: a frame, or the SEG or JTAB that it contains, is odd.
+    /// - `NoMemory`: out of memory.
     pub fn frames(&self, alloc: Global, limit: u16) -> Result<Vec<Frame>, DebugRefusal>
         ensures frames { ShowsChain (λ frames. frames.items) result (frames self.now.machine.state limit) }
         ensures wanted { OnErr result (0 < limit) }
@@ -538,8 +602,8 @@ impl Debugger {
         frames(alloc, self.machine.memory(), limit, frame)
     }
 
-    /// Where the next instructions stand, from IPC on, at most `limit`, and none behind 65,535; a byte
-    /// that begins none stands for one. None of them want no memory.
+    /// Returns the addresses of the next instructions from IPC on, at most `limit` and none above 65,535. A byte that
+    /// begins no instruction counts as one. A `limit` of 0 needs no memory.
     pub fn addresses_ahead(&self, alloc: Global, limit: u16) -> Result<Vec<u16>, AllocError>
         ensures addresses { IfOk result (λ addresses.
             addresses.items ≡ addresses_ahead self.now.machine.state limit) }

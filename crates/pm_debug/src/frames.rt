@@ -1,4 +1,4 @@
-//! The frames of the dynamic chain, each with the place that its return leads to.
+//! The frames of the dynamic chain, each with the position to which it returns.
 
 ghost use Rattle.std.specs.Prelude.{◌≡◌, ◌<◌, length, OnErr};
 ghost use Rattle.pm_debug.specs.Frames.{frame_at, frames_at, frames_of};
@@ -11,25 +11,25 @@ use pm_words::Memory;
 use pm_words::layout::SYSTEM_FRAME;
 use std::alloc::Global;
 
-/// Where MSJTAB, the caller's JTAB, stands in a frame.
+/// The offset of MSJTAB, the caller's JTAB, in a frame, in bytes.
 const CALLER_JTAB: u16 = 4;
 
-/// Where MSSEG, the caller's SEG, stands in a frame.
+/// The offset of MSSEG, the caller's SEG, in a frame, in bytes.
 const CALLER_SEG: u16 = 6;
 
-/// Where MSIPC, the IPC behind the call, stands in a frame.
+/// The offset of MSIPC, the IPC after the call, in a frame, in bytes.
 const CALLER_IPC: u16 = 8;
 
 /// A frame of the dynamic chain.
 #[derive(Clone, Copy)]
 pub struct Frame {
-    /// Its address.
+    /// The address of the frame.
     pub address: u16,
-    /// The place in the code that its return leads to; none where its return ends the program.
+    /// The position in the code to which it returns, or `None` if its return ends the program.
     pub returns_to: Option<CodePlace>,
 }
 
-/// The frame at an address; none where it is odd, or keeps an odd SEG or JTAB.
+/// Returns the frame at an address, or `None` if the address, or the SEG or JTAB in the frame, is odd.
 #[tactic(auto, unfolding(crate::specs::Frames::frame_at))]
 fn frame_at(memory: &Memory, address: u16) -> Option<Frame>
     ensures frame { result ≡ frame_at memory.now.words address }
@@ -50,7 +50,7 @@ fn frame_at(memory: &Memory, address: u16) -> Option<Frame>
     })
 }
 
-/// The frames at these addresses. None of them want no memory.
+/// Returns the frames at these addresses, or `OddAddress` if an address has no frame. An empty list needs no memory.
 fn frames_at(alloc: Global, memory: &Memory, addresses: &[u16]) -> Result<Vec<Frame>, DebugRefusal>
     ensures frames { ShowsChain (λ frames. frames.items) result (frames_at memory.now.words addresses.now) }
     ensures wanted { OnErr result (0 < length addresses.now) }
@@ -65,7 +65,7 @@ fn frames_at(alloc: Global, memory: &Memory, addresses: &[u16]) -> Result<Vec<Fr
     Ok(frames)
 }
 
-/// The frames from `first` on by their dynamic links, at most `limit`. None of them want no memory.
+/// Returns the frames from `first` on along the dynamic links, at most `limit`. A `limit` of 0 needs no memory.
 #[tactic(auto, unfolding(crate::specs::Views::chain, crate::specs::Frames::frames_at))]
 pub(crate) fn frames(
     alloc: Global,

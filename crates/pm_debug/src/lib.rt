@@ -1,4 +1,4 @@
-//! The debugger: breakpoints, watched words, and what is shown of a machine.
+//! The debugger: breakpoints, watched words, and views of a machine.
 #![tactic(auto)]
 
 mod ahead;

@@ -1,23 +1,23 @@
-//! Why a run of the debugger ends.
+//! The reasons of the end of a debugger run.
 
 use pm_words::ExecError;
 
-/// Why a run of the debugger ends.
+/// The reason of the end of a debugger run.
 #[derive(Clone, Copy)]
 pub enum BreakReason {
-    /// The watched word at this address is another than when the run began.
+    /// The watched word at this address has changed since the run began.
     Changed(u16),
-    /// A breakpoint matches: the machine stands before the instruction there.
+    /// A breakpoint stopped the run. The machine is before the instruction there.
     Break,
-    /// The machine stands where the run is to stop: the instruction is done, the procedure has
-    /// returned, or the place is reached.
+    /// The machine is at the destination of the run: the instruction is executed, the procedure has returned, or the
+    /// position is reached.
     There,
     /// The limit of the steps is reached.
     Limit,
     /// The next instruction waits for console bytes.
     Waiting,
-    /// The program has come to its end.
+    /// The program has ended.
     Ended,
-    /// An execution error has stopped the machine, which stands as before the instruction.
+    /// An execution error has stopped the machine. Its state is that before the instruction.
     Halted(ExecError),
 }

@@ -1,4 +1,4 @@
-//! What the debugger refuses.
+//! The refusals of the debugger.
 
 ghost use Rattle.std.specs.Prelude.{◌≡◌};
 ghost use Rattle.pm_debug.specs.Refusals.{number_of, refusal_of};
@@ -7,19 +7,19 @@ use pm_words::ExecError;
 use std::alloc::{AllocError, AllocFailed};
 use thiserror::Error;
 
-/// Why the debugger refuses a call. Nothing has changed.
+/// The reason why the debugger refuses a call. Nothing has changed, except after `NoMemory` from a run.
 #[derive(Clone, Copy, Debug, Drop, Error, PartialEq, Eq)]
 pub enum DebugRefusal {
-    /// 1: there are 64 breakpoints, or 64 watched words, already.
+    /// 1: 64 breakpoints, or 64 watched words, are set already.
     #[error("too many breakpoints or watched words")]
     Full,
-    /// 2: there is no such breakpoint, or no such watched word.
+    /// 2: there is no such breakpoint or watched word.
     #[error("not set")]
     NotSet,
-    /// 3: an address that has to be read is odd.
+    /// 3: an address that must be read is odd.
     #[error("odd address")]
     OddAddress,
-    /// 4: there is no memory for the answer.
+    /// 4: out of memory.
     #[error("out of memory")]
     NoMemory,
     /// 5: more than 127 static links.
@@ -31,7 +31,7 @@ pub enum DebugRefusal {
 }
 
 impl DebugRefusal {
-    /// The refusal's number, as the program prints it.
+    /// Returns the number of the refusal, as the program prints it.
     pub fn number(self) -> u8
         ensures value { result ≡ number_of self }
     {
@@ -66,7 +66,7 @@ impl<T: Drop> From<AllocFailed<T>> for DebugRefusal {
     }
 }
 
-/// The refusal of a read that fails.
+/// Returns the refusal of a read that failed.
 pub(crate) fn refusal_of(error: ExecError) -> DebugRefusal
     ensures refusal { result ≡ refusal_of error }
 {

@@ -1,4 +1,4 @@
-//! Runs to a breakpoint, to a watched word that has changed, to a depth of calls, or to a place in the code.
+//! Runs to a breakpoint, to a watched word that has changed, to a depth of calls, or to a position in the code.
 
 ghost use Rattle.std.specs.Prelude.{◌≡◌, ◌+◌, ◌-◌, ◌≤◌, List, IfOk, OnErr};
 ghost use Rattle.pm_machine.specs.Runs.{GaveUp};
@@ -14,31 +14,31 @@ use crate::watches::{WatchedWord, first_changed};
 use pm_machine::{CodePlace, Machine, RunEnd, Status, Stop, StopTest};
 use std::alloc::AllocError;
 
-/// How far a run goes from a frame, or to which place.
+/// The destination of a run: a depth of calls or a position in the code.
 #[derive(Clone, Copy)]
 pub(crate) enum Depth {
-    /// To no depth: as far as its limit.
+    /// No destination: the run ends by its limit or by another stop.
     Any,
-    /// Until the machine stands in the frame at this address again, or in one above it.
+    /// Until the machine is in the frame at this address again, or in one at a higher address.
     Back(u16),
     /// Until the frame at this address is left.
     Left(u16),
-    /// Until the machine stands at this place in the code.
+    /// Until the machine is at this position in the code.
     Place(CodePlace),
 }
 
-/// What came of the last run.
+/// The outcome of the last run.
 #[derive(Clone, Copy)]
 pub(crate) enum LastRun {
-    /// Nothing of it is left.
+    /// The run cannot be continued.
     Over,
-    /// Its limit stopped it: how far it goes, and how many steps it has made.
+    /// Its limit stopped it. The fields are its destination and the number of steps executed.
     AtLimit(Depth, u64),
-    /// A breakpoint stopped it: the same.
+    /// A breakpoint stopped it. The fields are its destination and the number of steps executed.
     AtBreak(Depth, u64),
 }
 
-/// Whether a machine stands where a run is to stop by its depth.
+/// Whether a machine is at the destination of a run.
 fn is_there(machine: &Machine, depth: Depth) -> bool
     ensures there { result ≡ is_there depth machine.now.state }
 {
@@ -51,13 +51,13 @@ fn is_there(machine: &Machine, depth: Depth) -> bool
     }
 }
 
-/// What may stop a run before a step: its depth, a watched word that has changed, or a breakpoint.
+/// What can stop a run before a step: its destination, a watched word that has changed, or a breakpoint.
 #[derive(Clone, Copy)]
 struct Stops<'a> {
     watched: &'a [WatchedWord],
     breaks: &'a [Breakpoint],
     depth: Depth,
-    /// How many steps were made before.
+    /// The number of steps executed before.
     made: u64,
 }
 
@@ -91,8 +91,8 @@ pub(crate) fn has_ended(status: Status) -> bool
     matches!(status, Status::Ended)
 }
 
-/// Why a run stops before a step: a watched word that has changed is told before a breakpoint, and
-/// this before the depth.
+/// Returns the reason why a run stops before a step. A watched word that has changed precedes a breakpoint, and a
+/// breakpoint precedes the destination.
 fn stopped_so(watched: &[WatchedWord], breaks: &[Breakpoint], machine: &Machine) -> BreakReason
     ensures reason { result ≡ stopped_so watched.now breaks.now machine.now.state }
 {
@@ -103,7 +103,7 @@ fn stopped_so(watched: &[WatchedWord], breaks: &[Breakpoint], machine: &Machine)
     }
 }
 
-/// Why a run makes no more steps.
+/// Returns the reason why a run has ended.
 fn reason_of(
     watched: &[WatchedWord],
     breaks: &[Breakpoint],
@@ -121,7 +121,7 @@ fn reason_of(
     }
 }
 
-/// What comes of a run that ended so: its limit or a breakpoint stopped it, or it is over.
+/// Returns the outcome of a run. It can be continued if its limit or a breakpoint stopped it.
 pub(crate) fn last_run(depth: Depth, ran: (u64, BreakReason)) -> LastRun
     ensures left { (watched : List WatchedWord) → left_seen result watched ≡ left_so depth watched ran.0 ran.1 }
 {
@@ -132,9 +132,9 @@ pub(crate) fn last_run(depth: Depth, ran: (u64, BreakReason)) -> LastRun
     }
 }
 
-/// Makes the rest of a run that has made so many steps, of at most `limit` more, and stops before that
-/// where a watched word is another than when the run began, at a breakpoint, or where the depth is
-/// reached. The steps that are counted are those of the whole run.
+/// Executes the rest of a run that has executed `made` steps, at most `limit` more. It stops earlier if a watched word
+/// has changed since the run began, at a breakpoint, or at its destination. The returned number is that of the steps of
+/// the whole run.
 pub(crate) fn run(
     machine: &mut Machine,
     breaks: &[Breakpoint],
@@ -161,8 +161,8 @@ pub(crate) fn run(
     Ok((made + steps, reason_of(watched, breaks, machine, end)))
 }
 
-/// Passes over the breakpoint at which a run stands that has made so many steps, and makes the rest of it, up to `most`
-/// steps in all; none, where it stands where it is to go.
+/// Passes over the breakpoint at which a run of `made` steps stopped. Executes the rest of the run, up to `most` steps
+/// of the whole run. If the machine is at the destination, no step is executed.
 #[tactic(auto, using(crate::proofs::OnLaws::gave_up_first))]
 pub(crate) fn run_past(
     machine: &mut Machine,

@@ -11,13 +11,13 @@ use pm_words::Memory;
 use pm_words::layout::SYSTEM_FRAME;
 use std::alloc::{AllocError, Global};
 
-/// Where MSSTAT, the static link, stands in a frame.
+/// The offset of MSSTAT, the static link, in a frame, in bytes.
 pub(crate) const STATIC_LINK: u16 = 0;
 
-/// Where MSDYN, the dynamic link, stands in a frame.
+/// The offset of MSDYN, the dynamic link, in a frame, in bytes.
 pub(crate) const DYNAMIC_LINK: u16 = 2;
 
-/// The words from an even address on.
+/// Returns `count` words from an even address on. A `count` of 0 needs no memory.
 pub(crate) fn words_at(
     alloc: Global,
     memory: &Memory,
@@ -36,14 +36,14 @@ pub(crate) fn words_at(
     Ok(words)
 }
 
-// Whether a frame is the last of a chain of which so many more are wanted.
+// Whether a frame is the last of a chain of which `more` frames may follow.
 fn is_last(frame: u16, more: u16) -> bool
     ensures last { result ≡ (more == 0 || frame == SYSTEM_FRAME) }
 {
     more == 0 || frame == SYSTEM_FRAME
 }
 
-/// The control word of a frame at an even distance; none where the frame is at an odd address.
+/// Returns the control word of a frame at an even offset, or `None` if the frame is at an odd address.
 pub(crate) fn control_word(memory: &Memory, frame: u16, distance: u16) -> Option<u16>
     requires even { distance % 2 ≡ 0 }
     ensures word { result ≡ (if is_even frame then Some
@@ -55,8 +55,8 @@ pub(crate) fn control_word(memory: &Memory, frame: u16, distance: u16) -> Option
     memory.word(frame.wrapping_add(distance))
 }
 
-/// The frames from `first` on, each led to by the word at an even distance in the one before, at
-/// most `limit`; the frame of the system is the last.
+/// Returns the frames from `first` on, at most `limit`. The word at the even offset `distance` in a frame is the
+/// address of the next frame. The frame of the system is the last.
 pub(crate) fn chain(
     alloc: Global,
     memory: &Memory,

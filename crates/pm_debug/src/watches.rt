@@ -9,22 +9,22 @@ use arrayvec::ArrayVec;
 use pm_access::word_at;
 use pm_words::Memory;
 
-/// The most watched words.
+/// The maximum number of watched words.
 pub(crate) const MOST_WATCHES: usize = 64;
 
-/// The addresses of the words that are watched.
+/// The addresses of the watched words.
 pub(crate) type Watches = ArrayVec<u16, MOST_WATCHES>;
 
-/// A watched word, as it was when a run began.
+/// A watched word with its value when a run began.
 #[derive(Clone, Copy, Default)]
 pub(crate) struct WatchedWord {
-    /// Where it stands.
+    /// The address of the word.
     pub address: u16,
-    /// What it was.
+    /// The value of the word when the run began.
     pub word: u16,
 }
 
-/// The watched words, as they were when a run began.
+/// The watched words with their values when a run began.
 pub(crate) type WatchedWords = ArrayVec<WatchedWord, MOST_WATCHES>;
 
 /// Whether the word at an address is watched.
@@ -34,8 +34,14 @@ fn is_watched(watches: &[u16], wanted: u16) -> bool
     watches.iter().any(|known| *known == wanted)
 }
 
-/// Watches the word at an even address. One that is watched already stays; a new one beside 64 is
-/// refused.
+/// Watches the word at an even address. A word that is watched already remains watched.
+///
+/// # Errors
+///
+/// The list is unchanged after an error.
+///
+/// - `OddAddress`: the address is odd.
+/// - `Full`: the word is not watched, and 64 others are.
 #[tactic(auto, unfolding(crate::specs::Watches::with_watch))]
 pub(crate) fn set(watches: &mut Watches, new: u16) -> Result<(), DebugRefusal>
     ensures set { OnOk result (with_watch new watches.old.items ≡ Ok watches.new.items) }
@@ -55,7 +61,7 @@ pub(crate) fn set(watches: &mut Watches, new: u16) -> Result<(), DebugRefusal>
     Ok(())
 }
 
-/// Watches the word at an address no more.
+/// Stops watching the word at an address. If it is not watched, returns `NotSet` and changes nothing.
 #[tactic(auto, unfolding(crate::specs::Watches::without_watch))]
 pub(crate) fn clear(watches: &mut Watches, old: u16) -> Result<(), DebugRefusal>
     ensures cleared { OnOk result (without_watch old watches.old.items ≡ Ok watches.new.items) }
@@ -69,7 +75,7 @@ pub(crate) fn clear(watches: &mut Watches, old: u16) -> Result<(), DebugRefusal>
     Ok(())
 }
 
-/// The words at these addresses.
+/// Returns the words at these addresses, with the addresses.
 pub(crate) fn watched_words(memory: &Memory, watches: &Watches) -> WatchedWords
     ensures words { result.items ≡ watched_words watches.now.items memory.now.words }
 {
@@ -83,7 +89,7 @@ pub(crate) fn watched_words(memory: &Memory, watches: &Watches) -> WatchedWords
     words
 }
 
-/// The address of the first watched word that is another now.
+/// Returns the address of the first watched word that has changed.
 pub(crate) fn first_changed(watched: &[WatchedWord], memory: &Memory) -> Option<u16>
     ensures first { result ≡ first_changed watched.now memory.now.words }
 {

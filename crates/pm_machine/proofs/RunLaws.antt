@@ -8,7 +8,7 @@ use Rattle.pm_machine.specs.Steps.{stepped}
 use Rattle.pm_machine.specs.Runs.{after_steps, AllWent, Ran, WentAll, StoppedAfter, last_counts}
 use Rattle.pm_machine.specs.RunLaws.{RunsGoOn, RunsStay, RunsAreOne, SameOutcome}
 
--- steps after others
+-- Steps after others.
 pub after_both : (k m : ℕ) (s : State) → after_steps (m + k) s ≡ after_steps k (after_steps m s)
 unfolding after_steps
 after_both zero m s = let e : m + zero ≡ m = omega arith in rw e refl
@@ -16,7 +16,7 @@ after_both (suc k) m s =
     let e : m + suc k ≡ suc (m + k) = omega arith in
     rw e (ap (λ u. (stepped u).0) (after_both k m s))
 
--- ---- a run that goes on
+-- ---- a continued run
 
 pub went_both : (m n : ℕ) (s t : State) → t ≡ after_steps m s → AllWent m s → AllWent n t → AllWent (m + n) s
 went_both m n s t left first second k below = elim (cases_lt k m) [
@@ -60,7 +60,7 @@ runs_stay m n c s t (stop.Halted e) other h = (h.0, stays m n c h.0 s t (stop.Ha
 
 -- ---- one outcome
 
--- what a run that an answer stopped is, whatever the answer
+-- A run that some answer stopped.
 abbrev Stopped : ℕ → State → ℕ → Stop → State → Type 0
 Stopped limit s c a t = (n : ℕ) × StoppedAfter n limit s c a t
 
@@ -70,7 +70,7 @@ as_stopped limit c s t stop.Waiting h = inr (h, λ e. cc)
 as_stopped limit c s t stop.Ended h = inr (h, λ e. cc)
 as_stopped limit c s t (stop.Halted x) h = inr (h, λ e. cc)
 
--- where an answer stopped a run, the step did not go
+-- If an answer stopped a run, the step did not answer `Went`.
 not_went : (n limit c k : ℕ) (s t : State) (a : Stop) → StoppedAfter n limit s c a t → a ≢ stop.Went → AllWent k s → n < k → ⊥
 not_went n limit c k s t a h other went below =
     other (sym (ap (λ (p : State × Stop). p.1) h.last) ∙ went n below)

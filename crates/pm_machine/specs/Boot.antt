@@ -22,17 +22,17 @@ use Rattle.pm_machine.specs.State.{State, Whole}
 use Rattle.pm_machine.specs.Start.{devices_with, with_system_frame}
 use Rattle.pm_words.specs.declared.layout.TheConstants.{HEAP, SYSTEM_FRAME}
 
--- what has to be there, and the fault where it is not
+-- The required part, or the fault if it is missing.
 abbrev pub some_or : {A : Type 0} → BootFault → Option A → Result A BootFault
 some_or fault (Some x) = Ok x
 some_or fault None = Err fault
 
--- the image on a disk unit; none where the number is not that of a disk unit
+-- The image on a disk unit, or none if the number is not that of a disk unit.
 unfoldable pub image_of : List (Option (List ℕ)) → ℕ → Option (List ℕ)
 image_of images unit = image_on (unit_of unit) (devices_with images 0)
 
--- The code file of a name on the volume of a unit: a code file by its kind that is readable and has a segment in slot
--- 1. Its entry, and its bytes.
+-- The code file with this name on the volume of a unit, as its entry and its bytes. It is a code file by its kind, is
+-- readable, and has a segment in slot 1.
 unfoldable pub code_file : List (Option (List ℕ)) → ℕ → List ℕ → Result (Entry × List ℕ) BootFault
 code_file images unit name = do
   image ← some_or NoFile (image_of images unit)
@@ -43,20 +43,20 @@ code_file images unit name = do
   _ ← demand (is_some (segment_in file 1)) BadCode
   Ok (entry, file)
 
--- where the code of a slot stands on the disk of a unit, the code file beginning at its first block
+-- The location of the code of a slot on the disk of a unit. `first` is the first block of the code file.
 abbrev pub row_of : ℕ → ℕ → Option Slot → SlotRow
 row_of unit first None = record { unit = unit; block = 0; length = 0 }
 row_of unit first (Some slot) =
     if slot.length == 0 then record { unit = unit; block = 0; length = 0 }
     else record { unit = unit; block = (first + slot.block) % 65536; length = slot.length }
 
--- the rows of the first n slots
+-- The locations of the first `n` slots.
 unfoldable pub rows_below : ℕ → ℕ → List ℕ → ℕ → List SlotRow
 rows_below unit first file zero = []
 rows_below unit first file (suc n) = rows_below unit first file n ++ row_of unit first (slot_in file n) ∷ []
 
--- The machine before its first call: a memory with the frame of the system, the heap from 1,024 on, and no segment
--- anywhere.
+-- The machine before its first call. The memory contains the system's frame, the heap begins at 1,024, and no segment
+-- is loaded.
 unfoldable pub first_parts : Parts
 first_parts = record {
   memory = with_system_frame zero_words;
@@ -73,20 +73,21 @@ first_parts = record {
   places = replicate 16 None;
 }
 
--- an error of the first call
+-- An error of the first call, as a fault.
 abbrev pub or_exec : {A : Type 0} → Result A ExecError → Result A BootFault
 or_exec (Ok x) = Ok x
 or_exec (Err e) = Err (Exec e)
 
--- A program begins by a call of procedure 1 of slot 1, whose segment is loaded: the machine in it, and the rows of its
--- 16 slots.
+-- A program starts with a call of procedure 1 of slot 1, whose segment is loaded. The result is the machine in this
+-- procedure and the locations of its 16 slots.
 unfoldable pub begun : List (Option (List ℕ)) → ℕ → List ℕ → Result (Parts × List SlotRow) BootFault
 begun images unit name = do
   found ← code_file images unit name
   parts ← or_exec (called first_parts (Cxp 1 1) (segment_in found.1 1))
   Ok (parts, rows_below unit found.0.first found.1 16)
 
--- The start of a program: the volumes are the disks, no byte waits, and nothing was written. The call is no step.
+-- The start of a program. The volumes are the disks, the input queue is empty, and nothing was written. The call does
+-- not count as a step.
 unfoldable pub boot_start : List (Option (List ℕ)) → ℕ → List ℕ → ℕ → Result State BootFault
 boot_start images unit name clock = do
   b ← begun images unit name
@@ -100,11 +101,11 @@ boot_start images unit name clock = do
     devices = devices_with images clock;
   })
 
--- what calls see of a machine that begins
+-- The part of a starting machine that calls use.
 abbrev pub parts_of : Begun → Parts
 parts_of b = record { memory = b.memory.value.words; registers = b.registers; places = b.frames.places }
 
--- a program began, or was refused; memory is missing only where its file was found
+-- A program started or was refused. Memory can be out only if its file was found.
 abbrev pub Begins : Result Begun BootFault → Result (Entry × List ℕ) BootFault → Result (Parts × List SlotRow) BootFault
     → Type 0
 Begins (Ok b) found start = start ≡ Ok (parts_of b, b.rows)
@@ -114,7 +115,7 @@ Begins (Err BadCode) found start = start ≡ Err BadCode
 Begins (Err (Exec e)) found start = start ≡ Err (Exec e)
 Begins (Err NoMemory) found start = IsOk found
 
--- a machine was booted, or refused; memory is missing only where the file of the program was found
+-- A machine was booted or refused. Memory can be out only if the file of the program was found.
 abbrev pub Boots : {A : Type 0} → Result Whole (BootFault × A) → Result (Entry × List ℕ) BootFault
     → Result State BootFault → Type 0
 Boots (Ok m) found start = start ≡ Ok m.state

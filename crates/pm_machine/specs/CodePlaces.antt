@@ -1,5 +1,5 @@
--- Places in the code, by the number of a segment, the number of a procedure, and the distance from where the procedure
--- is entered.
+-- Positions in the code. They consist of the number of a segment, the number of a procedure, and the offset from the
+-- entry of the procedure.
 use Rattle.std.specs.Prelude.{ℕ, ◌%◌, ◌&&◌, Option, Some, None, List, if◌then◌else◌}
 use Rattle.pm_words.specs.Words.{word_at}
 use Rattle.pm_words.specs.Stack.{is_even, minus}
@@ -7,12 +7,12 @@ use Rattle.pm_calls.specs.Tables.{self_relative}
 use Rattle.pm_machine.specs.State.{State}
 use Rattle.pm_machine.specs.declared.code_place.CodePlace.{CodePlace}
 
--- the place with these three numbers
+-- The position with these three numbers.
 abbrev pub code_place : ℕ → ℕ → ℕ → CodePlace
 code_place segment procedure offset = record { segment = segment; procedure = procedure; offset = offset }
 
--- A place in the code, by what a machine or a frame holds: the low bytes of the words at SEG and at JTAB, and IPC less
--- the place where the procedure is entered. There is none where one of the two addresses is odd.
+-- The position in the code for SEG, JTAB and IPC of a machine or of a frame. It consists of the low bytes of the words
+-- at SEG and JTAB, and of IPC less the entry address of the procedure. There is none if SEG or JTAB is odd.
 unfoldable pub place_at : List ℕ → ℕ → ℕ → ℕ → Option CodePlace
 place_at m seg jtab ipc =
     if is_even seg && is_even jtab then Some (code_place
@@ -21,6 +21,6 @@ place_at m seg jtab ipc =
     (minus ipc (self_relative m (minus jtab 2))))
     else None
 
--- where a machine stands in the code
+-- The position of a machine in the code.
 abbrev pub place_in_code : State → Option CodePlace
 place_in_code s = place_at s.memory s.registers.seg s.registers.jtab s.registers.ipc

@@ -1,4 +1,4 @@
--- What can happen to a machine, and the state after it.
+-- The events of a machine, and the state after each.
 use Rattle.std.specs.Prelude.{ℕ, List, [], ◌∷◌, ◌++◌, Result, Ok, Err, if◌then◌else◌}
 use Rattle.pm_words.specs.Words.{with_word}
 use Rattle.pm_words.specs.Stack.{is_even}
@@ -8,31 +8,31 @@ use Rattle.pm_machine.specs.State.{State}
 use Rattle.pm_machine.specs.Steps.{stepped}
 
 pub data Event : Type 0 where
-  -- one instruction
+  -- One instruction.
   Step : Event
-  -- a byte that the operator types
+  -- A byte that the operator types.
   Key : (byte : ℕ) → Event
-  -- a word written by the operator
+  -- A word that the operator writes.
   Poke : (address word : ℕ) → Event
-  -- an image put on a disk unit
+  -- An image that is mounted on a disk unit.
   Mount : (unit : ℕ) (image : List ℕ) → Event
-  -- the disk of a unit taken away
+  -- The disk of a unit is ejected.
   Eject : (unit : ℕ) → Event
 
--- one byte more waits on the console
+-- One more byte in the console input queue.
 abbrev pub keyed : ℕ → State → State
 keyed b s = record s { devices = record s.devices { queue = s.devices.queue ++ b ∷ [] } }
 
--- a word at an odd address is refused, and leaves the state
+-- A word at an odd address is refused, and the state is unchanged.
 abbrev pub poked : ℕ → ℕ → State → State
 poked a w s = if is_even a then record s { memory = with_word s.memory a w } else s
 
--- an image that is refused leaves the state
+-- A refused image leaves the state unchanged.
 abbrev pub or_same : State → Result Devices MountFault → State
 or_same s (Ok d) = record s { devices = d }
 or_same s (Err fault) = s
 
--- the state after an event
+-- The state after an event.
 abbrev pub next : State → Event → State
 next s Step = (stepped s).0
 next s (Key b) = keyed b s
@@ -40,7 +40,7 @@ next s (Poke a w) = poked a w s
 next s (Mount unit image) = or_same s (mounted unit image s.devices)
 next s (Eject unit) = record s { devices = ejected unit s.devices }
 
--- the state after a list of events
+-- The state after a list of events.
 abbrev pub after_all : State → List Event → State
 after_all s [] = s
 after_all s (e ∷ es) = after_all (next s e) es

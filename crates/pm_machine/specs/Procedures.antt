@@ -16,14 +16,14 @@ use Rattle.pm_machine.specs.State.{State}
 use Rattle.pm_stdproc.specs.Loads.{code_needed}
 use Rattle.pm_words.specs.declared.layout.TheConstants.{SYSTEM_FRAME}
 
--- what calls and returns see of the state, and the state with that part new
+-- The part of the state that calls and returns use, and the state with a new such part.
 abbrev pub parts : State → Parts
 parts s = record { memory = s.memory; registers = s.registers; places = s.places }
 
 abbrev pub with_parts : Parts → State → State
 with_parts p s = record s { memory = p.memory; registers = p.registers; places = p.places }
 
--- CLP, CGP, CBP, CIP and CXP. .., parameters -> the frame of the procedure: a call, with the code that it has to load
+-- CLP, CGP, CBP, CIP and CXP. .., parameters -> the frame of the procedure. A call, with the code that it must load.
 unfoldable pub call_row : Call → State → Result State ExecError
 call_row c s = do
   code ← code_needed c s.places s.rows s.devices
@@ -38,23 +38,23 @@ abbrev pub is_base_return : Return → Bool
 is_base_return (return.Normal n) = false
 is_base_return (return.Base n) = true
 
--- a return to the frame of the system ends the program
+-- A return to the system's frame ends the program.
 abbrev pub status_after : ℕ → Status → Status
 status_after mp now = if mp == SYSTEM_FRAME then status.Ended else now
 
--- RNP and RBP. the frame of the procedure -> .., n words: n words of a result go with it
+-- RNP and RBP. The frame of the procedure -> .., n words. The result has n words.
 abbrev pub return_row : Return → State → Result State ExecError
 return_row r s =
     returned (parts s) (words_of_return r) (is_base_return r) >>= λ p.
     Ok (record (with_parts p s) { status = status_after p.registers.mp s.status })
 
--- what a standard procedure sees of the state, and the state with that part new
+-- The part of the state that a standard procedure uses, and the state with a new such part.
 abbrev pub reach : State → Reach
 reach s = record { memory = s.memory; registers = s.registers; places = s.places; rows = s.rows; devices = s.devices }
 
 abbrev pub with_reach : Reach → State → State
 with_reach t s = record s { memory = t.memory; registers = t.registers; places = t.places; devices = t.devices }
 
--- CSP. As the row of the standard procedure says.
+-- CSP. The rule of the standard procedure.
 abbrev pub standard_row : ℕ → State → Result State Pause
 standard_row n s = procedure_row (procedure_numbered n) (reach s) >>= λ t. Ok (with_reach t s)

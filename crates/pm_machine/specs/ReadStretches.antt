@@ -1,10 +1,14 @@
--- What a step reads: the stretches of memory that the row of its instruction looks at, told of the state before it. The
--- bytes of the instruction itself do not count, be they its opcode, its operands, words or a table of jumps in the
--- code. A row that ends with an error names what it would read if it went on; but an EXIT that does not find its
--- procedure names no frame, a call that does not reach its segment, as its code finds no room or stands nowhere, names
--- nothing, and one that does not find its table no parameters and no links. An order of sets or of WORDS that this
--- machine does not have (error 11) names what it would compare, a comparison of REAL nothing. STP names its word also
--- where all of it changes.
+-- What a step reads: the ranges of memory that the rule of its instruction reads, in the state before the step. The
+-- bytes of the instruction itself do not count: its opcode, its operands, and words or a table of jumps in the code.
+--
+-- A step that ends with an error counts as reading what it would read without the error, with these exceptions:
+--
+-- - An EXIT that does not find its procedure reads no frame.
+-- - A call does not reach its segment if there is no space for its code or its slot has none. It then reads nothing.
+-- - A call that does not find its table reads no parameters and no links.
+-- - An operation on sets or WORDS that this machine does not have (error 11) reads what it would compare; a comparison
+--   of REAL reads nothing.
+-- - STP reads its word even if it replaces all of it.
 use Rattle.std.specs.Prelude.{ℕ, zero, suc, ◌+◌, ◌*◌, ◌/◌, ◌%◌, ◌==◌, not, Bool, true, nat_lt, ℤ, pos, negsuc}
 use Rattle.std.specs.Prelude.{◌+ℤ◌, ◌-ℤ◌, int_le}
 use Rattle.std.specs.Prelude.{List, [], ◌∷◌, ◌++◌, Option, Some, None, Result, Ok, Err, if◌then◌else◌}
@@ -60,7 +64,7 @@ use Rattle.pm_machine.specs.State.{State}
 use Rattle.pm_machine.specs.Written.{Stretch, call_reached, counted_stretch, left_by_exit, place_on_stack, stretch}
 use Rattle.pm_machine.specs.Written.{stretch_to, touches, transfer_stretch, wanted_at, word_stretch, words_taken}
 
--- the words that are taken off the stack
+-- The words that are taken off the stack.
 abbrev pub taken : Effect → List ℕ → ℕ → List Stretch
 taken e m sp = stretch sp (2 * words_taken e m sp) ∷ []
 
@@ -68,14 +72,14 @@ abbrev pub taken_if : Option Effect → List ℕ → ℕ → List Stretch
 taken_if None m sp = []
 taken_if (Some e) m sp = taken e m sp
 
--- ---- rows on the stack
+-- ---- instructions on the stack
 
--- the static links of n frames from the one at a on
+-- The static links of `n` frames from the frame at `a` on.
 unfoldable pub links_read : List ℕ → ℕ → ℕ → List Stretch
 links_read m a zero = []
 links_read m a (suc n) = word_stretch (up m a n) ++ links_read m a n
 
--- a variable so many links up is found by those; there are at most 127
+-- The static links that lead to a variable. There are at most 127.
 abbrev pub frame_read : Scope → List ℕ → ℕ → List Stretch
 frame_read scope.Global m mp = []
 frame_read scope.Local m mp = []
@@ -89,7 +93,7 @@ variable_read (variable.Store scope b) s =
     taken (variable_effect (variable.Store scope b)) s.memory s.registers.sp
     ++ frame_read scope s.memory s.registers.mp
 
--- what an address on the stack leads to, beside the words that are taken
+-- What an address on the stack leads to, without the words that are taken off the stack.
 abbrev pub led_to : Pointer → List ℕ → ℕ → List Stretch
 led_to (pointer.Load b) m sp = stretch ((word_at m sp + 2 * b) % 65536) 2 ∷ []
 led_to (pointer.LoadWords n) m sp = stretch (word_at m sp) (2 * n) ∷ []
@@ -99,15 +103,15 @@ led_to o m sp = []
 abbrev pub pointer_read : Pointer → List ℕ → ℕ → List Stretch
 pointer_read o m sp = taken (pointer_effect o) m sp ++ led_to o m sp
 
--- a text with its length byte
+-- A string with its length byte.
 abbrev pub text_stretch : List ℕ → ℕ → Stretch
 text_stretch m a = stretch a (1 + byte_at m a)
 
--- the text that a word names, unless that is a character
+-- The string at the address `e`. A word below 256 is a character and has none.
 abbrev pub source_read : List ℕ → ℕ → List Stretch
 source_read m e = if nat_lt e 256 then [] else text_stretch m e ∷ []
 
--- what is compared, beside the words that are taken
+-- The compared bytes, without the words that are taken off the stack.
 abbrev pub compared_read : Kind → List ℕ → ℕ → List Stretch
 compared_read kind.Real m sp = []
 compared_read kind.Boolean m sp = []
@@ -116,7 +120,7 @@ compared_read kind.String m sp = text_stretch m (word_at m (sp + 2)) ∷ text_st
 compared_read (kind.Bytes n) m sp = stretch (word_at m (sp + 2)) n ∷ stretch (word_at m sp) n ∷ []
 compared_read (kind.Words n) m sp = stretch (word_at m (sp + 2)) (2 * n) ∷ stretch (word_at m sp) (2 * n) ∷ []
 
--- what values on the stack lead to; STP changes a part of a word, of which the others stay
+-- What values on the stack lead to. STP changes a part of a word, and the other parts are unchanged.
 abbrev pub value_leads : Value → List ℕ → ℕ → List Stretch
 value_leads (value.Byte byte.Load) m sp = stretch (place_on_stack m sp) 1 ∷ []
 value_leads (value.Byte byte.Store) m sp = []
@@ -133,18 +137,18 @@ value_read o m sp = taken_if (value_effect o) m sp ++ value_leads o m sp
 
 -- ---- jumps
 
--- a jump is taken
+-- A jump is taken.
 abbrev pub is_taken : Condition → List ℕ → ℕ → Bool
 is_taken condition.Always m sp = true
 is_taken condition.IfFalse m sp = word_at m sp % 2 == 0
 is_taken condition.IfDifferent m sp = not (word_at m (sp + 2) == word_at m sp)
 is_taken condition.IfEqual m sp = word_at m (sp + 2) == word_at m sp
 
--- the entry of the jump table by which a jump with a negative offset leads
+-- The entry of the jump table for a jump with a negative offset.
 abbrev pub entry_read : Registers → ℕ → List Stretch
 entry_read r offset = if nat_lt offset 32768 then [] else stretch ((r.jtab + offset) % 65536) 2 ∷ []
 
--- XJP's table is a part of it
+-- The table of XJP is part of its instruction.
 abbrev pub jump_read : Jump → List ℕ → Registers → List Stretch
 jump_read (jump.Short c offset) m r =
     taken (condition_effect c) m r.sp ++ (if is_taken c m r.sp then entry_read r offset else [])
@@ -152,12 +156,12 @@ jump_read (jump.Case low high table) m r = taken (jump_effect (jump.Case low hig
 
 -- ---- calls and returns
 
--- so many links, where that is a number from 0 to 127
+-- The static links for a number of links from 0 to 127.
 abbrev pub links_by : List ℕ → ℕ → ℤ → List Stretch
 links_by m mp (pos n) = frame_read (scope.Intermediate n) m mp
 links_by m mp (negsuc n) = []
 
--- the level of the running procedure, and the links up from its frame
+-- The level of the running procedure, and the links up from its frame.
 abbrev pub inner_read : List ℕ → Registers → ℤ → List Stretch
 inner_read m r level =
     stretch r.jtab 2 ∷ links_by m r.mp (level_of (word_at m r.jtab) -ℤ level +ℤ pos 1)
@@ -165,7 +169,7 @@ inner_read m r level =
 abbrev pub base_read : Registers → List Stretch
 base_read r = stretch r.base 2 ∷ []
 
--- what finds the static link of a procedure of this level
+-- The words that lead to the static link of a procedure of this level.
 abbrev pub static_link_read : Call → List ℕ → Registers → ℤ → List Stretch
 static_link_read (Clp p) m r level = []
 static_link_read (Cgp p) m r level = []
@@ -173,20 +177,20 @@ static_link_read (Cbp p) m r level = base_read r
 static_link_read (Cip p) m r level = inner_read m r level
 static_link_read (Cxp n p) m r level = if int_le level (pos 0) then base_read r else inner_read m r level
 
--- the table of procedure p of the segment at s: the words that lead there, its number with its level, where it is
--- entered, and both sizes
+-- The table of procedure `p` of the segment at `s`: the words that lead to it, its number with its level, its entry
+-- address, and both sizes.
 abbrev pub table_read : List ℕ → ℕ → ℕ → List Stretch
 table_read m s p =
     let j = self_relative m (minus s (2 * p)) in
     stretch s 2 ∷ stretch (minus s (2 * p)) 2 ∷ stretch j 2 ∷ stretch (minus j 2) 2
     ∷ stretch (minus j 6) 2 ∷ stretch (minus j 8) 2 ∷ []
 
--- the static link, and the parameters, which are copied
+-- The words for the static link, and the parameters, which are copied.
 abbrev pub entry_words : Call → List ℕ → Registers → Result Table ExecError → List Stretch
 entry_words call m r (Ok t) = stretch r.sp t.parameters ∷ static_link_read call m r t.level
 entry_words call m r (Err e) = []
 
--- a call in the segment that was reached; its table is read in the code that is loaded for it, where that stands then
+-- A call in the segment that was reached. Its table is read in the memory with the loaded code.
 abbrev pub reached_read : Call → Registers → Result Reached ExecError → List Stretch
 reached_read call r (Ok at) =
     table_read at.memory at.place (procedure_called call)
@@ -196,28 +200,28 @@ reached_read call r (Err e) = []
 abbrev pub call_read : Call → State → List Stretch
 call_read call s = reached_read call s.registers (call_reached call s)
 
--- five control words, the words of the result, and the old BASE of a base return
+-- Five control words, the words of the result, and the saved BASE for a base return.
 abbrev pub return_read : ℕ → Bool → ℕ → List Stretch
 return_read n base mp =
     stretch (mp + 2) 10 ∷ stretch (mp + 12) (2 * n) ∷ (if base then stretch (minus mp 2) 2 ∷ [] else [])
 
 -- ---- EXIT
 
--- whether a procedure is the wanted one: its segment's highest word, and its table's
+-- The words that are compared with the requested procedure: the highest words of a segment and of a table.
 abbrev pub asked_read : ℕ → ℕ → List Stretch
 asked_read s j = stretch s 2 ∷ stretch j 2 ∷ []
 
--- where the procedure with its table at j is left
+-- The exit address in the table at `j`.
 abbrev pub exit_read : ℕ → Stretch
 exit_read j = stretch (minus j 4) 2
 
--- a frame that EXIT leaves: the control words that name its caller, with the words of that
+-- A frame that EXIT leaves: the control words of its caller, and the words to which these lead.
 abbrev pub left_read : List ℕ → ℕ → List Stretch
 left_read m f =
     stretch ((f + 2) % 65536) 2 ∷ stretch ((f + 4) % 65536) 2 ∷ stretch ((f + 6) % 65536) 2
     ∷ exit_read (control m f 4) ∷ asked_read (control m f 6) (control m f 4)
 
--- the first n frames from the one at a on
+-- The first `n` frames from the frame at `a` on.
 unfoldable pub frames_read : List ℕ → ℕ → ℕ → List Stretch
 frames_read m a zero = []
 frames_read m a (suc i) = left_read m (frame_up m a i) ++ frames_read m a i
@@ -226,7 +230,7 @@ abbrev pub frames_left_read : List ℕ → ℕ → Result ℕ ExecError → List
 frames_left_read m a (Ok n) = frames_read m a n
 frames_left_read m a (Err e) = []
 
--- beside its two words
+-- What EXIT reads without its two words on the stack.
 abbrev pub exit_leads : State → List Stretch
 exit_leads s =
     exit_read s.registers.jtab ∷ (asked_read s.registers.seg s.registers.jtab
@@ -234,12 +238,12 @@ exit_leads s =
 
 -- ---- standard procedures
 
--- all bytes that a scan may look at, by its limit, which is signed
+-- All bytes that a scan can read, by its limit, which is signed.
 abbrev pub scan_stretch : ℕ → ℤ → Stretch
 scan_stretch a (pos n) = stretch a n
 scan_stretch a (negsuc n) = stretch_to (a + 1) (n + 1)
 
--- beside the words that are taken
+-- The bytes that are read without the words that are taken off the stack.
 abbrev pub memory_leads : OnMemory → List ℕ → ℕ → List Stretch
 memory_leads memory.MoveLeft m sp = counted_stretch (place_on_stack m (sp + 6)) (word_at m sp)
 memory_leads memory.MoveRight m sp = counted_stretch (place_on_stack m (sp + 6)) (word_at m sp)
@@ -281,10 +285,10 @@ abbrev pub instruction_read : Result Instr ExecError → State → List Stretch
 instruction_read (Ok i) s = operation_read (operation_of i) s
 instruction_read (Err e) s = []
 
--- what the instruction at IPC reads
+-- What the instruction at IPC reads.
 unfoldable pub read : State → List Stretch
 read s = instruction_read (fetched s.memory s.registers.ipc) s
 
--- the instruction at IPC reads one of n bytes from an address on
+-- The instruction at IPC reads one of `n` bytes from `a` on.
 abbrev pub reads : ℕ → ℕ → State → Bool
 reads a n s = list_any (touches a n) (read s)

@@ -26,51 +26,52 @@ use Rattle.pm_rows.specs.Variables.{variable_address_row, load_row}
 
 -- ---- runs
 
--- a run that its limit stopped, and one that goes on from there, are one run of both limits, and all their steps count
+-- A run that its limit stopped and a run that continues from there are one run with the sum of both limits. All their
+-- steps count.
 abbrev pub RunsGoOn : Type 0
 RunsGoOn =
     (m n c d : ℕ) (s t u : State) (answer : Stop) →
     Ran m s c stop.Went t → Ran n t d answer u → Ran (m + n) s (c + d) answer u
 
--- a run that an answer stopped is the run of every greater limit as well
+-- A run that an answer stopped is also the run for each greater limit.
 abbrev pub RunsStay : Type 0
 RunsStay =
     (m n c : ℕ) (s t : State) (answer : Stop) → answer ≢ stop.Went → Ran m s c answer t → Ran (m + n) s c answer t
 
--- the outcomes of a run: how many steps counted, the last answer, and the state
+-- Two outcomes of a run are equal: the number of counted steps, the last answer, and the state.
 pub record SameOutcome (c d : ℕ) (a b : Stop) (t u : State) : Type 0 where
   pub count : c ≡ d
   pub answer : a ≡ b
   pub state : t ≡ u
 
--- a run has one outcome
+-- A run has one outcome.
 abbrev pub RunsAreOne : Type 0
 RunsAreOne =
     (limit c d : ℕ) (s t u : State) (a b : Stop) → Ran limit s c a t → Ran limit s d b u → SameOutcome c d a b t u
 
 -- ---- runs that a test may stop
 
--- how a run ends of which n steps were made: with all steps that it may make; before a step at which the test holds; or
--- with a step before which it does not hold, and which does not answer that it went
+-- The end of a run of `n` steps, in one of three ways. It has executed all its steps. The test is true before the next
+-- step. Or the test is false before the next step and that step has another answer than `Went`.
 abbrev pub EndsSo : (ℕ → State → Bool) → ℕ → ℕ → State → RunEnd → ℕ → State → Type 0
 EndsSo test limit n s ends.Limit count t = (n ≡ limit) × (count ≡ n) × (t ≡ after_steps n s)
 EndsSo test limit n s ends.Stopped count t = (n < limit) × (test n t ≡ true) × (count ≡ n) × (t ≡ after_steps n s)
 EndsSo test limit n s (ends.Answered answer) count t =
     (answer ≢ stop.Went) × (test n (after_steps n s) ≡ false) × StoppedAfter n limit s count answer t
 
--- a run makes some steps, each of which went, with the test before none of them, and ends so
+-- Each run consists of steps that succeed and before which the test is false, and of such an end.
 abbrev pub RunsEndSo : Type 0
 RunsEndSo =
     (test : ℕ → State → Bool) (limit : ℕ) (s : State)
     → (n : ℕ) × Passes test n s × EndsSo test limit n s (run_until test limit s).end (run_until test limit s).count
     (run_until test limit s).state
 
--- what a run that nothing stops before a step comes to, by its last answer
+-- The outcome of a run that nothing stops before a step, by its last answer.
 abbrev pub as_outcome : ℕ → Stop → State → RunOutcome
 as_outcome count stop.Went t = record { count = count; end = ends.Limit; state = t }
 as_outcome count answer t = record { count = count; end = ends.Answered answer; state = t }
 
--- the run of the machine is the one that nothing stops before a step
+-- The run of the machine is the run that nothing stops before a step.
 abbrev pub RunsAreUnstopped : Type 0
 RunsAreUnstopped =
     (limit count : ℕ) (s t : State) (answer : Stop) →
@@ -78,29 +79,29 @@ RunsAreUnstopped =
 
 -- ---- steps
 
--- a machine that has ended or halted stays as it is, whatever steps it is asked for
+-- A machine that has ended or halted is unchanged by steps.
 abbrev pub RestStays : Type 0
 RestStays = (s : State) → s.status ≢ status.Running → (stepped s).0 ≡ s
 
--- an instruction that is UNITWRITE
+-- The instruction is a UNITWRITE.
 abbrev pub IsUnitWrite : Instr → Type 0
 IsUnitWrite i = (n : ℕ) × (operation_of i ≡ operation.Standard n) × (procedure_numbered n ≡ OnUnits units.Write)
 
--- a step changes no disk, unless its instruction is UNITWRITE
+-- A step changes no disk, unless its instruction is UNITWRITE.
 abbrev pub StepsKeepDisks : Type 0
 StepsKeepDisks =
     (s : State) → ((i : Instr) → fetched s.memory s.registers.ipc ≡ Ok i → IsUnitWrite i → ⊥) →
     (stepped s).0.devices.disks ≡ s.devices.disks
 
--- ---- rows
+-- ---- rules of instructions
 
--- what a row on the stack gives has every word of the old memory, but for the one on the new top
+-- The result of an instruction on the stack has every word of the old memory, except the word on the new top.
 abbrev pub KeepsBelow : List ℕ → Result (List ℕ × ℕ) ExecError → Type 0
 KeepsBelow m (Ok t) = (a : ℕ) → a % 2 ≡ 0 → a ≢ t.1 → word_at t.0 a ≡ word_at m a
 KeepsBelow m (Err e) = Unit {0}
 
--- Rows that put one word onto the stack write it, and nothing else: arithmetic and comparisons of words, increments,
--- indirect loads and indexes of addresses, and addresses and values of variables.
+-- Instructions that push one word write only this word: arithmetic and comparisons of words, increments, indirect loads
+-- and indexes of addresses, and addresses and values of variables.
 pub record RowsKeepBelow : Type 0 where
   pub arithmetic : (o : Arithmetic) (m : List ℕ) (sp np : ℕ) → KeepsBelow m (arithmetic_row o m sp np)
   pub increments : (b : ℕ) (m : List ℕ) (sp np : ℕ) → KeepsBelow m (increment_row b m sp np)

@@ -1,4 +1,4 @@
--- The whole state of the machine. Definitions change it by its fields alone, so that it can grow.
+-- The whole state of the machine. Definitions change it only by its fields, so that it can grow.
 use Rattle.std.specs.Prelude.{ℕ, List, Option}
 use Rattle.pm_calls.specs.declared.registers.Registers.{Registers}
 use Rattle.pm_calls.specs.declared.frames.SegmentPlace.{SegmentPlace}
@@ -7,23 +7,24 @@ use Rattle.pm_machine.specs.declared.state.Status.{Status}
 use Rattle.pm_stdproc.specs.declared.loads.SlotRow.{SlotRow}
 
 pub record State : Type 0 where
-  -- the 32,768 words
+  -- The 32,768 words.
   pub memory : List ℕ
   pub registers : Registers
-  -- how many steps went or ended the program, up to the greatest u64
+  -- The number of steps that succeeded or ended the program, at most the greatest number of 64 bits.
   pub steps : ℕ
   pub status : Status
-  -- for each of the 16 slots, where its segment stands, for how many calls, and how many times the program keeps it
+  -- For each of the 16 slots, the address of its segment, the number of its calls, and how many times the program keeps
+  -- it.
   pub places : List (Option SegmentPlace)
-  -- for each of the 16 slots, where its code stands on a disk; these never change
+  -- For each of the 16 slots, the location of its code on a disk. These never change.
   pub rows : List SlotRow
-  -- the disks, the console, the printer and the clock
+  -- The disks, the console, the printer and the clock.
   pub devices : Devices
 
 abbrev pub devices_of : State → Devices
 devices_of s = s.devices
 
--- what a machine is seen as: its state, and the room for more input and output
+-- The machine as contracts see it: its state, and the spare capacity for input and output.
 pub record Whole : Type 0 where
   pub state : State
   pub room : Room

@@ -1,9 +1,15 @@
--- What a step writes: the stretches of memory that the row of its instruction names, told of the state before it. A row
--- that ends with an error names what it would write if it went on, and so does a transfer that moves nothing; but an
--- EXIT that does not find its procedure names nothing, nor does a call that does not reach its segment, as its code
--- finds no room or stands nowhere, and one that does not find its table names no frame. An order of sets or of WORDS
--- that this machine does not have (error 11) names the word of its result, a comparison of REAL nothing; CHK names the
--- word that it leaves. What a row only reads, words that it takes off the stack among it, it does not name.
+-- What a step writes: the ranges of memory that the rule of its instruction writes, in the state before the step. Words
+-- that an instruction only reads or takes off the stack do not count.
+--
+-- A step that ends with an error counts as writing what it would write without the error. The same holds for a transfer
+-- that moves nothing. The exceptions are:
+--
+-- - An EXIT that does not find its procedure writes nothing.
+-- - A call does not reach its segment if there is no space for its code or its slot has none. It then writes nothing.
+-- - A call that does not find its table writes no frame.
+-- - An operation on sets or WORDS that this machine does not have (error 11) writes the word of its result; a
+--   comparison of REAL writes nothing.
+-- - CHK writes the word that it leaves on the stack.
 use Rattle.std.specs.Prelude.{ℕ, zero, suc, ◌+◌, ◌-◌, ◌*◌, ◌/◌, ◌%◌, ◌==◌, ◌&&◌, Bool, max, min, int_lt, nat_lt}
 use Rattle.std.specs.Prelude.{List, [], ◌∷◌, ◌++◌, length, Option, Some, None, Result, Ok, Err, if◌then◌else◌}
 use Rattle.std.specs.Prelude.{slice_get}
@@ -59,7 +65,7 @@ use Rattle.pm_machine.specs.Procedures.{parts, words_of_return}
 use Rattle.pm_machine.specs.Rows.{fetched}
 use Rattle.pm_machine.specs.State.{State}
 
--- so many bytes from an address on
+-- A range of bytes from an address on.
 pub record Stretch : Type 0 where
   pub start : ℕ
   pub bytes : ℕ
@@ -67,41 +73,41 @@ pub record Stretch : Type 0 where
 abbrev pub stretch : ℕ → ℕ → Stretch
 stretch a n = record { start = a; bytes = n }
 
--- n bytes that end before an address, or as many of them as stand there
+-- The `n` bytes before `end`, or all bytes before it if there are fewer.
 abbrev pub stretch_to : ℕ → ℕ → Stretch
 stretch_to end n = stretch (end - n) (min n end)
 
--- one of the n bytes from an address on belongs to a stretch: none of no bytes
+-- One of the `n` bytes from `a` on belongs to a range. If there are no bytes, none does.
 abbrev pub touches : ℕ → ℕ → Stretch → Bool
 touches a n s = nat_lt 0 n && (nat_lt 0 s.bytes && (nat_lt s.start (a + n) && nat_lt a (s.start + s.bytes)))
 
 -- ---- the stack
 
--- how many words a share is that begins at an address of the stack: of a set its count, and so many as that says
+-- The number of words of an operand that begins at an address of the stack. A set has its count and that many words.
 abbrev pub words_of : Share → List ℕ → ℕ → ℕ
 words_of (share.Words n) m sp = n
 words_of share.Set m sp = word_at m sp + 1
 
--- how many words are taken off a stack
+-- The number of words that are taken off the stack.
 abbrev pub words_taken : Effect → List ℕ → ℕ → ℕ
 words_taken e m sp = words_of e.top m sp + words_of e.below m (sp + 2 * words_of e.top m sp)
 
--- a row that takes words off the stack at SP puts n words there, which end where those ended that it took
+-- An instruction that takes words off the stack at SP pushes `n` words, which end at the end of the words taken.
 abbrev pub pushes : Effect → ℕ → List ℕ → ℕ → List Stretch
 pushes e n m sp = stretch_to (sp + 2 * words_taken e m sp) (2 * n) ∷ []
 
--- the words that a row leaves, by the table of effects; of a set that is not told there
+-- The words that an instruction leaves, by the table of effects. The words of a set are not defined there.
 abbrev pub pushes_words : Effect → List ℕ → ℕ → List Stretch
 pushes_words e m sp = pushes e (words_of e.leaves m sp) m sp
 
--- ---- rows on the stack
+-- ---- instructions on the stack
 
--- one word at an address, if there is one
+-- The word at an address, if there is one.
 abbrev pub word_stretch : Result ℕ ExecError → List Stretch
 word_stretch (Ok a) = stretch a 2 ∷ []
 word_stretch (Err e) = []
 
--- the sum of a base and the index above it, which stands at an address of the stack
+-- The sum of a base and an index, modulo 65,536. The index is at address `sp` of the stack and the base above it.
 abbrev pub place_on_stack : List ℕ → ℕ → ℕ
 place_on_stack m sp = (word_at m (sp + 2) + word_at m sp) % 65536
 
@@ -115,14 +121,14 @@ pointer_written (pointer.StoreWords n) m sp = stretch (word_at m (sp + 2 * n)) (
 pointer_written (pointer.Move b) m sp = stretch (word_at m (sp + 2)) (2 * b) ∷ []
 pointer_written o m sp = pushes_words (pointer_effect o) m sp
 
--- the words of the set on the top, and of the one below it, without their counts
+-- The number of words of the set on the top and of the set below it, without their counts.
 abbrev pub upper_words : List ℕ → ℕ → ℕ
 upper_words m sp = word_at m sp
 
 abbrev pub lower_words : List ℕ → ℕ → ℕ
 lower_words m sp = word_at m (sp + 2 * (word_at m sp + 1))
 
--- how many words a row on sets puts on the stack: a set with its count, or words alone
+-- The number of words that an instruction on sets pushes: a set with its count, or only words.
 abbrev pub set_words : Set → List ℕ → ℕ → ℕ
 set_words set.Member m sp = 1
 set_words set.Intersection m sp = 1 + min (lower_words m sp) (upper_words m sp)
@@ -133,16 +139,16 @@ set_words set.Subrange m sp =
     if int_lt (signed (word_at m sp)) (signed (word_at m (sp + 2))) then 1 else 2 + word_at m sp / 16
 set_words (set.Adjust n) m sp = n
 
--- the characters of a text that a word names: one, or as many as its length byte says
+-- The number of characters of the string or character that a word names: 1, or the length byte.
 abbrev pub text_length : List ℕ → ℕ → ℕ
 text_length m e = if nat_lt e 256 then 1 else byte_at m e
 
--- a comparison leaves its result; of real numbers there is none
+-- A comparison leaves its result. A comparison of real numbers has none.
 abbrev pub compare_written : Option Effect → List ℕ → ℕ → List Stretch
 compare_written None m sp = []
 compare_written (Some e) m sp = pushes_words e m sp
 
--- IXS leaves the stack as it is
+-- IXS leaves the stack unchanged.
 abbrev pub value_written : Value → List ℕ → ℕ → List Stretch
 value_written (value.Byte byte.Load) m sp = pushes_words (words 2 1) m sp
 value_written (value.Byte byte.Store) m sp = stretch (place_on_stack m (sp + 2)) 1 ∷ []
@@ -157,8 +163,8 @@ value_written (value.Compare r k) m sp = compare_written (compare_effect k) m sp
 
 -- ---- calls and returns
 
--- The frame of a call of the procedure with this table: its parameters, the six control words below them, and the old
--- BASE below those of a base call. Its other variables are not written.
+-- The frame of a call of the procedure with this table: its parameters, the six control words below them, and for a
+-- base call the saved BASE below those. Its other variables are not written.
 abbrev pub frame_stretch : Bool → ℕ → ℕ → Table → Stretch
 frame_stretch base loaded sp t =
     stretch_to (frame_top loaded sp t.parameters - t.locals) (kept_below base + (12 + t.parameters))
@@ -167,14 +173,14 @@ abbrev pub frame_written : Call → ℕ → ℕ → Result Table ExecError → L
 frame_written call loaded sp (Ok t) = frame_stretch (is_base call t.level) loaded sp t ∷ []
 frame_written call loaded sp (Err e) = []
 
--- a call in the segment that was reached: its code, where it is loaded, ends at SP
+-- A call in the segment that was reached. Its loaded code, if any, ends at SP.
 abbrev pub reached_written : Call → ℕ → Result Reached ExecError → List Stretch
 reached_written call sp (Ok at) =
     stretch_to sp at.loaded
     ∷ frame_written call at.loaded sp (attributes at.memory at.place (procedure_called call))
 reached_written call sp (Err e) = []
 
--- the segment that a call of slot n reaches: one that has a place stands there, of another the code is loaded
+-- The segment that a call of slot `n` reaches. A segment with an address is in memory; otherwise its code is loaded.
 abbrev pub slot_reached : ℕ → Parts → Option (Option SegmentPlace) → Result (Option (List ℕ)) ExecError
     → Result Reached ExecError
 slot_reached n c (Some (Some p)) code = reach_standing c n p
@@ -183,7 +189,7 @@ slot_reached n c (Some None) (Ok None) = Err NoSegment
 slot_reached n c (Some None) (Err e) = Err e
 slot_reached n c None code = Err NoSegment
 
--- the segment that a call reaches
+-- The segment that a call reaches.
 abbrev pub call_reached : Call → State → Result Reached ExecError
 call_reached (Cxp n p) s =
     slot_reached n (parts s) (slice_get s.places n) (code_needed (Cxp n p) s.places s.rows s.devices)
@@ -192,28 +198,28 @@ call_reached call s = Ok (here (parts s))
 abbrev pub call_written : Call → State → List Stretch
 call_written call s = reached_written call s.registers.sp (call_reached call s)
 
--- the words of a result go below the SP that the frame keeps
+-- The words of a result end at the SP that the frame contains.
 abbrev pub return_written : ℕ → List ℕ → ℕ → List Stretch
 return_written n m mp = stretch_to (word_at m (mp + 10)) (2 * n) ∷ []
 
 -- ---- EXIT
 
--- How many frames are left besides the running procedure: none where that is the wanted one, and else those from the
--- frame at a on up to the last one.
+-- The number of frames that are left in addition to the running procedure. It is 0 if the running procedure is the
+-- requested one. Otherwise they are those from the frame at `a` up to the last one.
 abbrev pub frames_left : Bool → List ℕ → Wanted → ℕ → Result ℕ ExecError
 frames_left here m p a = if here then Ok 0 else (last_frame m p a >>= λ k. Ok (k + 1))
 
--- how many frames an EXIT leaves
+-- The number of frames that an EXIT leaves.
 abbrev pub left_by_exit : Parts → Wanted → Result ℕ ExecError
 left_by_exit c p = do
   here ← is_wanted c.memory p c.registers.seg c.registers.jtab
   frames_left here c.memory p c.registers.mp
 
--- where the frame i callers up from the frame at a keeps IPC
+-- The address of the saved IPC in the frame that is `i` callers up from the frame at `a`.
 abbrev pub ip_kept : List ℕ → ℕ → ℕ → ℕ
 ip_kept m a i = (frame_up m a i + 8) % 65536
 
--- the words in which the first n frames from the one at a on keep IPC
+-- The words with the saved IPC in the first `n` frames from the frame at `a` on.
 unfoldable pub ips_written : List ℕ → ℕ → ℕ → List Stretch
 ips_written m a zero = []
 ips_written m a (suc i) = stretch (ip_kept m a i) 2 ∷ ips_written m a i
@@ -222,7 +228,7 @@ abbrev pub frames_written : List ℕ → ℕ → Result ℕ ExecError → List S
 frames_written m a (Ok n) = ips_written m a n
 frames_written m a (Err e) = []
 
--- the procedure that an EXIT names: its number is on the top, and that of its segment below
+-- The procedure that an EXIT requests. Its number is on the top and the number of its segment below it.
 abbrev pub wanted_at : List ℕ → ℕ → Wanted
 wanted_at m sp = record { segment = word_at m (sp + 2); procedure = word_at m sp }
 
@@ -232,7 +238,7 @@ exit_written s =
 
 -- ---- standard procedures
 
--- so many bytes from a place on, where the count is above 0 as a signed number
+-- The `count` bytes from `place` on. A count that is not above 0 as a signed number has no bytes.
 abbrev pub counted_stretch : ℕ → ℕ → List Stretch
 counted_stretch place count = if is_positive count then stretch place count ∷ [] else []
 
@@ -249,7 +255,7 @@ memory_written memory.CheckIo m sp = []
 memory_written memory.Release m sp = []
 memory_written memory.Halt m sp = []
 
--- the place of a transfer, with as many bytes as it counts
+-- The memory of a transfer.
 abbrev pub transfer_stretch : List ℕ → ℕ → Stretch
 transfer_stretch m sp = stretch (place_on_stack m (sp + 6)) (word_at m (sp + 4))
 
@@ -261,7 +267,7 @@ units_written units.Write m sp = []
 units_written units.Wait m sp = []
 units_written units.Clear m sp = []
 
--- the code of a segment that is loaded ends at SP, once its number is taken
+-- The code of a loaded segment ends at SP after the slot number is taken off the stack.
 abbrev pub kept_written : ℕ → Result (Option (List ℕ)) ExecError → List Stretch
 kept_written sp (Ok (Some code)) = stretch_to (sp + 2) (length code) ∷ []
 kept_written sp (Ok None) = []
@@ -296,10 +302,10 @@ abbrev pub instruction_written : Result Instr ExecError → State → List Stret
 instruction_written (Ok i) s = operation_written (operation_of i) s
 instruction_written (Err e) s = []
 
--- what the instruction at IPC writes
+-- What the instruction at IPC writes.
 unfoldable pub written : State → List Stretch
 written s = instruction_written (fetched s.memory s.registers.ipc) s
 
--- the instruction at IPC writes one of n bytes from an address on
+-- The instruction at IPC writes one of `n` bytes from `a` on.
 abbrev pub writes : ℕ → ℕ → State → Bool
 writes a n s = list_any (touches a n) (written s)

@@ -22,7 +22,7 @@ use pm_words::layout::{HEAP, SYSTEM_FRAME};
 use pm_words::{ExecError, Memory};
 use std::alloc::{AllocError, Global};
 
-/// What a machine begins with, but for its units.
+/// The parts of a machine at its start, without its units.
 #[derive(Drop)]
 pub struct Begun {
     pub memory: Box<Memory>,
@@ -32,7 +32,7 @@ pub struct Begun {
     pub rows: SlotRows,
 }
 
-// The volume on a disk unit.
+// Returns the volume on a disk unit, or `None` if there is none.
 #[tactic(auto, unfolding(crate::specs::Boot::image_of))]
 fn volume_on(volumes: &[Option<Volume>; 6], unit: u8) -> Option<&Volume>
     ensures volume { option_map (λ volume. volume.now) result ≡ image_of volumes.now unit }
@@ -43,7 +43,15 @@ fn volume_on(volumes: &[Option<Volume>; 6], unit: u8) -> Option<&Volume>
     }
 }
 
-// The code file of a name, with its entry.
+// Returns the code file with this name and its directory entry.
+//
+// # Errors
+//
+// Checked in this order:
+//
+// - `NoFile`: the unit is not a disk unit or has no volume, or the volume has no file of this name.
+// - `NotCode`: the file is not a code file by its kind.
+// - `BadCode`: the code file is not valid, or it has no segment 1.
 #[tactic(auto, unfolding(crate::specs::Boot::code_file))]
 fn code_file<'a>(
     volumes: &'a [Option<Volume>; 6],
@@ -74,7 +82,7 @@ fn code_file<'a>(
     Ok((entry, file))
 }
 
-// Where the code of a slot stands on the disk.
+// Returns the location of the code of a slot on the disk. `first` is the first block of the code file.
 fn row_of(unit: u8, first: u16, file: &CodeFile<'_>, n: u8) -> SlotRow
     ensures row { result ≡ row_of unit first (slot_in file.now n) }
     ensures even { result.length % 2 ≡ 0 }
@@ -93,7 +101,7 @@ fn row_of(unit: u8, first: u16, file: &CodeFile<'_>, n: u8) -> SlotRow
     }
 }
 
-// Where the code of each slot stands on the disk.
+// Returns the location of the code of each slot on the disk.
 fn rows_of(unit: u8, first: u16, file: &CodeFile<'_>) -> SlotRows
     ensures rows { result ≡ rows_below unit first file.now 16 }
 {
@@ -104,7 +112,7 @@ fn rows_of(unit: u8, first: u16, file: &CodeFile<'_>) -> SlotRows
     SlotRows::of(rows)
 }
 
-// What a machine has before its first call.
+// Creates the parts of a machine before its first call.
 #[tactic(auto, unfolding(crate::specs::Boot::first_parts, crate::specs::Agreeing::InStep), using(pm_calls::proofs::TableLaws::carry))]
 fn start(alloc: Global) -> Result<Begun, AllocError>
     ensures parts { IfOk result (λ b. parts_of b ≡ first_parts) }
@@ -150,7 +158,7 @@ fn first_call(start: &mut Begun, code: Option<&[u8]>) -> Result<(), ExecError>
     )
 }
 
-/// Begins the program of a name on the volume of a unit.
+/// Starts the program with this name on the volume of a unit.
 #[tactic(auto, unfolding(crate::specs::Boot::begun))]
 pub fn begin(
     alloc: Global,

@@ -1,4 +1,4 @@
-//! Where a machine or a frame stands in the code.
+//! The position of a machine or of a frame in the code.
 
 ghost use Rattle.std.specs.Prelude.{◌≡◌};
 ghost use Rattle.pm_machine.specs.CodePlaces.{place_at, place_in_code};
@@ -6,19 +6,19 @@ ghost use Rattle.pm_machine.specs.CodePlaces.{place_at, place_in_code};
 use crate::machine::Machine;
 use pm_words::Memory;
 
-/// A place in the code: the numbers of a segment and a procedure, and the distance in bytes from where the procedure is
-/// entered.
+/// A position in the code.
 #[derive(Clone, Copy, Default)]
 pub struct CodePlace {
-    /// The segment's number, the low byte of its highest word.
+    /// The number of the segment: the low byte of its highest word.
     pub segment: u8,
-    /// The procedure's number, the low byte of the highest word of its table.
+    /// The number of the procedure: the low byte of the highest word of its table.
     pub procedure: u8,
-    /// IPC less the place where the procedure is entered.
+    /// IPC less the entry address of the procedure, in bytes, modulo 65,536.
     pub offset: u16,
 }
 
-/// A place in the code, by the SEG, the JTAB and the IPC of a machine or of a frame; none where SEG or JTAB is odd.
+/// Returns the position in the code for the SEG, JTAB and IPC of a machine or of a frame. Returns `None` if SEG or JTAB
+/// is odd.
 #[tactic(auto, unfolding(crate::specs::CodePlaces::place_at))]
 pub fn place_at(memory: &Memory, seg: u16, jtab: u16, ipc: u16) -> Option<CodePlace>
     ensures place { result ≡ place_at memory.now.words seg jtab ipc }
@@ -34,7 +34,7 @@ pub fn place_at(memory: &Memory, seg: u16, jtab: u16, ipc: u16) -> Option<CodePl
     })
 }
 
-/// Where a machine stands in the code; nowhere where SEG or JTAB is odd.
+/// Returns the position of a machine in the code, or `None` if SEG or JTAB is odd.
 pub fn place_in_code(machine: &Machine) -> Option<CodePlace>
     ensures place { result ≡ place_in_code machine.now.state }
 {

@@ -7,7 +7,7 @@ use crate::state::Status;
 use pm_families::Return;
 use pm_words::layout::SYSTEM_FRAME;
 
-/// How many words a return takes along, and whether it puts back BASE.
+/// Returns the number of words of the result of a return, and whether it restores BASE.
 pub fn parts_of_return(operation: Return) -> (u8, bool)
     ensures words { result.0 ≡ words_of_return operation }
     ensures base { result.1 ≡ is_base_return operation }
@@ -18,7 +18,7 @@ pub fn parts_of_return(operation: Return) -> (u8, bool)
     }
 }
 
-/// A return to the frame of the system ends the program.
+/// Returns the status after a return. A return to the system's frame ends the program.
 pub fn status_after(mp: u16, now: Status) -> Status
     ensures status { result ≡ status_after mp now }
 {

@@ -1,4 +1,4 @@
-//! The machine's plain parts.
+//! The plain parts of the machine.
 
 ghost use Rattle.std.specs.Prelude.{◌≡◌};
 ghost use Rattle.pm_machine.specs.Faults.{boot_number};
@@ -7,42 +7,42 @@ use pm_words::ExecError;
 use std::alloc::AllocError;
 use thiserror::Error;
 
-/// Whether the machine goes on.
+/// Whether the machine continues.
 #[derive(Clone, Copy, Debug, PartialEq, Eq)]
 pub enum Status {
     /// The next step is an instruction.
     Running,
-    /// The program has come to its end.
+    /// The program has ended.
     Ended,
     /// An execution error has stopped the machine.
     Halted(ExecError),
 }
 
-/// What a step answers.
+/// The answer of a step.
 #[derive(Clone, Copy, Debug, PartialEq, Eq)]
 pub enum Stop {
-    /// The machine goes on.
+    /// The step succeeded, and the machine continues.
     Went,
-    /// The instruction waits for console bytes; nothing has changed.
+    /// The instruction waits for console bytes. Nothing has changed.
     Waiting,
-    /// The program has come to its end.
+    /// The program has ended.
     Ended,
-    /// An execution error has stopped the machine, which stands as before the instruction.
+    /// An execution error has stopped the machine. Its state is that before the instruction.
     Halted(ExecError),
 }
 
-/// Why a run made no step more.
+/// The reason of the end of a run.
 #[derive(Clone, Copy, Debug, PartialEq, Eq)]
 pub enum RunEnd {
-    /// It made as many steps as it may.
+    /// It has executed its maximum number of steps.
     Limit,
     /// Its test stopped it before a step.
     Stopped,
-    /// A step did not answer `Went`.
+    /// A step had another answer than `Went`.
     Answered(Stop),
 }
 
-/// Why no machine starts.
+/// The reason why a machine cannot be created.
 #[derive(Clone, Copy, Debug, Drop, Error)]
 pub enum BootFault {
     /// 1: there is no volume, or no such file on it.
@@ -51,19 +51,19 @@ pub enum BootFault {
     /// 2: the file is no code file.
     #[error("not a code file")]
     NotCode,
-    /// 3: the code file cannot be read or has no segment 1; bare code is too long.
+    /// 3: the code file cannot be read or has no segment 1, or bare code is too long.
     #[error("bad code file")]
     BadCode,
     /// 4: the call of the first procedure fails.
     #[error("execution error at the first call")]
     Exec(ExecError),
-    /// 5: there is no memory for the machine.
+    /// 5: out of memory.
     #[error("out of memory")]
     NoMemory,
 }
 
 impl BootFault {
-    /// The fault's number, as the program prints it.
+    /// Returns the number of the fault, as the program prints it.
     pub fn number(self) -> u8
         ensures value { result ≡ boot_number self }
     {

@@ -6,7 +6,7 @@ use Rattle.std.proofs.lemmas.Bool.Decides.{nat_tests}
 use Rattle.pm_notes.specs.Names.{is_digit}
 use Rattle.pm_session.specs.Commands.{number_and_numbers, word_number, number_behind, numbers}
 
--- a number that is too large stays so
+-- A number that is too large remains too large.
 number_large : (n : ℕ) (word : List ℕ) → 4294967295 < n → number_behind n word ≡ None
 unfolding number_behind
 number_large n [] h =
@@ -33,7 +33,7 @@ number_end n h =
     rw below refl
 
 module _ (whole : Option ℕ) (n : ℕ) (rest : List ℕ) (h : whole ≡ number_behind n rest) where
-  -- no byte is left
+  -- No byte is left.
   pub number_is : length rest ≡ 0 → n ≤ 4294967295 → whole ≡ Some n
   number_is none le = h ∙ at rest none
     where
@@ -53,7 +53,7 @@ module _ (whole : Option ℕ) (n : ℕ) (rest : List ℕ) (h : whole ≡ number_
 
 -- ---- words that are numbers
 
--- numbers that stand before others
+-- Numbers before others.
 abbrev pub behind : List ℕ → Option (List ℕ) → Option (List ℕ)
 behind front (Some ns) = Some (front ++ ns)
 behind front None = None

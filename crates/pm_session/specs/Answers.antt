@@ -1,4 +1,4 @@
--- What a debugger answers to a command, and what a command does.
+-- The answers of a debugger to commands, and the effects of the commands.
 use Rattle.std.specs.Prelude.{ℕ, List, [], ◌∷◌, ◌++◌, Option, Some, None, Result, Ok, Err, if◌then◌else◌, codes}
 use Rattle.std.specs.Fmt.{decimal}
 use Rattle.pm_words.specs.Stack.{is_even}
@@ -33,7 +33,7 @@ use Rattle.pm_session.specs.Orders.Order.{Does, Types}
 use Rattle.pm_session.specs.Texts.{chain_text, numbers_text, refused_text}
 use Rattle.pm_session.specs.Views.{view_text}
 
--- done, or refused
+-- The answer to a command that only succeeds or is refused.
 abbrev pub done_text : {A : Type 0} → Result A DebugRefusal → List ℕ
 done_text (Ok x) = codes "ok"
 done_text (Err refusal) = refused_text refusal
@@ -42,14 +42,15 @@ abbrev pub word_text : Result ℕ DebugRefusal → List ℕ
 word_text (Ok word) = decimal word
 word_text (Err refusal) = refused_text refusal
 
--- where the segment of a slot stands, for how many calls, and how many times the program keeps it; `none` where it
--- stands nowhere
+-- The address of the segment of a slot, the number of its calls, and how many times the program keeps it. It is `none`
+-- if the segment is not in memory.
 abbrev pub place_text : Option (ℕ × ℕ) → Option ℕ → List ℕ
 place_text (Some at) (Some keeps) = numbers_text (at.0 ∷ at.1 ∷ keeps ∷ [])
 place_text (Some at) None = codes "none"
 place_text None keeps = codes "none"
 
--- as the last line of a trace, of the steps of this run alone; behind them of a changed word its address
+-- The answer to a run has the form of the last line of a trace and counts only the steps of this run. After a changed
+-- word the address of the word follows.
 abbrev pub gone_text : BreakReason → ℕ → List ℕ
 gone_text (reasons.Changed address) steps = codes "changed " ++ (decimal steps ++ (32 ∷ decimal address))
 gone_text reasons.Break steps = codes "break " ++ decimal steps
@@ -59,25 +60,25 @@ gone_text reasons.Waiting steps = last_line endings.Waiting steps
 gone_text reasons.Ended steps = last_line endings.Ended steps
 gone_text (reasons.Halted error) steps = last_line (endings.Error error) steps
 
--- a run that ended so
+-- The run with these steps and this reason, and the state `s`.
 abbrev pub ran_to : ℕ → BreakReason → State → Gone
 ran_to steps reason s = record { steps = steps; reason = reason; machine = s }
 
--- a run that goes so far, of at most so many steps, behind the breakpoints that it passes over
+-- A run to `depth` of at most `most` steps, after the breakpoints that it passes over.
 abbrev pub passing : Session → Depth → ℕ → Gone → Passed
 passing d depth most run = all_passed d.breaks most d.passes (left_of depth d.watches d.machine run) run
 
--- and so the rest of the last run, of at most so many steps more
+-- The same for the continuation of the last run, for at most `n` more steps.
 abbrev pub passing_on : Session → ℕ → Option Gone → Option Passed
 passing_on d n (Some run) =
     Some (all_passed d.breaks (most_on d.left n) d.passes (left_on d.breaks d.left n d.machine) run)
 passing_on d n None = None
 
--- what a run is answered by
+-- The answer to a run.
 abbrev pub run_text : Passed → Option (List ℕ)
 run_text p = Some (gone_text p.run.reason p.run.steps)
 
--- of a run that goes on the steps of the whole, or that there is none
+-- The answer to a continued run: the steps of the whole run, or the refusal if there is no run to continue.
 abbrev pub on_text : Option Passed → List ℕ
 on_text (Some p) = gone_text p.run.reason p.run.steps
 on_text None = refused_text NothingLeft
@@ -89,7 +90,7 @@ registers_text r =
     ++ (codes " MP " ++ (decimal r.mp ++ (codes " BASE "
     ++ (decimal r.base ++ (codes " NP " ++ (decimal r.np ++ (codes " IO " ++ decimal r.ioresult))))))))))))))
 
--- what is answered to a command, without a line feed; `quit` ends the session unanswered
+-- The answer to a command, without a line feed. `quit` ends the session and has no answer.
 unfoldable pub command_text : Command → Session → Option (List ℕ)
 command_text (commands.Break s p o condition) d =
     Some (done_text (with_break (breakpoint (Code (code_place s p o)) condition) d.breaks))
@@ -121,33 +122,34 @@ command_text commands.Trace d = Some (trace_line d.machine)
 command_text (commands.Show view) d = Some (view_text view d)
 command_text commands.Quit d = None
 
--- the breakpoints after one was set or taken away; a refusal leaves them
+-- The session after a breakpoint was set or removed. A refusal leaves it unchanged.
 abbrev pub with_breaks : Session → Result (List Breakpoint) DebugRefusal → Session
 with_breaks d (Ok breaks) = record d { breaks = breaks }
 with_breaks d (Err refusal) = d
 
--- the watched words after one was added or taken away, when nothing is left of the last run; a refusal leaves them
+-- The session after a watched word was set or removed. The last run cannot be continued then. A refusal leaves the
+-- session unchanged.
 abbrev pub with_watches : Session → Result (List ℕ) DebugRefusal → Session
 with_watches d (Ok watches) = record d { watches = watches; left = Nothing }
 with_watches d (Err refusal) = d
 
--- the debugger after a run that goes so far
+-- The session after a run to `depth`.
 abbrev pub after_run : Session → Depth → Gone → Session
 after_run d depth run = record d {
   machine = run.machine;
   left = left_after depth d.watches d.machine run.steps run.reason;
 }
 
--- the debugger after a run that has passed over breakpoints
+-- The session after a run that has passed over breakpoints.
 abbrev pub after_passing : Session → Passed → Session
 after_passing d p = record d { machine = p.run.machine; left = p.left; passes = p.passes }
 
--- the debugger after a run that goes on; it is as it was where there is none
+-- The session after a continued run. It is unchanged if there is no run to continue.
 abbrev pub after_on : Session → Option Passed → Session
 after_on d (Some p) = after_passing d p
 after_on d None = d
 
--- the debugger after a command; those that are not named here only show it, or end the session
+-- The session after a command. Commands that are not listed here only show it, or end it.
 unfoldable pub after_command : Command → Session → Session
 after_command (commands.Break s p o condition) d =
     with_breaks d (with_break (breakpoint (Code (code_place s p o)) condition) d.breaks)
@@ -171,12 +173,12 @@ after_command (commands.On n) d = after_on d (passing_on d n (gone_on d.breaks d
 after_command (commands.Ignore k) d = record d { passes = k }
 after_command other d = d
 
--- the debugger after bytes that wait on the console, as `key` lets each wait
+-- The session after bytes were appended to the console input queue, each as by `key`.
 abbrev pub after_keys : List ℕ → Session → Session
 after_keys [] d = d
 after_keys (b ∷ bytes) d = after_keys bytes (after_command (commands.Key b) d)
 
--- what is answered to a line, without a line feed; to one that asks for nothing `?`
+-- The answer to a line, without a line feed. The answer to an invalid line is `?`.
 abbrev pub answer_text : Option Order → Session → Option (List ℕ)
 answer_text None d = Some (codes "?")
 answer_text (Some (Does command)) d = command_text command d

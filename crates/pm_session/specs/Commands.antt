@@ -1,4 +1,4 @@
--- The commands of a debugger's line.
+-- The commands of the debugger.
 use Rattle.std.specs.Prelude.{ℕ, zero, suc, ◌+◌, ◌-◌, ◌*◌, ◌^◌, ◌==◌, ◌&&◌, ◌||◌, List, [], ◌∷◌, Option, Some, None}
 use Rattle.std.specs.Prelude.{option_map, if◌then◌else◌, length, nat_le, nat_lt, codes, true, false}
 use Rattle.std.specs.Char.{is_ascii_hexdigit}
@@ -17,23 +17,24 @@ use Rattle.pm_session.specs.Words.{without_return, words_of_line}
 
 -- ---- numbers
 
--- the number that decimal digits alone write behind those of n, below 2 ^ 32; there is none where another byte stands
+-- The number that decimal digits write after those of `n`, if it is below 2 ^ 32. There is none if another byte is in
+-- the word.
 unfoldable pub number_behind : ℕ → List ℕ → Option ℕ
 number_behind n [] = if nat_lt n (2 ^ 32) then Some n else None
 number_behind n (c ∷ word) = if is_digit c then number_behind (10 * n + (c - 48)) word else None
 
--- the number that decimal digits are
+-- The number of decimal digits.
 abbrev pub decimal_number : List ℕ → Option ℕ
 decimal_number word = number_behind 0 word
 
--- the number that one to four hexadecimal digits are, of both cases
+-- The number of one to four hexadecimal digits, in upper or lower case.
 abbrev pub hexadecimal_number : List ℕ → Option ℕ
 hexadecimal_number digits =
     if nat_le 1 (length digits) && (nat_le (length digits) 4 && list_all is_ascii_hexdigit digits)
     then Some (digits_value 16 digits)
     else None
 
--- the number that a word is: decimal digits, or `$` and hexadecimal ones
+-- The number of a word: decimal digits, or `$` and hexadecimal digits.
 abbrev pub word_number : List ℕ → Option ℕ
 word_number [] = decimal_number []
 word_number (c ∷ word) = if c == 36 then hexadecimal_number word else decimal_number (c ∷ word)
@@ -43,47 +44,47 @@ number_and_numbers (Some n) (Some ns) = Some (n ∷ ns)
 number_and_numbers (Some n) None = None
 number_and_numbers None ns = None
 
--- the numbers that words are, at most so many; there are none where a word is no number
+-- The numbers of words, at most `most`. There are none if a word is no number.
 unfoldable pub numbers : ℕ → List (List ℕ) → Option (List ℕ)
 numbers most [] = Some []
 numbers zero (word ∷ words) = None
 numbers (suc most) (word ∷ words) = number_and_numbers (word_number word) (numbers most words)
 
--- a number up to this one
+-- The number `n` if it is at most `most`.
 abbrev pub number_up_to : ℕ → ℕ → Option ℕ
 number_up_to most n = if nat_le n most then Some n else None
 
 -- ---- commands
 
--- what the numbers behind a command's word come to, by how many there are
+-- The command for the list of numbers after a command's name.
 abbrev pub Reading : Type 0
 Reading = List ℕ → Option Command
 
--- no number
+-- No number.
 abbrev pub alone : Command → Reading
 alone command [] = Some command
 alone command (n ∷ more) = None
 
--- one number up to this one
+-- One number, at most `most`.
 abbrev pub one : ℕ → (ℕ → Command) → Reading
 one most command [] = None
 one most command (n ∷ []) = option_map command (number_up_to most n)
 one most command (n ∷ m ∷ more) = None
 
--- one number up to this one, which stands for none as well
+-- One number, at most `most`, which is also the default.
 abbrev pub most_or : ℕ → (ℕ → Command) → Reading
 most_or most command [] = Some (command most)
 most_or most command (n ∷ []) = option_map command (number_up_to most n)
 most_or most command (n ∷ m ∷ more) = None
 
--- two words of 16 bits
+-- Two 16-bit words.
 abbrev pub two : (ℕ → ℕ → Command) → Reading
 two command [] = None
 two command (a ∷ []) = None
 two command (a ∷ b ∷ []) = if nat_le a 65535 && nat_le b 65535 then Some (command a b) else None
 two command (a ∷ b ∷ n ∷ more) = None
 
--- a segment, a procedure and an offset
+-- A segment, a procedure and an offset.
 abbrev pub point : (ℕ → ℕ → ℕ → Command) → Reading
 point command [] = None
 point command (s ∷ []) = None
@@ -92,7 +93,7 @@ point command (s ∷ p ∷ o ∷ []) =
     if nat_le s 255 && (nat_le p 255 && nat_le o 65535) then Some (command s p o) else None
 point command (s ∷ p ∷ o ∷ n ∷ more) = None
 
--- a segment, a procedure and an offset, and a number up to this one, which stands for none as well
+-- A segment, a procedure, an offset, and a number, at most `most`, which is also the default.
 abbrev pub point_or : ℕ → (ℕ → ℕ → ℕ → ℕ → Command) → Reading
 point_or most command [] = None
 point_or most command (s ∷ []) = None
@@ -103,7 +104,7 @@ point_or most command (s ∷ p ∷ o ∷ n ∷ []) =
     if nat_le s 255 && (nat_le p 255 && (nat_le o 65535 && nat_le n most)) then Some (command s p o n) else None
 point_or most command (s ∷ p ∷ o ∷ n ∷ m ∷ more) = None
 
--- the commands, a row for each: its word, its numbers by the letters that stand for them, and what these come to
+-- The table of the commands: the name, the letters of its numbers, and the command for the numbers.
 unfoldable pub command_rows : List (List ℕ × List ℕ × Reading)
 command_rows =
     (codes "break", codes " S P O", point (λ s p o. commands.Break s p o None))
@@ -139,84 +140,84 @@ command_rows =
     ∷ (codes "quit", [], alone commands.Quit)
     ∷ []
 
--- the command of a word and its numbers, by the first row that has the word
+-- The command of a word and its numbers, by the first table row with this word.
 abbrev pub command_in : List (List ℕ × List ℕ × Reading) → List ℕ → List ℕ → Option Command
 command_in [] word ns = None
 command_in (row ∷ rows) word ns = if bytes_eq word row.0 then row.2 ns else command_in rows word ns
 
--- the commands that have a word in the place of numbers: both words, and the command
+-- The table of the commands that have a word instead of numbers: both words, and the command.
 unfoldable pub setting_rows : List (List ℕ × List ℕ × Command)
 setting_rows =
     (codes "console", codes "on", commands.ShowConsole true)
     ∷ (codes "console", codes "off", commands.ShowConsole false)
     ∷ []
 
--- the command of two words, by the row that has both
+-- The command of two words, by the table row with both.
 abbrev pub setting_in : List (List ℕ × List ℕ × Command) → List ℕ → List ℕ → Option Command
 setting_in [] word value = None
 setting_in (row ∷ rows) word value =
     if bytes_eq word row.0 && bytes_eq value row.1 then Some row.2 else setting_in rows word value
 
--- the command of a word and one word behind it
+-- The command of a word and one word after it.
 abbrev pub setting_with : List ℕ → List (List ℕ) → Option Command
 setting_with word [] = None
 setting_with word (value ∷ []) = setting_in setting_rows word value
 setting_with word (value ∷ next ∷ more) = None
 
--- the command of a breakpoint with a condition, by its numbers: a segment, a procedure and an offset, the address of a
--- word, and what it is to be
+-- The command that sets a breakpoint with a condition. The numbers are segment, procedure, offset, the address of the
+-- condition, and its word.
 abbrev pub conditional_break : Option ℕ → Option ℕ → Option ℕ → Option ℕ → Option ℕ → Option Command
 conditional_break (Some s) (Some p) (Some o) (Some a) (Some w) =
     if nat_le s 255 && (nat_le p 255 && (nat_le o 65535 && (nat_le a 65535 && nat_le w 65535)))
     then Some (commands.Break s p o (Some (word_is a w))) else None
 conditional_break s p o a w = None
 
--- the command of words behind `break`: three numbers, `if`, a number, `=`, and a number
+-- The command of the words after `break`: three numbers, `if`, a number, `=`, and a number.
 abbrev pub conditional : List (List ℕ) → Option Command
 conditional (s ∷ p ∷ o ∷ mark ∷ a ∷ sign ∷ w ∷ []) =
     if bytes_eq mark (codes "if") && bytes_eq sign (codes "=")
     then conditional_break (word_number s) (word_number p) (word_number o) (word_number a) (word_number w) else None
 conditional other = None
 
--- the words that a step `reads` or `writes`: the address of the first, and how many
+-- The words of `reads` or `writes`: the address of the first and the number of words.
 abbrev pub words_named : List ℕ → ℕ → ℕ → Option Spot
 words_named word a n =
     if bytes_eq word (codes "reads") then Some (Reads a n)
     else if bytes_eq word (codes "writes") then Some (Writes a n)
     else None
 
--- a breakpoint there, with a condition
+-- The command that sets a breakpoint at a spot, with a condition.
 abbrev pub break_if : Option Condition → Option Spot → Option Command
 break_if condition None = None
 break_if condition (Some spot) = Some (commands.BreakOn spot condition)
 
--- the command of a breakpoint on words with a condition, by its numbers: the address of the first word, how many, the
--- address of a word, and what it is to be
+-- The command that sets a breakpoint on words with a condition. The numbers are the address of the first word, the
+-- number of words, the address of the condition, and its word.
 abbrev pub conditional_words_of : List ℕ → Option ℕ → Option ℕ → Option ℕ → Option ℕ → Option Command
 conditional_words_of word (Some a) (Some n) (Some b) (Some w) =
     if nat_le a 65535 && (nat_le n 65535 && (nat_le b 65535 && nat_le w 65535))
     then break_if (Some (word_is b w)) (words_named word a n) else None
 conditional_words_of word a n b w = None
 
--- the command of `reads` or `writes` and the words behind it: two numbers, `if`, a number, `=`, and a number
+-- The command of `reads` or `writes` and the words after it: two numbers, `if`, a number, `=`, and a number.
 abbrev pub conditional_words : List ℕ → List (List ℕ) → Option Command
 conditional_words word (a ∷ n ∷ mark ∷ b ∷ sign ∷ w ∷ []) =
     if bytes_eq mark (codes "if") && bytes_eq sign (codes "=")
     then conditional_words_of word (word_number a) (word_number n) (word_number b) (word_number w) else None
 conditional_words word other = None
 
--- the command that takes a breakpoint on words away, by the address of the first and how many
+-- The command that removes a breakpoint on words, by the address of the first word and the number of words.
 abbrev pub clear_words_of : List ℕ → Option ℕ → Option ℕ → Option Command
 clear_words_of word (Some a) (Some n) =
     if nat_le a 65535 && nat_le n 65535 then option_map commands.ClearOn (words_named word a n) else None
 clear_words_of word a n = None
 
--- the command of words behind `clear`: `reads` or `writes`, and two numbers
+-- The command of the words after `clear`: `reads` or `writes`, and two numbers.
 abbrev pub clear_words : List (List ℕ) → Option Command
 clear_words (word ∷ a ∷ n ∷ []) = clear_words_of word (word_number a) (word_number n)
 clear_words other = None
 
--- the command of a word and others behind it, of which one is no number
+-- The command of a word and others after it that are not all numbers.
 abbrev pub with_words : List ℕ → List (List ℕ) → Option Command
 with_words word words =
     if bytes_eq word (codes "break") then conditional words
@@ -228,11 +229,11 @@ abbrev pub command_with : List ℕ → List (List ℕ) → Option (List ℕ) →
 command_with word words None = with_words word words
 command_with word words (Some ns) = command_in command_rows word ns
 
--- a word and at most four numbers, or words of which one is none
+-- The command of a word and at most four numbers, or of words that are not all numbers.
 abbrev pub in_words : List (List ℕ) → Option Command
 in_words [] = None
 in_words (word ∷ words) = command_with word words (numbers 4 words)
 
--- the command that a line is, without its line feed; a carriage return at its end is no part of it
+-- The command of a line without its line feed. A carriage return at its end is not part of it.
 unfoldable pub command_of : List ℕ → Option Command
 command_of line = in_words (words_of_line (without_return line))

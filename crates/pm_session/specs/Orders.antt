@@ -1,4 +1,4 @@
--- What a line of the debugger asks for.
+-- The order of a line of the debugger.
 use Rattle.std.specs.Prelude.{ℕ, List, reverse, Option, Some, None, option_map, codes}
 use Rattle.std.specs.Option.{option_and_then}
 use Rattle.pm_disasm.specs.Shown.{cut}
@@ -8,16 +8,17 @@ use Rattle.pm_session.specs.declared.commands.Command.{Command}
 use Rattle.pm_session.specs.Commands.{command_of}
 use Rattle.pm_session.specs.Words.{without_return}
 
--- a command, or that bytes wait on the console
+-- A command, or bytes for the console input queue.
 pub data Order : Type 0 where
   Does : Command → Order
   Types : List ℕ → Order
 
--- without the spaces at both ends
+-- The text without the spaces at both ends.
 abbrev pub between_spaces : List ℕ → List ℕ
 between_spaces cs = reverse (cut (reverse (cut cs)))
 
--- the bytes that a line lets wait: behind `type` and one space or more a text as the assembler spells it
+-- The bytes that a `type` line appends to the console input queue: a string in the form of the assembler, after `type`
+-- and at least one space.
 unfoldable pub typed : List ℕ → Option (List ℕ)
 typed line =
     option_and_then (λ text. text_operand (between_spaces text)) (behind (codes "type ") (cut (without_return line)))
@@ -26,6 +27,6 @@ abbrev pub typed_or : Option (List ℕ) → Option Command → Option Order
 typed_or (Some bytes) command = Some (Types bytes)
 typed_or None command = option_map Does command
 
--- what a line asks for, without its line feed
+-- The order of a line without its line feed.
 abbrev pub order_of : List ℕ → Option Order
 order_of line = typed_or (typed line) (command_of line)

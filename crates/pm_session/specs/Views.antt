@@ -1,5 +1,5 @@
--- What the commands answer that show the memory, the code, the breakpoints, the watched words, the frames, the console
--- and the commands.
+-- The answers of the commands that show the memory, the code, the breakpoints, the watched words, the frames, the
+-- console and the commands.
 use Rattle.std.specs.Prelude.{ℕ, zero, suc, ◌+◌, ◌/◌, ◌%◌, ◌&&◌, nat_le, List, [], ◌∷◌, ◌++◌, map, Option, Some, None}
 use Rattle.std.specs.Prelude.{if◌then◌else◌, codes}
 use Rattle.std.specs.Fmt.{decimal}
@@ -26,9 +26,9 @@ use Rattle.pm_session.specs.declared.commands.View.TheVariants as views
 use Rattle.pm_session.specs.Commands.{Reading, command_rows, setting_rows}
 use Rattle.pm_session.specs.Texts.{chain_text, more_parts, numbers_text, parts_text, refused_text}
 
--- ---- places in the code
+-- ---- positions in the code
 
--- a segment, a procedure and an offset, as `break` takes them
+-- A segment, a procedure and an offset, in the form of `break`.
 abbrev pub point_text : CodePlace → List ℕ
 point_text b = decimal b.segment ++ (32 ∷ decimal b.procedure ++ (32 ∷ decimal b.offset))
 
@@ -36,35 +36,35 @@ abbrev pub condition_text : Option Condition → List ℕ
 condition_text None = []
 condition_text (Some c) = codes " if " ++ (decimal c.address ++ (codes " = " ++ decimal c.word))
 
--- a place, as `break` takes it, or words, as `reads` and `writes` take them
+-- A position in the form of `break`, or words in the form of `reads` and `writes`.
 abbrev pub spot_text : Spot → List ℕ
 spot_text (spots.Code place) = point_text place
 spot_text (spots.Reads a n) = codes "reads " ++ (decimal a ++ (32 ∷ decimal n))
 spot_text (spots.Writes a n) = codes "writes " ++ (decimal a ++ (32 ∷ decimal n))
 
--- where a breakpoint stands, and behind it a condition
+-- The spot of a breakpoint, followed by its condition.
 abbrev pub break_text : Breakpoint → List ℕ
 break_text b = spot_text b.spot ++ condition_text b.condition
 
 abbrev pub breaks_text : List Breakpoint → List ℕ
 breaks_text breaks = parts_text (codes ", ") break_text breaks
 
--- how many breakpoints are passed over, as `ignore` takes it, behind those that are set; nothing where it is none
+-- The number of breakpoints that runs pass over, in the form of `ignore`, after the breakpoints. It is empty for 0.
 abbrev pub passes_text : List Breakpoint → ℕ → List ℕ
 passes_text breaks zero = []
 passes_text [] (suc passes) = codes "ignore " ++ decimal (suc passes)
 passes_text (b ∷ breaks) (suc passes) = codes ", ignore " ++ decimal (suc passes)
 
--- where the machine stands, and the instruction there
+-- The position of the machine and the instruction there.
 abbrev pub where_text : Option CodePlace → State → List ℕ
 where_text None s = refused_text OddAddress
 where_text (Some place) s = point_text place ++ (32 ∷ line_text s.memory s.registers.ipc)
 
--- how far an address stands behind the place where the procedure is entered, modulo 65,536; IPC stands at this place
+-- The offset of an address from the entry of the procedure, modulo 65,536. `place` is the position at IPC.
 abbrev pub offset_at : CodePlace → State → ℕ → ℕ
 offset_at place s address = (place.offset + minus address s.registers.ipc) % 65536
 
--- what stands at an address, behind its offset
+-- The instruction at an address, after its offset.
 abbrev pub ahead_text : CodePlace → State → ℕ → List ℕ
 ahead_text place s address = decimal (offset_at place s address) ++ (32 ∷ line_text s.memory address)
 
@@ -78,7 +78,7 @@ abbrev pub return_text : Option CodePlace → List ℕ
 return_text None = []
 return_text (Some place) = 32 ∷ point_text place
 
--- a frame, and where its return leads
+-- A frame and the position to which it returns.
 abbrev pub frame_text : Frame → List ℕ
 frame_text frame = decimal frame.address ++ return_text frame.returns_to
 
@@ -88,26 +88,26 @@ frames_text (Some frames) = parts_text (codes ", ") frame_text frames
 
 -- ---- bytes
 
--- a byte as two hexadecimal digits
+-- A byte as two hexadecimal digits.
 abbrev pub pair_text : ℕ → List ℕ
 pair_text byte = upper_digit (byte / 16) ∷ upper_digit (byte % 16) ∷ []
 
--- 32..126 stand for themselves, and a full stop for any other byte
+-- A byte from 32 to 126 is its character, and any other byte is a full stop.
 abbrev pub shown_character : ℕ → ℕ
 shown_character byte = if nat_le 32 byte && nat_le byte 126 then byte else 46
 
--- bytes as pairs of digits, and behind two spaces as characters
+-- Bytes as pairs of digits, followed by two spaces and the characters.
 abbrev pub bytes_text : List ℕ → List ℕ
 bytes_text [] = []
 bytes_text (b ∷ bs) = parts_text (codes " ") pair_text (b ∷ bs) ++ (32 ∷ 32 ∷ map shown_character (b ∷ bs))
 
 -- ---- commands
 
--- a command's word, and the letters that stand for its numbers
+-- The name of a command and the letters of its numbers.
 abbrev pub usage_text : List ℕ × List ℕ × Reading → List ℕ
 usage_text row = row.0 ++ row.1
 
--- both words of a setting
+-- Both words of a setting.
 abbrev pub setting_text : List ℕ × List ℕ × Command → List ℕ
 setting_text row = row.0 ++ (32 ∷ row.1)
 
@@ -116,7 +116,7 @@ help_text = parts_text (codes ", ") usage_text command_rows
     ++ (more_parts (codes ", ") setting_text setting_rows ++ codes ", type \"TEXT\", break S P O if A = W"
     ++ codes ", reads A N if B = W, writes A N if B = W, clear reads A N, clear writes A N")
 
--- what is answered to a command that only shows
+-- The answer to a command that shows a view.
 unfoldable pub view_text : View → Session → List ℕ
 view_text (views.Peek a n) d = chain_text (words_from d.machine a n)
 view_text (views.Bytes a n) d = bytes_text (bytes_from d.machine a n)

@@ -1,4 +1,4 @@
-//! What the debugger answers to a line.
+//! The answers of the debugger to a line.
 ghost use Rattle.std.specs.Prelude.{◌≡◌, ◌++◌, ◌∷◌, [], drop, false, true, IfOk, IfNone, IfSome, OnOk};
 ghost use Rattle.std.specs.Prelude.{option_map, string_bytes, codes, if◌then◌else◌};
 ghost use Rattle.pm_debug.specs.Passes.{all_passed};
@@ -25,7 +25,7 @@ use pm_machine::{Machine, Registers};
 use pm_trace::trace_line;
 use std::alloc::{AllocError, Global};
 
-/// Done, or refused.
+/// Returns the answer to a command that only succeeds or is refused: `ok` or the refusal.
 fn done(alloc: Global, outcome: Result<(), DebugRefusal>) -> Result<String, AllocError>
     ensures text { IfOk result (λ text. string_bytes text ≡ done_text outcome) }
 {
@@ -35,7 +35,7 @@ fn done(alloc: Global, outcome: Result<(), DebugRefusal>) -> Result<String, Allo
     }
 }
 
-/// A word, or its refusal.
+/// Returns the answer with a word, or with its refusal.
 fn word(alloc: Global, word: Result<u16, DebugRefusal>) -> Result<String, AllocError>
     ensures text { IfOk result (λ text. string_bytes text ≡ word_text word) }
 {
@@ -45,7 +45,7 @@ fn word(alloc: Global, word: Result<u16, DebugRefusal>) -> Result<String, AllocE
     }
 }
 
-/// Why a run ended, and after how many steps.
+/// Returns the answer with the reason of the end of a run and its number of steps.
 fn gone(alloc: Global, gone: (u64, BreakReason)) -> Result<String, AllocError>
     ensures text { IfOk result (λ text. string_bytes text ≡ gone_text gone.1 gone.0) }
 {
@@ -63,8 +63,8 @@ fn gone(alloc: Global, gone: (u64, BreakReason)) -> Result<String, AllocError>
     format!(in alloc; "{last}")
 }
 
-/// Passes over breakpoints behind a run of at most `most` steps, as long as one stops it and passes are left: how many
-/// steps it has made then, and why no more.
+/// Passes over breakpoints after a run of at most `most` steps, while one stops it and a pass is left. Returns the
+/// number of its steps and the reason of its end.
 #[tactic(auto, using(crate::proofs::SessionLaws::pass_more, crate::proofs::SessionLaws::pass_over))]
 fn pass(
     debugger: &mut Debugger,
@@ -88,7 +88,8 @@ fn pass(
     Ok(ran)
 }
 
-/// Why a run of at most `limit` steps ended, behind the breakpoints that it passes over, and after how many steps.
+/// Passes over breakpoints after a run of at most `limit` steps. Returns the answer with the reason of its end and its
+/// number of steps.
 fn told(
     alloc: Global,
     ran: (u64, BreakReason),
@@ -107,7 +108,8 @@ fn told(
     gone(alloc, ran)
 }
 
-/// Where a segment stands, for how many calls, and how many times the program keeps it.
+/// Returns the answer with the address of a segment, the number of its calls, and how many times the program keeps it.
+/// It is `none` if the segment is not in memory.
 fn place(alloc: Global, machine: &Machine, n: u8) -> Result<String, AllocError>
     ensures text { IfOk result (λ text. string_bytes text
         ≡ place_text (placed machine.now.state.places n) (keeps_of machine.now.state.places n)) }
@@ -118,7 +120,7 @@ fn place(alloc: Global, machine: &Machine, n: u8) -> Result<String, AllocError>
     }
 }
 
-/// The registers, each behind its name.
+/// Returns the answer with the registers, each after its name.
 #[tactic(auto, unfolding(crate::specs::Answers::registers_text))]
 fn registers(alloc: Global, registers: Registers) -> Result<String, AllocError>
     ensures text { IfOk result (λ text. string_bytes text ≡ registers_text registers) }
@@ -138,7 +140,7 @@ fn registers(alloc: Global, registers: Registers) -> Result<String, AllocError>
     )
 }
 
-/// Writes a word of the memory, at an even address.
+/// Writes a word of the memory at an even address. If the address is odd, returns `OddAddress` and writes nothing.
 fn poke(debugger: &mut Debugger, address: u16, word: u16) -> Result<(), DebugRefusal>
     ensures text { done_text result ≡ (if is_even address then codes "ok" else refused_text DebugRefusal.OddAddress) }
     ensures session { (session_of debugger.new) ≡ record
@@ -151,7 +153,7 @@ fn poke(debugger: &mut Debugger, address: u16, word: u16) -> Result<(), DebugRef
     }
 }
 
-/// Lets one more byte wait on the console.
+/// Appends a byte to the console input queue.
 fn key(debugger: &mut Debugger, byte: u8) -> Result<(), AllocError>
     ensures session { OnOk result ((session_of debugger.new)
         ≡ record (session_of debugger.old) { machine = next debugger.old.machine.state (Key byte) }) }
@@ -160,7 +162,8 @@ fn key(debugger: &mut Debugger, byte: u8) -> Result<(), AllocError>
     Ok(())
 }
 
-/// Goes on with the last run: why it ended, or that nothing is left of it.
+/// Continues the last run. Returns the answer with the reason of its end, or with the refusal if there is no run to
+/// continue.
 fn go_on(alloc: Global, debugger: &mut Debugger, limit: u32) -> Result<String, AllocError>
     ensures text { IfOk result (λ text. string_bytes text
         ≡ on_text (passing_on (session_of debugger.old) limit
@@ -178,7 +181,7 @@ fn go_on(alloc: Global, debugger: &mut Debugger, limit: u32) -> Result<String, A
     }
 }
 
-/// Does a command, and gives its answer without a line feed. `quit` has none.
+/// Executes a command. Returns the answer without a line feed, or `None` for `quit`.
 #[tactic(auto, unfolding(crate::specs::Answers::command_text, crate::specs::Answers::after_command))]
 fn do_command(
     alloc: Global,
@@ -220,7 +223,8 @@ fn do_command(
     Ok(Some(text?))
 }
 
-/// Does what a line asks for, and gives the answer without a line feed: to a line that asks for nothing, `?`.
+/// Executes the command of a line. Returns the answer without a line feed, or `None` for `quit`. The answer to an
+/// invalid line is `?`.
 fn answer_to(
     alloc: Global,
     debugger: &mut Debugger,
@@ -241,7 +245,8 @@ fn answer_to(
     }
 }
 
-/// The line of the bytes that the console has behind so many, where they are wanted; of none there is no line.
+/// Returns the line of the console bytes after the first `before`. It is empty if `wanted` is false or there are no
+/// such bytes.
 fn console_line(
     alloc: Global,
     wanted: bool,
@@ -259,8 +264,10 @@ fn console_line(
     }
 }
 
-/// Does what a line asks for, without its line feed, and gives the answer, with a line feed. `quit` has none.
-/// After `console on` the line of what it wrote to the console stands in front.
+/// Executes the command of a line, which is given without its line feed. Returns the answer with a line feed, or `None`
+/// for `quit`. After `console on`, a line with the bytes that the command wrote to the console precedes the answer.
+///
+/// After `AllocError` the command may have been executed.
 #[tactic(auto, using(crate::proofs::SessionLaws::unanswered))]
 pub fn answer(
     alloc: Global,

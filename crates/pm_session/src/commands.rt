@@ -1,4 +1,4 @@
-//! The commands of a debugger's line.
+//! The commands of the debugger.
 ghost use Rattle.std.specs.Prelude.{◌≡◌, ◌<◌, ◌≤◌, ◌⊎◌, min, true, [], ◌∷◌, Some, None, IfSome, IfNone, length};
 ghost use Rattle.std.specs.Char.{is_ascii_hexdigit};
 ghost use Rattle.std.specs.List.{list_all};
@@ -15,86 +15,86 @@ use arrayvec::ArrayVec;
 use pm_code::magnitude;
 use pm_debug::{Condition, Spot};
 
-/// The most steps of a run.
+/// The maximum number of steps of a run.
 const MOST_STEPS: u32 = 4_294_967_295;
 
 /// A command of the debugger.
 #[derive(Clone, Copy)]
 pub enum Command {
-    /// Sets a breakpoint: segment, procedure and offset, and its condition, if any.
+    /// Sets a breakpoint. The fields are segment, procedure, offset in bytes, and the condition, if any.
     Break(u8, u8, u16, Option<Condition>),
-    /// Takes a breakpoint away.
+    /// Removes a breakpoint.
     Clear(u8, u8, u16),
-    /// Sets a breakpoint on words, and its condition, if any.
+    /// Sets a breakpoint on words. The fields are the words and the condition, if any.
     BreakOn(Spot, Option<Condition>),
-    /// Takes a breakpoint on words away.
+    /// Removes a breakpoint on words.
     ClearOn(Spot),
     /// Watches the word at an address.
     Watch(u16),
-    /// Watches it no more.
+    /// Stops watching the word at an address.
     Unwatch(u16),
-    /// Writes a word: address and word.
+    /// Writes a word. The fields are address and word.
     Poke(u16, u16),
-    /// Lets one more byte wait on the console.
+    /// Appends a byte to the console input queue.
     Key(u8),
-    /// Shows from now on what each command writes to the console, or no more.
+    /// Sets whether the bytes that each command writes to the console are shown.
     ShowConsole(bool),
-    /// Makes at most so many steps, up to a breakpoint or to a watched word that has changed.
+    /// Runs at most this number of steps, up to a breakpoint or to a watched word that has changed.
     Go(u32),
-    /// Makes one instruction, and where it is a call all that is called, with at most so many steps.
+    /// Executes one instruction, and if it is a call, the whole called procedure. The field is the limit of the steps.
     Step(u32),
-    /// Makes what is left of the running procedure, with its return, with at most so many steps.
+    /// Executes the rest of the running procedure and its return. The field is the limit of the steps.
     Finish(u32),
-    /// Makes steps up to a place, at most so many: segment, procedure, offset and steps.
+    /// Runs to a position in the code. The fields are segment, procedure, offset in bytes, and the limit of the steps.
     Until(u8, u8, u16, u32),
-    /// Goes on with the last run, where its limit stopped it, for at most so many steps more.
+    /// Continues the last run, which its limit stopped, for at most this number of steps.
     On(u32),
-    /// Lets the runs pass over so many breakpoints.
+    /// Sets the number of breakpoints that runs pass over.
     Ignore(u32),
-    /// Shows the words on the stack, at most so many.
+    /// Shows the words of the stack, at most this number.
     Stack(u16),
-    /// Shows the static chain, at most so many frames.
+    /// Shows the static chain, at most this number of frames.
     Static(u16),
-    /// Shows the dynamic chain, at most so many frames.
+    /// Shows the dynamic chain, at most this number of frames.
     Dynamic(u16),
-    /// Shows a variable: depth and number.
+    /// Shows a variable. The fields are the number of static links up and the number of the variable.
     Local(u16, u16),
     /// Shows the registers.
     Registers,
-    /// Shows where the segment of a slot stands.
+    /// Shows the address of the segment of a slot.
     Place(u8),
     /// Shows the line of a trace.
     Trace,
-    /// Shows more of the machine, or of the debugger.
+    /// Shows another view of the machine or of the debugger.
     Show(View),
     /// Ends the session.
     Quit,
 }
 
-/// What a command shows that changes nothing.
+/// A view, which a command shows without a change.
 #[derive(Clone, Copy)]
 pub enum View {
-    /// Words of the memory: from this address on, at most so many.
+    /// Words of the memory. The fields are the first address and the maximum number of words.
     Peek(u16, u16),
-    /// Bytes of the memory: from this address on, at most so many.
+    /// Bytes of the memory. The fields are the first address and the maximum number of bytes.
     Bytes(u16, u16),
-    /// Where the machine stands in the code.
+    /// The position of the machine in the code.
     Where,
-    /// The breakpoints, and how many more are passed over.
+    /// The breakpoints, and the number of breakpoints that runs still pass over.
     Breaks,
     /// The addresses of the watched words.
     Watches,
-    /// The frames of the dynamic chain with where they return to, at most so many.
+    /// The frames of the dynamic chain with the positions to which they return, at most this number.
     Frames(u16),
-    /// The next instructions, at most so many.
+    /// The next instructions, at most this number.
     Ahead(u16),
-    /// The last bytes of the console, at most so many.
+    /// The last bytes of the console output, at most this number.
     Console(u16),
     /// The commands.
     Help,
 }
 
-/// Whether the bytes are those of a text.
+/// Whether a word has the bytes of `text`.
 fn is_text(word: &[u8], text: &str) -> bool
     ensures same { result ≡ bytes_eq word.now text.now }
 {
@@ -107,7 +107,8 @@ fn is_digit(byte: u8) -> bool
     b'0' <= byte && byte <= b'9'
 }
 
-/// The number that decimal digits alone write.
+/// Returns the number that the word writes in decimal digits, or `None` if another byte is in it or the number is above
+/// 4,294,967,295.
 fn decimal(word: &[u8]) -> Option<u32>
     ensures number { result ≡ decimal_number word.now }
 {
@@ -132,7 +133,7 @@ fn are_hexadecimal(digits: &[u8]) -> bool
     digits.iter().all(|digit| digit.is_ascii_hexdigit())
 }
 
-/// The number that one to four hexadecimal digits are.
+/// Returns the number of one to four hexadecimal digits.
 #[tactic(auto, using(pm_code::proofs::Capped::four_digits))]
 fn hexadecimal(digits: &[u8]) -> Option<u32>
     ensures number { result ≡ hexadecimal_number digits.now }
@@ -143,7 +144,7 @@ fn hexadecimal(digits: &[u8]) -> Option<u32>
     Some(magnitude(16, digits))
 }
 
-/// The number that a word is: decimal digits, or `$` and hexadecimal ones.
+/// Returns the number of a word: decimal digits, or `$` and hexadecimal digits.
 fn number(word: &[u8]) -> Option<u32>
     ensures number { result ≡ word_number word.now }
 {
@@ -153,7 +154,7 @@ fn number(word: &[u8]) -> Option<u32>
     }
 }
 
-/// Whether a word begins at the front.
+/// Whether the line begins with a word, so not with a space.
 fn begins_word(line: &[u8]) -> bool
     ensures begins { result ≡ begins_word line.now }
 {
@@ -163,7 +164,7 @@ fn begins_word(line: &[u8]) -> bool
     }
 }
 
-/// A line without the spaces at its front.
+/// Returns the line without its leading spaces.
 fn without_spaces(line: &[u8]) -> &[u8]
     ensures words { words_of_line result.now ≡ words_of_line line.now }
     ensures begins { (result.now ≡ []) ⊎ (begins_word result.now ≡ true) }
@@ -179,7 +180,7 @@ fn without_spaces(line: &[u8]) -> &[u8]
     rest
 }
 
-/// The first word of a line that begins with one, and what stands behind it.
+/// Returns the first word of a line that begins with one, and the rest after it.
 fn word_and_rest(line: &[u8]) -> (&[u8], &[u8])
     requires begins { begins_word line.now ≡ true }
     ensures words { words_of_line line.now ≡ result.0.now ∷ words_of_line result.1.now }
@@ -197,7 +198,7 @@ fn word_and_rest(line: &[u8]) -> (&[u8], &[u8])
     (line.split_at(end).0, rest)
 }
 
-/// The first word of a line, and the rest behind it.
+/// Returns the first word of a line, and the rest after it. Returns `None` if the line has no word.
 fn next_word(line: &[u8]) -> Option<(&[u8], &[u8])>
     ensures some { IfSome result (λ r. words_of_line line.now ≡ r.0.now ∷ words_of_line r.1.now) }
     ensures shorter { IfSome result (λ r. length r.1.now < length line.now) }
@@ -210,7 +211,8 @@ fn next_word(line: &[u8]) -> Option<(&[u8], &[u8])>
     Some(word_and_rest(line))
 }
 
-/// The numbers that the words of a line are, at most four.
+/// Returns the numbers that are the words of a line, at most four. Returns `None` if a word is no number or there are
+/// more.
 fn numbers(line: &[u8]) -> Option<ArrayVec<u32, 4>>
     ensures some { IfSome result (λ ns. numbers 4 (words_of_line line.now) ≡ Some ns.items) }
     ensures none { IfNone result (numbers 4 (words_of_line line.now) ≡ None) }
@@ -248,7 +250,7 @@ fn slot(n: u32) -> Option<u8>
     if n <= 15 { Some(n as u8) } else { None }
 }
 
-/// The command of a name alone: a row for each.
+/// Returns the command of a name without numbers.
 #[tactic(auto, unfolding(crate::specs::Commands::command_rows))]
 fn named_alone(name: &[u8]) -> Option<Command>
     ensures command { result ≡ command_in command_rows name.now [] }
@@ -268,7 +270,7 @@ fn named_alone(name: &[u8]) -> Option<Command>
     Some(command)
 }
 
-/// The command of a name and one number: a row for each.
+/// Returns the command of a name and one number.
 #[tactic(auto, unfolding(crate::specs::Commands::command_rows))]
 fn named_with_one(name: &[u8], n: u32) -> Option<Command>
     ensures command { result ≡ command_in command_rows name.now (n ∷ []) }
@@ -294,7 +296,7 @@ fn named_with_one(name: &[u8], n: u32) -> Option<Command>
     Some(command)
 }
 
-/// The words that a step `reads` or `writes`: the address of the first, and how many.
+/// Returns the words of `reads` or `writes`: the address of the first and the number of words.
 fn words_named(name: &[u8], address: u16, words: u16) -> Option<Spot>
     ensures spot { result ≡ words_named name.now address words }
 {
@@ -305,7 +307,7 @@ fn words_named(name: &[u8], address: u16, words: u16) -> Option<Spot>
     }
 }
 
-/// The command of a name and two numbers: a row for each.
+/// Returns the command of a name and two numbers.
 #[tactic(auto, unfolding(crate::specs::Commands::command_rows))]
 fn named_with_two(name: &[u8], a: u32, n: u32) -> Option<Command>
     ensures command { result ≡ command_in command_rows name.now (a ∷ n ∷ []) }
@@ -320,7 +322,7 @@ fn named_with_two(name: &[u8], a: u32, n: u32) -> Option<Command>
     Some(command)
 }
 
-/// The command of a name and three numbers: a row for each.
+/// Returns the command of a name and three numbers.
 #[tactic(auto, unfolding(crate::specs::Commands::command_rows))]
 fn named_with_three(name: &[u8], s: u32, p: u32, o: u32) -> Option<Command>
     ensures command { result ≡ command_in command_rows name.now (s ∷ p ∷ o ∷ []) }
@@ -334,7 +336,7 @@ fn named_with_three(name: &[u8], s: u32, p: u32, o: u32) -> Option<Command>
     Some(command)
 }
 
-/// The command of a name and four numbers: a row for each.
+/// Returns the command of a name and four numbers.
 #[tactic(auto, unfolding(crate::specs::Commands::command_rows))]
 fn named_with_four(name: &[u8], s: u32, p: u32, o: u32, n: u32) -> Option<Command>
     ensures command { result ≡ command_in command_rows name.now (s ∷ p ∷ o ∷ n ∷ []) }
@@ -345,7 +347,7 @@ fn named_with_four(name: &[u8], s: u32, p: u32, o: u32, n: u32) -> Option<Comman
     Some(Command::Until(byte(s)?, byte(p)?, word(o)?, n))
 }
 
-/// The command of a name and the numbers behind it, of which there are at most four.
+/// Returns the command of a name and the numbers after it, of which there are at most four.
 fn command_named(name: &[u8], numbers: &[u32]) -> Option<Command>
     requires few { length numbers.now ≤ 4 }
     ensures command { result ≡ command_in command_rows name.now numbers.now }
@@ -360,7 +362,7 @@ fn command_named(name: &[u8], numbers: &[u32]) -> Option<Command>
     }
 }
 
-/// The command of a name and the word behind it: a row for each.
+/// Returns the command of a name and the word after it.
 #[tactic(auto, unfolding(crate::specs::Commands::setting_rows))]
 fn setting_named(name: &[u8], value: &[u8]) -> Option<Command>
     ensures command { result ≡ setting_in setting_rows name.now value.now }
@@ -377,7 +379,7 @@ fn setting_named(name: &[u8], value: &[u8]) -> Option<Command>
     None
 }
 
-/// The command of a name and what stands behind it, where that is one word.
+/// Returns the command of a name and the rest of the line, if the rest is one word.
 fn setting(name: &[u8], line: &[u8]) -> Option<Command>
     ensures command { result ≡ setting_with name.now (words_of_line line.now) }
 {
@@ -388,7 +390,8 @@ fn setting(name: &[u8], line: &[u8]) -> Option<Command>
     }
 }
 
-/// The command of a breakpoint with a condition, by its numbers.
+/// Returns the command that sets a breakpoint with a condition. The numbers are segment, procedure, offset in bytes,
+/// the address of the condition, and its word.
 fn conditional_break(s: u32, p: u32, o: u32, a: u32, w: u32) -> Option<Command>
     ensures command { result ≡ conditional_break (Some s) (Some p) (Some o) (Some a) (Some w) }
 {
@@ -400,7 +403,7 @@ fn conditional_break(s: u32, p: u32, o: u32, a: u32, w: u32) -> Option<Command>
     Some(Command::Break(segment, procedure, offset, Some(condition)))
 }
 
-/// The command of what stands behind `break`, where that is `S P O if A = W`.
+/// Returns the command of the rest of a line after `break`, if the rest is `S P O if A = W`.
 fn conditional(line: &[u8]) -> Option<Command>
     ensures command { result ≡ conditional (words_of_line line.now) }
 {
@@ -419,7 +422,8 @@ fn conditional(line: &[u8]) -> Option<Command>
     }
 }
 
-/// The command of a breakpoint on words with a condition, by its numbers.
+/// Returns the command that sets a breakpoint on words with a condition. The numbers are the address of the first word,
+/// the number of words, the address of the condition, and its word.
 fn conditional_words_of(name: &[u8], a: u32, n: u32, b: u32, value: u32) -> Option<Command>
     ensures command { result ≡ conditional_words_of name.now (Some a) (Some n) (Some b) (Some value) }
 {
@@ -432,7 +436,7 @@ fn conditional_words_of(name: &[u8], a: u32, n: u32, b: u32, value: u32) -> Opti
     Some(Command::BreakOn(spot, Some(condition)))
 }
 
-/// The command of `reads` or `writes` and what stands behind it, where that is `A N if B = W`.
+/// Returns the command of `reads` or `writes` and the rest of the line, if the rest is `A N if B = W`.
 fn conditional_words(name: &[u8], line: &[u8]) -> Option<Command>
     ensures command { result ≡ conditional_words name.now (words_of_line line.now) }
 {
@@ -450,7 +454,7 @@ fn conditional_words(name: &[u8], line: &[u8]) -> Option<Command>
     }
 }
 
-/// The command that takes a breakpoint on words away, by its numbers.
+/// Returns the command that removes a breakpoint on words, by the address of the first word and the number of words.
 fn clear_words_of(name: &[u8], a: u32, n: u32) -> Option<Command>
     ensures command { result ≡ clear_words_of name.now (Some a) (Some n) }
 {
@@ -458,7 +462,7 @@ fn clear_words_of(name: &[u8], a: u32, n: u32) -> Option<Command>
     Some(Command::ClearOn(words_named(name, address, words)?))
 }
 
-/// The command of what stands behind `clear`, where that is `reads A N` or `writes A N`.
+/// Returns the command of the rest of a line after `clear`, if the rest is `reads A N` or `writes A N`.
 fn clear_words(line: &[u8]) -> Option<Command>
     ensures command { result ≡ clear_words (words_of_line line.now) }
 {
@@ -471,7 +475,7 @@ fn clear_words(line: &[u8]) -> Option<Command>
     }
 }
 
-/// A line without the carriage return at its end.
+/// Returns the line without a carriage return at its end.
 pub(crate) fn without_return(line: &[u8]) -> &[u8]
     ensures line { result.now ≡ without_return line.now }
 {
@@ -481,7 +485,7 @@ pub(crate) fn without_return(line: &[u8]) -> &[u8]
     if *last == b'\r' { front } else { line }
 }
 
-/// The command that a line is, without its line feed.
+/// Returns the command of a line, which is given without its line feed. Returns `None` if the line is no command.
 #[tactic(auto, unfolding(crate::specs::Commands::command_of))]
 pub fn command_of(line: &[u8]) -> Option<Command>
     ensures command { result ≡ command_of line.now }

@@ -1,24 +1,24 @@
-//! How runs end, in a line.
+//! The last line of a run.
 ghost use Rattle.std.specs.Prelude.{Some};
 ghost use Rattle.pm_session.specs.Endings.{last_line};
 
 use pm_words::ExecError;
 use std::fmt;
 
-/// Why a run ended.
+/// The reason of the end of a run.
 #[derive(Clone, Copy, PartialEq, Eq)]
 pub enum Ending {
-    /// The program came to its end.
+    /// The program has ended.
     Ended,
     /// It stopped at an execution error.
     Error(ExecError),
-    /// It made as many steps as it might.
+    /// It has executed its maximum number of steps.
     Limit,
-    /// It waits for a byte of the console, and there is none.
+    /// It waits for a byte of the console, and no byte is in the queue.
     Waiting,
 }
 
-/// The last line of a run: why it ended, and after how many steps of the machine.
+/// The last line of a run: the reason of its end, and its number of steps of the machine.
 #[derive(Clone, Copy)]
 pub struct LastLine {
     pub ending: Ending,

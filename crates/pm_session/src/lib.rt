@@ -1,4 +1,4 @@
-//! A session of the debugger: the words of a line, the command that it is, and what is answered to it.
+//! A session of the debugger: the words of a line, its command, and the answer to it.
 #![tactic(auto)]
 
 mod answers;

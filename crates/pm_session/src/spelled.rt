@@ -1,4 +1,4 @@
-//! Places in the code, breakpoints, frames and bytes as text.
+//! The text of positions in the code, breakpoints, frames and bytes.
 ghost use Rattle.std.specs.Prelude.{◌≡◌, Some};
 ghost use Rattle.pm_session.specs.Views.{break_text, frame_text, pair_text, point_text, spot_text};
 
@@ -6,7 +6,7 @@ use pm_debug::{Breakpoint, Condition, Frame, Spot};
 use pm_machine::CodePlace;
 use std::fmt;
 
-/// A place in the code: its segment, its procedure and its offset, as `break` takes them.
+/// A position in the code as text: segment, procedure and offset, in the form of `break`.
 #[derive(Clone, Copy)]
 pub(crate) struct Point(pub CodePlace);
 
@@ -23,7 +23,7 @@ impl fmt::Display for Point {
     }
 }
 
-/// Where a breakpoint stands: a place, as `break` takes it, or words, as `reads` and `writes` take them.
+/// The spot of a breakpoint as text: a position in the form of `break`, or words in the form of `reads` and `writes`.
 #[derive(Clone, Copy)]
 struct SpotText(Spot);
 
@@ -39,7 +39,7 @@ impl fmt::Display for SpotText {
     }
 }
 
-/// A breakpoint: where it stands, and behind it its condition.
+/// A breakpoint as text: its spot, followed by its condition.
 #[derive(Clone, Copy)]
 pub(crate) struct BreakText(pub Breakpoint);
 
@@ -55,7 +55,7 @@ impl fmt::Display for BreakText {
     }
 }
 
-/// A frame, and the place that its return leads to.
+/// A frame as text: its address and the position to which it returns.
 #[derive(Clone, Copy)]
 pub(crate) struct FrameText(pub Frame);
 
@@ -71,7 +71,7 @@ impl fmt::Display for FrameText {
     }
 }
 
-/// A byte as two hexadecimal digits.
+/// A byte as text: two hexadecimal digits.
 #[derive(Clone, Copy)]
 pub(crate) struct Pair(pub u8);
 

@@ -1,5 +1,5 @@
-//! What the commands answer that show the memory, the code, the breakpoints, the watched words, the frames, the console
-//! and the commands.
+//! The answers of the commands that show the memory, the code, the breakpoints, the watched words, the frames, the
+//! console and the commands.
 ghost use Rattle.std.specs.Prelude.{◌≡◌, ◌<◌, ◌++◌, IfOk, OnOk, Option, Some, List, codes, map, string_bytes};
 ghost use Rattle.pm_debug.specs.Session.{session_of};
 ghost use Rattle.pm_debug.specs.Views.{ShowsChain};
@@ -17,7 +17,7 @@ use pm_disasm::Line;
 use pm_machine::{CodePlace, Machine};
 use std::alloc::{AllocError, Global};
 
-/// The commands.
+/// The text of all commands.
 const HELP: &str = concat!(
     "break S P O, clear S P O, poke A W, key B, go N, stack N, static N, dynamic N, local D B, regs, place N, trace, ",
     "peek A N, bytes A N, where, breaks, frames N, list N, console N, step [N], finish [N], until S P O [N], on N, ",
@@ -25,7 +25,7 @@ const HELP: &str = concat!(
     "type \"TEXT\", break S P O if A = W, reads A N if B = W, writes A N if B = W, clear reads A N, clear writes A N",
 );
 
-/// Breakpoints.
+/// Returns the breakpoints as text.
 fn breaks(alloc: Global, breaks: &[Breakpoint]) -> Result<String, AllocError>
     ensures text { IfOk result (λ text. string_bytes text ≡ breaks_text breaks.now) }
 {
@@ -39,7 +39,7 @@ fn breaks(alloc: Global, breaks: &[Breakpoint]) -> Result<String, AllocError>
     Ok(text)
 }
 
-/// Breakpoints, and how many are passed over, if any.
+/// Returns the breakpoints as text, with the number of breakpoints that runs still pass over if it is not 0.
 fn breaks_and_passes(alloc: Global, known: &[Breakpoint], passes: u32) -> Result<String, AllocError>
     ensures text { IfOk result (λ text. string_bytes text ≡ breaks_text known.now ++ passes_text known.now passes) }
 {
@@ -51,7 +51,7 @@ fn breaks_and_passes(alloc: Global, known: &[Breakpoint], passes: u32) -> Result
     Ok(text)
 }
 
-/// Where the machine stands, and the instruction there.
+/// Returns the position of the machine and the instruction there as text.
 fn standing(
     alloc: Global,
     place: Option<CodePlace>,
@@ -66,7 +66,7 @@ fn standing(
     format!(in alloc; "{} {line}", Point(place))
 }
 
-/// Frames.
+/// Returns the frames as text.
 fn frame_list(alloc: Global, frames: &[Frame]) -> Result<String, AllocError>
     ensures text { IfOk result (λ text. string_bytes text ≡ frames_text (Some frames.now)) }
 {
@@ -80,7 +80,7 @@ fn frame_list(alloc: Global, frames: &[Frame]) -> Result<String, AllocError>
     Ok(text)
 }
 
-/// The frames of a chain, or its refusal.
+/// Returns the frames of a chain as text, or its refusal.
 fn frames(alloc: Global, frames: Result<Vec<Frame>, DebugRefusal>) -> Result<String, AllocError>
     ensures text { IfOk result (λ text. (chain : Option (List Frame)) → ShowsChain (λ v. v.items) frames chain
         → string_bytes text ≡ frames_text chain) }
@@ -92,7 +92,7 @@ fn frames(alloc: Global, frames: Result<Vec<Frame>, DebugRefusal>) -> Result<Str
     }
 }
 
-/// How far an address stands behind the place where the procedure is entered; IPC stands at this place.
+/// Returns the offset in bytes of an address from the entry of the procedure. `place` is the position at IPC.
 fn offset_at(place: CodePlace, machine: &Machine, address: u16) -> u16
     ensures offset { result ≡ offset_at place machine.now.state address }
 {
@@ -100,7 +100,7 @@ fn offset_at(place: CodePlace, machine: &Machine, address: u16) -> u16
     place.offset.wrapping_add(behind)
 }
 
-/// What stands at these addresses, each behind its offset.
+/// Returns the instructions at these addresses as text, each after its offset.
 fn list(
     alloc: Global,
     place: Option<CodePlace>,
@@ -124,7 +124,7 @@ fn list(
     Ok(text)
 }
 
-/// Bytes as pairs of digits, with single spaces between them.
+/// Returns the bytes as pairs of digits, with single spaces between them.
 fn pairs(alloc: Global, bytes: &[u8]) -> Result<String, AllocError>
     ensures text { IfOk result (λ text. string_bytes text ≡ parts_text (codes " ") pair_text bytes.now) }
 {
@@ -149,7 +149,7 @@ fn shown_character(byte: u8) -> u8
     }
 }
 
-/// Adds bytes as characters.
+/// Appends bytes as characters.
 fn push_characters(text: &mut String, bytes: &[u8]) -> Result<(), AllocError>
     ensures text { OnOk result (string_bytes text.new ≡ string_bytes text.old ++ map shown_character bytes.now) }
 {
@@ -159,7 +159,7 @@ fn push_characters(text: &mut String, bytes: &[u8]) -> Result<(), AllocError>
     Ok(())
 }
 
-/// Bytes as pairs of digits and as characters.
+/// Returns the bytes as pairs of digits and as characters.
 fn bytes(alloc: Global, bytes: &[u8]) -> Result<String, AllocError>
     ensures text { IfOk result (λ text. string_bytes text ≡ bytes_text bytes.now) }
 {
@@ -172,7 +172,7 @@ fn bytes(alloc: Global, bytes: &[u8]) -> Result<String, AllocError>
     Ok(text)
 }
 
-/// What is answered to a command that only shows.
+/// Returns the answer to a command that shows a view.
 #[tactic(auto, unfolding(crate::specs::Views::view_text, crate::specs::Views::help_text, crate::specs::Commands::command_rows, crate::specs::Commands::setting_rows))]
 pub(crate) fn shown(alloc: Global, debugger: &Debugger, view: View) -> Result<String, AllocError>
     ensures text { IfOk result (λ text. string_bytes text ≡ view_text view (session_of debugger.now)) }

@@ -1,4 +1,4 @@
--- How a run that is written as it goes goes on by one turn, and how it ends.
+-- One turn of a run that is written while it is executed, and the ends of the run.
 use Rattle.std.proofs.Common.{◌≡◌, ℕ, ◌+◌, ◌-◌, ◌<◌, ◌≤◌, List, [], ◌∷◌, ◌++◌, None, true}
 use Rattle.std.proofs.Common.{false, length, refl, sym, ap, ◌∙◌, append_assoc, append-nil, arith, inl, inr, subst}
 use Rattle.std.proofs.lemmas.List.{length-append}
@@ -21,8 +21,8 @@ use Rattle.pm_tool.proofs.ReadWhole.{not_failed}
 use Rattle.pm_tool.proofs.Runs.{run_of-goes, run_of-waits, run_of-stuck, run_of-none}
 use Rattle.pm_jobs.proofs.Transfers.{cause_longer, front_trans}
 
--- A run of at most limit steps from began, as far as it was made: bytes were keyed, and what was shown was written but for the page. It goes on as a run of at
--- most n steps from m.
+-- A part of a run of at most `limit` steps from `began`. Bytes were keyed, and the output was written except the page.
+-- It continues as a run of at most `n` steps from `m`.
 pub record IsUnderWay (old now : Streams) (page : List ℕ) (taken : ℕ) (show : Show) (limit : ℕ) (began : State) (n : ℕ)
     (m : State) : Type 0 where
   pub read : List ℕ
@@ -45,7 +45,7 @@ under_way_none old page show limit n began blank e = record {
 
 module _ (old now : Streams) (page : List ℕ) (taken : ℕ) (show : Show) (limit : ℕ) (began : State) (n : ℕ) (m : State)
     (u : IsUnderWay old now page taken show limit began n m) where
-  -- the front of the page is written
+  -- The first part of the page is written.
   pub under_way_turned : (sink : Outgoing) (rest : List ℕ) → AppendsBut now.sink.contents sink.contents rest page
       → IsUnderWay old (both now.source sink) rest taken show limit began n m
   under_way_turned sink rest turned = record {
@@ -57,7 +57,7 @@ module _ (old now : Streams) (page : List ℕ) (taken : ℕ) (show : Show) (limi
     run = u.run;
   }
 
-  -- the page is written and cleared
+  -- The page is written and cleared.
   pub under_way_cleared : (sink : Outgoing) (blank : List ℕ) → Appends now.sink.contents sink.contents page → blank ≡ []
       → IsUnderWay old (both now.source sink) blank taken show limit began n m
   under_way_cleared sink blank a e = record {
@@ -69,7 +69,7 @@ module _ (old now : Streams) (page : List ℕ) (taken : ℕ) (show : Show) (limi
     run = u.run;
   }
 
-  -- the limit is reached
+  -- The limit is reached.
   pub over_limit : taken ≤ INPUT_LIMIT → n ≡ 0 → ComesToEnd old now page show limit began endings.Limit m
   over_limit few none = record {
     read = u.read;
@@ -82,11 +82,11 @@ module _ (old now : Streams) (page : List ℕ) (taken : ℕ) (show : Show) (limi
     drained = λ w. cc;
   }
 
-  -- a front of what was shown is a front of what the run shows
+  -- A prefix of the output so far is a prefix of the output of the run.
   begins : (front rest : List ℕ) → IsFront front u.shown → IsFront front (run_of show limit (u.read ++ rest) began).shown
   begins front rest f = rw (u.run rest) (front_trans front u.shown (u.shown ++ (run_of show n rest m).shown) f ((run_of show n rest m).shown, refl))
 
-  -- the page is lost
+  -- The page is not written.
   pub broken_between : (fault : Fault) → now.source.failed ≡ false
       → ((read : List ℕ) → length read ≡ taken → IsCause fault now.source.failed now.sink.failed read)
       → StopsShort old now show limit began fault
@@ -102,7 +102,7 @@ module _ (old now : Streams) (page : List ℕ) (taken : ℕ) (show : Show) (limi
         cause = cause u.read u.count;
       }
 
-  -- the page could not be written
+  -- The page could not be written.
   pub broken_writing : (sink : Outgoing) (fault : Fault) → taken ≤ INPUT_LIMIT → AppendsFront now.sink.contents sink.contents page
       → now.source.failed ≡ false → IsCause fault false sink.failed [] → StopsShort old (both now.source sink) show limit began fault
   broken_writing sink fault few a well cause =
@@ -117,7 +117,7 @@ module _ (old now : Streams) (page : List ℕ) (taken : ℕ) (show : Show) (limi
         cause = rw well (cause_longer fault sink.failed u.read (rw u.count few) cause);
       }
 
-  -- no byte could be read for a step that waits, and the page is blank
+  -- No byte could be read for a step that waits, and the page is empty.
   pub broken_reading : (source : Incoming) (fault : Fault) → Keeps now.source.remaining source.remaining → fault ≡ faults.Read
       → source.failed ≡ true → now.sink.failed ≡ false
       → page ≡ [] → (after : State) → 0 < n → stepped m ≡ (after, Waiting) → StopsShort old (both source now.sink) show limit began fault
@@ -133,7 +133,7 @@ module _ (old now : Streams) (page : List ℕ) (taken : ℕ) (show : Show) (limi
   }
 
   module _ (page' : List ℕ) (after : State) (some : 0 < n) where
-    -- a step that went
+    -- A step that succeeded.
     pub under_way_went : (k : ℕ) → stepped m ≡ (after, Went) → page' ≡ page ++ shown_by show m after Went → k ≡ n - 1
         → IsUnderWay old now page' taken show limit began k after
     under_way_went k step grown ke =
@@ -173,7 +173,7 @@ module _ (old now : Streams) (page : List ℕ) (taken : ℕ) (show : Show) (limi
       drained = λ w. cc;
     }
 
-    -- a step that waits shows nothing
+    -- A step that waits has no output.
     pub under_way_waited : page' ≡ page ++ shown_by show m after Waiting → IsUnderWay old now page' taken show limit began n m
     under_way_waited grown = record {
       read = u.read;
@@ -184,7 +184,7 @@ module _ (old now : Streams) (page : List ℕ) (taken : ℕ) (show : Show) (limi
       run = u.run;
     }
 
-    -- the byte that it waited for is keyed
+    -- The byte for which it waited is keyed.
     pub under_way_key : (source : Incoming) (key : ℕ) (m' : State) → stepped m ≡ (after, Waiting)
         → Consumes now.source.remaining source.remaining (key ∷ [])
         → m' ≡ next after (Key key)
@@ -199,7 +199,7 @@ module _ (old now : Streams) (page : List ℕ) (taken : ℕ) (show : Show) (limi
           ∙ ap (after_showing u.shown) (run_of-waits show n key rest m after some step) ∙ ap (λ t. after_showing u.shown (run_of show n rest t)) (sym keyed);
     }
 
-    -- no byte is left
+    -- No byte is left.
     pub over_waiting : (source : Incoming) → taken ≤ INPUT_LIMIT → stepped m ≡ (after, Waiting)
         → ReadsByte now.source.remaining source.remaining None
         → ComesToEnd old (both source now.sink) page show limit began endings.Waiting after
@@ -215,7 +215,7 @@ module _ (old now : Streams) (page : List ℕ) (taken : ℕ) (show : Show) (limi
       drained = λ _. none.1;
     }
 
--- The page is blank, and no byte could be taken for a step that waits.
+-- The page is empty, and no byte could be read for a step that waits.
 pub broken_taking : (old now : Streams) (source : Incoming) (page : List ℕ) (taken : ℕ) (show : Show) (limit : ℕ)
     (began : State) (n : ℕ) (m : State) → IsUnderWay old now page taken show limit began n m → TakesNone now.source source taken
     → (fault : Fault) → fault ≡ faults.Read → now.sink.failed ≡ false → page ≡ [] → (after : State) → 0 < n → stepped m ≡ (after, Waiting)

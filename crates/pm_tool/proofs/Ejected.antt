@@ -1,4 +1,4 @@
--- A disk that is taken away leaves those on other units.
+-- A disk that is ejected leaves those on other units unchanged.
 use Rattle.std.proofs.Common.{◌≡◌, ◌≢◌, ◌∙◌, ℕ, List, Option, None, get_or, arith, refl, sym}
 use Rattle.std.proofs.lemmas.List.{get_or-set_other}
 use Rattle.pm_machine.specs.State.{State}
@@ -6,11 +6,11 @@ use Rattle.pm_machine.specs.Events.{Eject, next}
 use Rattle.pm_units.specs.Devices.{ejected, ejected_image, unit_of}
 use Rattle.pm_units.specs.declared.ports.Port.TheVariants.{Disk}
 
--- the image at a place, of a state
+-- The image at an index, in a state.
 abbrev at_place : ℕ → State → Option (List ℕ)
 at_place k s = get_or s.devices.disks k None
 
--- the state without the disk of a unit whose place is this
+-- The state without the disk of a unit with this index.
 taken_at : (unit k j : ℕ) (s : State) → unit_of unit ≡ Disk k → j ≢ k → at_place j (next s (Eject unit)) ≡ at_place j s
 unfolding ejected
 taken_at unit k j s is differs = rw is (get_or-set_other s.devices.disks k j None None differs)
@@ -19,13 +19,13 @@ image_of : (unit j : ℕ) (s : State) → unit_of unit ≡ Disk j → ejected_im
 unfolding ejected_image
 image_of unit j s is = rw is refl
 
--- the image on a unit, behind the taking of another
+-- The image on a unit after another disk was ejected.
 pub still_there : (unit other k j : ℕ) (s : State) → unit_of unit ≡ Disk k → unit_of other ≡ Disk j → j ≢ k
     → ejected_image other (next s (Eject unit)).devices ≡ ejected_image other s.devices
 still_there unit other k j s is_unit is_other differs =
     image_of other j (next s (Eject unit)) is_other ∙ taken_at unit k j s is_unit differs ∙ sym (image_of other j s is_other)
 
--- units and their places
+-- Units and their indexes.
 fourth : unit_of 4 ≡ Disk 0
 unfolding unit_of
 fourth = refl
@@ -50,7 +50,7 @@ twelfth : unit_of 12 ≡ Disk 5
 unfolding unit_of
 twelfth = refl
 
--- the states behind each disk that is taken away
+-- The states after each disk that is ejected.
 abbrev pub no_4 : State → State
 no_4 s = next s (Eject 4)
 

@@ -8,7 +8,7 @@ use Rattle.pm_volume.specs.declared.fault.VolumeFault.{VolumeFault}
 use Rattle.pm_tool.specs.Disks.{disk_fault, first_bad, first_disk_fault, here_or, images_of}
 
 module _ {Z : Type 0} (rest rest' : List (Option (Vec ℕ Z))) (image : Option (Vec ℕ Z)) (next : rest ≡ image ∷ rest') where
-  -- one place more is taken
+  -- One more image is opened.
   pub place_below : (place : ℕ) → place + length rest ≡ 6 → place < 6
   place_below place count =
       let one = ap length next in
@@ -19,19 +19,19 @@ module _ {Z : Type 0} (rest rest' : List (Option (Vec ℕ Z))) (image : Option (
       let one = ap length next in
       omega arith
 
-  -- the image is a volume
+  -- The image is a volume.
   pub fault_later : (fault : Option VolumeFault) → fault ≡ first_disk_fault (images_of rest) → disk_fault (option_map vec_items image) ≡ None
       → fault ≡ first_disk_fault (images_of rest')
   fault_later fault so_far sound =
       so_far ∙ ap (λ images. first_disk_fault (images_of images)) next ∙ ap (λ f. option_or f (first_disk_fault (images_of rest'))) sound
 
-  -- the image is none
+  -- The image is no volume.
   pub fault_here : (fault : Option VolumeFault) (this : VolumeFault) → fault ≡ first_disk_fault (images_of rest)
       → disk_fault (option_map vec_items image) ≡ Some this → fault ≡ Some this
   fault_here fault this so_far found =
       so_far ∙ ap (λ images. first_disk_fault (images_of images)) next ∙ ap (λ f. option_or f (first_disk_fault (images_of rest'))) found
 
-  -- the same of its place
+  -- The same for its index.
   pub place_later : (found : Option ℕ) (place : ℕ) → found ≡ first_bad place (images_of rest)
       → disk_fault (option_map vec_items image) ≡ None → found ≡ first_bad (place + 1) (images_of rest')
   place_later found place so_far sound =

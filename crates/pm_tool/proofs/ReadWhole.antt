@@ -14,7 +14,7 @@ use Rattle.pm_tool.specs.Disks.{loaded}
 use Rattle.pm_tool.specs.Said.{said_started, said_work, IsSoundExit, Tells, TellsAll, Finishes, BreaksOff}
 use Rattle.pm_jobs.specs.Streams.{Incoming, Streams, both, IsFront, AppendsFront, IsCause, ReadsAll}
 
--- where the input is known, it is what was read and what is left
+-- If the input is known, it is what was read and what is left.
 pub tells_known : (old new : Streams) (read : List ℕ) → Consumes old.source.remaining new.source.remaining read → (outcome : Outcome) (text : List ℕ → Said)
     → ((rest : List ℕ) → new.source.remaining ≡ Some rest → Tells old new outcome (text (read ++ rest)))
     → TellsAll old new outcome text
@@ -34,7 +34,7 @@ pub not_failed : {A : Type 0} (failed : Bool) → failed ≡ false → failed �
 not_failed false well bad = cc
 not_failed true well bad = cc
 
--- broken off before anything was written
+-- A fault stopped the job before anything was written.
 pub broken_unwritten : (old : Streams) (now : Incoming) (fault : Fault) (text : List ℕ → Said) (read : List ℕ)
     → Consumes old.source.remaining now.remaining read → IsCause fault now.failed old.sink.failed read → BreaksOff old (both now old.sink) fault text
 broken_unwritten old now fault text read reads cause = record {
@@ -56,7 +56,7 @@ module _ (old new : Streams) (input : List ℕ) (reads : ReadsAll old.source.rem
   text_all : (rest : List ℕ) → new.source.remaining ≡ Some rest → text (input ++ rest) ≡ text input
   text_all rest e = ap text (ap (λ r. input ++ r) (no_rest rest e) ∙ append-nil input)
 
-  -- all was read, and then all was written
+  -- The whole input was read, and then the whole output was written.
   pub done_whole : (outcome : Outcome) → Appends old.sink.contents new.sink.contents (text input).written → IsOutcome outcome (text input)
       → (text input).unread ≡ [] → IsSoundExit outcome.exit
       → Finishes old new outcome text
@@ -68,7 +68,7 @@ module _ (old new : Streams) (input : List ℕ) (reads : ReadsAll old.source.rem
     exit = sound;
   }
 
-  -- all was read, and then a front was written
+  -- The whole input was read, and then a prefix of the output was written.
   pub broken_writing : (fault : Fault) → AppendsFront old.sink.contents new.sink.contents (text input).written → new.source.failed ≡ false
       → IsCause fault false new.sink.failed [] → BreaksOff old new fault text
   broken_writing fault writes well cause = record {
@@ -83,7 +83,7 @@ module _ (old new : Streams) (input : List ℕ) (reads : ReadsAll old.source.rem
     cause = rw well (cause_longer fault new.sink.failed input reads.2 cause);
   }
 
--- ---- the trace of the program that the input spells
+-- ---- the trace of the program in the input
 
 abbrev text_of : Selection → ℕ → List ℕ → Said
 text_of selection limit input = said_started (Trace selection) limit (loaded (hex_spelled input)) []
@@ -99,7 +99,7 @@ nothing_left (Some []) read unread c k = sym k
 nothing_left (Some (y ∷ rest)) [] unread c k = cc
 nothing_left (Some (y ∷ rest)) (x ∷ read) unread c k = cc
 
--- a source with nothing in it
+-- A source without bytes.
 abbrev empty : Incoming
 empty = record { remaining = Some []; failed = false; given = 0 }
 
@@ -119,7 +119,7 @@ module _ (old new : Streams) (input : List ℕ) (reads : ReadsAll old.source.rem
       broken_writing old new input reads (text_of selection limit) fault
       (b.cut.front, b.cut.writes, rw none at b.cut.so_far) well (rw none at b.cause)
 
--- the job has this to do
+-- The job has this work.
 pub broken_work : (work this : Work) (old new : Streams) (result : Result Outcome Fault)
     → IfErr result (λ fault. BreaksOff old new fault (said_work this)) → work ≡ this
     → IfErr result (λ fault. BreaksOff old new fault (said_work work))

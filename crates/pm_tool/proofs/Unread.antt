@@ -16,7 +16,7 @@ module _ (old new : Streams) (same : new.source.remaining ≡ old.source.remaini
   nothing_read : Consumes old.source.remaining new.source.remaining []
   nothing_read = subst (λ left. Consumes old.source.remaining left []) (sym same) (consumes_none old.source.remaining)
 
-  -- nothing was read, and then all was written
+  -- Nothing was read, and then the whole output was written.
   pub done_unread : (outcome : Outcome)
       → ((input : List ℕ) → Appends old.sink.contents new.sink.contents (text input).written × IsOutcome outcome (text input) × ((text input).unread ≡ input))
       → IsSoundExit outcome.exit → Finishes old new outcome text
@@ -30,7 +30,7 @@ module _ (old new : Streams) (same : new.source.remaining ≡ old.source.remaini
     exit = sound;
   }
 
-  -- nothing was read, and then a front was written
+  -- Nothing was read, and then a prefix of the output was written.
   pub broken_unread : (fault : Fault) (written : List ℕ) → ((input : List ℕ) → (text input).written ≡ written)
       → AppendsFront old.sink.contents new.sink.contents written → new.source.failed ≡ false → IsCause fault false new.sink.failed []
       → BreaksOff old new fault text

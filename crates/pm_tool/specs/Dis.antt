@@ -7,11 +7,11 @@ use Rattle.pm_batch.specs.declared.refusal.Refusal.TheVariants as refusals
 use Rattle.pm_batch.specs.Products.{Product, Written, Refused}
 use Rattle.pm_writing.specs.Written.{code_text}
 
--- what is shown of bytes that are a code file, or why they are none
+-- The output for bytes that are a code file, or their refusal.
 abbrev pub dis_made : DisOutput → Option CodeFault → List ℕ → Product
 dis_made output None file = Written (code_text output file)
 dis_made output (Some fault) file = Refused (refusals.Code fault)
 
--- what `dis` makes of its input
+-- The product of `dis` for its input.
 abbrev pub dis_product : DisOutput → List ℕ → Product
 dis_product output input = dis_made output (file_fault input) input

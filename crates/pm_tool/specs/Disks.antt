@@ -1,4 +1,4 @@
--- The images of a program's disks, and the machine that starts on them.
+-- The images of the disks of a program, and the machine that starts on them.
 use Rattle.std.specs.Prelude.{◌≡◌, ℕ, ◌+◌, ◌==◌, List, [], ◌∷◌, Option, Some, None, Result, Ok, Err}
 use Rattle.std.specs.Prelude.{IfSome, Vec, vec_items, option_map, map, string_bytes, if◌then◌else◌}
 use Rattle.std.specs.Option.{option_or}
@@ -23,32 +23,32 @@ use Rattle.pm_tool.specs.declared.work.Work.{Work}
 use Rattle.pm_tool.specs.declared.work.Work.TheVariants as works
 use Rattle.pm_tool.specs.Hex.{hex_spelled}
 
--- the images, as lists of bytes
+-- The images, as lists of bytes.
 abbrev pub images_of : {Z : Type 0} → List (Option (Vec ℕ Z)) → List (Option (List ℕ))
 images_of disks = map (option_map vec_items) disks
 
--- the fault of an image that is no volume; a unit without a disk has none
+-- The fault of an image that is no volume. A unit without a disk has none.
 abbrev pub disk_fault : Option (List ℕ) → Option VolumeFault
 disk_fault None = None
 disk_fault (Some image) = image_fault image
 
--- the first fault of the images, in the order of their units
+-- The first fault of the images, in the order of their units.
 abbrev pub first_disk_fault : List (Option (List ℕ)) → Option VolumeFault
 first_disk_fault [] = None
 first_disk_fault (image ∷ images) = option_or (disk_fault image) (first_disk_fault images)
 
--- the machine that starts, or why the input is refused
+-- The machine that starts, or the refusal of the input.
 abbrev pub started : Result State BootFault → Result State Refusal
 started (Ok machine) = Ok machine
 started (Err fault) = Err (refusals.Boot fault)
 
--- an image that is there
+-- The image, which exists.
 abbrev pub there : Result (List ℕ) SystemFault → Result (Option (List ℕ)) SystemFault
 there (Ok image) = Ok (Some image)
 there (Err fault) = Err fault
 
--- The image of unit 4, if there is one: where a code file of the system is given, the one on which the program's code
--- file has the segment of its slot 0.
+-- The image of unit 4, if there is one. If a code file of the system is given, the code file of the program on it has
+-- the segment of slot 0 of that file.
 abbrev pub first_with : Option (List ℕ) → List ℕ → Option (List ℕ) → Result (Option (List ℕ)) SystemFault
 first_with None name image = Ok image
 first_with (Some system) name None = Ok None
@@ -59,17 +59,17 @@ abbrev pub before : List (Option (List ℕ)) → Result (Option (List ℕ)) Syst
 before others (Ok image) = Ok (image ∷ others)
 before others (Err fault) = Err (refusals.System fault)
 
--- the images on which the program runs; the first of them is that of unit 4
+-- The images on which the program runs. The first of them is that of unit 4.
 abbrev pub images_with : Option (List ℕ) → List ℕ → List (Option (List ℕ)) → Result (List (Option (List ℕ))) Refusal
 images_with system name [] = Ok []
 images_with system name (image ∷ others) = before others (first_with system name image)
 
--- the machine that starts on a program of unit 4; the clock is 0
+-- The machine that starts on a program of unit 4. The clock is 0.
 abbrev pub booted_on : List ℕ → Result (List (Option (List ℕ))) Refusal → Result State Refusal
 booted_on name (Ok images) = started (boot_start images 4 name 0)
 booted_on name (Err refusal) = Err refusal
 
--- the same where all images are volumes
+-- The same if all images are volumes.
 abbrev pub booted_unless : Option VolumeFault → List (Option (List ℕ)) → List ℕ → Option (List ℕ) → Result State Refusal
 booted_unless None images name system = booted_on name (images_with system name images)
 booted_unless (Some fault) images name system = Err (refusals.Volume fault)
@@ -77,25 +77,25 @@ booted_unless (Some fault) images name system = Err (refusals.Volume fault)
 abbrev pub booted : List (Option (List ℕ)) → List ℕ → Option (List ℕ) → Result State Refusal
 booted images name system = booted_unless (first_disk_fault images) images name system
 
--- the machine that starts on the program that was read, if one was
+-- The machine that starts on the program that was read, if there is one.
 abbrev pub loaded : Option (List ℕ) → Result State Refusal
 loaded None = Err refusals.Hex
 loaded (Some program) = started (raw_start program)
 
--- the machine that a job starts
+-- The machine that a job starts.
 abbrev pub machine_at : Start → Result State Refusal
 machine_at (starts.Bare text) = loaded (hex_spelled text.items)
 machine_at (starts.Booted disks name system) =
     booted (images_of disks) (string_bytes name) (option_map vec_items system)
 
--- the state of the machine that was started, or why none was
+-- The state of the machine that was started, or the refusal.
 abbrev pub state_in : Result Whole NoStart → Result State Refusal
 state_in (Ok m) = Ok m.state
 state_in (Err none) = Err none.refusal
 
--- ---- what a refusal is about
+-- ---- the file that a refusal is about
 
--- the unit of the disk at a place
+-- The unit of the disk at an index.
 abbrev pub unit_at : ℕ → ℕ
 unit_at place =
     if place == 0 then 4
@@ -108,12 +108,12 @@ abbrev pub here_or : ℕ → Option VolumeFault → Option ℕ → Option ℕ
 here_or place None later = later
 here_or place (Some fault) later = Some place
 
--- the place of the first image that is no volume, the first of them standing at this place
+-- The index of the first image that is no volume. The first image of the list has the index `place`.
 abbrev pub first_bad : ℕ → List (Option (List ℕ)) → Option ℕ
 first_bad place [] = None
 first_bad place (image ∷ images) = here_or place (disk_fault image) (first_bad (place + 1) images)
 
--- faults 1 and 2 are of the system's code file, the others of the program and its volume
+-- Faults 1 and 2 are about the code file of the system, and the others are about the program and its volume.
 abbrev pub system_about : SystemFault → About
 system_about (faults.NoCode fault) = abouts.System
 system_about faults.NoSegment = abouts.System
@@ -131,20 +131,20 @@ refusal_about (refusals.Code fault) = abouts.Unit 4
 refusal_about (refusals.Asm fault) = abouts.Unit 4
 refusal_about (refusals.System fault) = system_about fault
 
--- What the refusal of a program is about: the first image that is no volume; else the system's code file, where that is
--- refused; else the image of unit 4, on which the program stands.
+-- The file that the refusal of a program is about. It is the first image that is no volume; otherwise the code file of
+-- the system if that is refused; otherwise the image of unit 4, which contains the program.
 abbrev pub booted_about : Option ℕ → Result (List (Option (List ℕ))) Refusal → About
 booted_about (Some place) images = abouts.Unit (unit_at place)
 booted_about None (Ok images) = abouts.Unit 4
 booted_about None (Err refusal) = refusal_about refusal
 
--- the same of a program on these images; a program that the input spells is about no file
+-- The same for a program on these images. A program in the input is about no file.
 abbrev pub start_about : Start → Option About
 start_about (starts.Bare text) = None
 start_about (starts.Booted disks name system) = Some (booted_about (first_bad 0 (images_of disks))
     (images_with (option_map vec_items system) (string_bytes name) (images_of disks)))
 
--- the outcome of a program that is refused says what that is about
+-- The outcome of a refused program names the file that the refusal is about.
 abbrev pub NamesFile : Start → Outcome → Type 0
 NamesFile start outcome = IfSome outcome.refusal (λ refusal. outcome.about ≡ start_about start)
 

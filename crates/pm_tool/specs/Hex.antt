@@ -1,26 +1,26 @@
--- Bytes as text: pairs of hexadecimal digits of both cases, and white space before, between and after them.
+-- Bytes as text: pairs of hexadecimal digits in upper or lower case, with white space before, between and after them.
 use Rattle.std.specs.Prelude.{ℕ, ◌+◌, ◌*◌, ◌==◌, ◌||◌, ◌&&◌, Bool, List, []}
 use Rattle.std.specs.Prelude.{◌∷◌, Option, Some, None, if◌then◌else◌, nat_lt}
 use Rattle.std.specs.Char.{digit_value}
 
--- a tab, a line feed, a carriage return or a space
+-- A tab, a line feed, a carriage return or a space.
 abbrev pub is_space : ℕ → Bool
 is_space c = c == 9 || c == 10 || c == 13 || c == 32
 
 abbrev pub is_hex_digit : ℕ → Bool
 is_hex_digit c = nat_lt (digit_value c) 16
 
--- the byte that two digits spell
+-- The byte of two hexadecimal digits.
 abbrev pub pair_value : ℕ → ℕ → Option ℕ
 pair_value c d = if is_hex_digit c && is_hex_digit d then Some (16 * digit_value c + digit_value d) else None
 
--- the byte and then the bytes, if all are there
+-- The byte followed by the bytes, if all of them exist.
 abbrev pub byte_and_bytes : Option ℕ → Option (List ℕ) → Option (List ℕ)
 byte_and_bytes (Some byte) (Some bytes) = Some (byte ∷ bytes)
 byte_and_bytes (Some byte) None = None
 byte_and_bytes None bytes = None
 
--- the bytes that a text spells; none if a digit stands alone or another byte stands in it
+-- The bytes of a text. There are none if a digit has no partner or the text has another byte.
 unfoldable pub hex_spelled : List ℕ → Option (List ℕ)
 hex_spelled [] = Some []
 hex_spelled (c ∷ []) = if is_space c then Some [] else None

@@ -1,4 +1,4 @@
--- What jobs come to, in numbers and words.
+-- The outcomes of jobs, as numbers and text.
 use Rattle.std.specs.Prelude.{◌≡◌, ℕ, Bool, true, false, List, [], ◌∷◌, Option}
 use Rattle.std.specs.Prelude.{None, Some, vec_items, option_map, string_bytes}
 use Rattle.pm_machine.specs.State.{State}
@@ -15,7 +15,7 @@ use Rattle.pm_tool.specs.declared.outcome.Outcome.{Outcome}
 use Rattle.pm_tool.specs.Disks.{images_of}
 use Rattle.pm_tool.specs.Stops.{AreStops}
 
--- the exit status
+-- The exit status of the process.
 abbrev pub exit_number : Exit → ℕ
 exit_number exits.Ended = 0
 exit_number exits.Usage = 1
@@ -26,7 +26,7 @@ exit_number exits.WriteFault = 4
 exit_number exits.NoMemory = 5
 exit_number exits.Stopped = 6
 
--- it came to an end of its own: neither a fault of a stream nor want of memory
+-- The end is neither a stream fault nor out of memory.
 abbrev pub is_sound_exit : Exit → Bool
 is_sound_exit exits.Ended = true
 is_sound_exit exits.Usage = true
@@ -47,7 +47,7 @@ is_refusal exits.WriteFault = false
 is_refusal exits.NoMemory = false
 is_refusal exits.Stopped = false
 
--- how a job ends whose run ends so
+-- The exit of a job whose run ended in this way.
 abbrev pub exit_of : Ending → Exit
 exit_of endings.Ended = exits.Ended
 exit_of (endings.Error error) = exits.ExecutionError
@@ -59,7 +59,7 @@ fault_exit faults.Read = exits.ReadFault
 fault_exit faults.Write = exits.WriteFault
 fault_exit faults.NoMemory = exits.NoMemory
 
--- what is said of an end: the text of a fault, or else the message
+-- The message of an end: the text of a fault, or otherwise the message.
 abbrev pub exit_text : Exit → List ℕ → List ℕ
 exit_text exits.Ended message = message
 exit_text exits.Usage message = message
@@ -73,7 +73,7 @@ exit_text exits.Stopped message = message
 abbrev pub outcome_text : Outcome → List ℕ
 outcome_text outcome = exit_text outcome.exit (string_bytes outcome.message)
 
--- a refusal names its fault, which is not want of memory, and the message is its text; no other end names one
+-- A refusal names its fault, which is not out of memory, and the message is its text. No other end names a refusal.
 abbrev pub Names : Exit → Option Refusal → List ℕ → Type 0
 Names exit None message = is_refusal exit ≡ false
 Names exit (Some refusal) message =
@@ -82,13 +82,16 @@ Names exit (Some refusal) message =
 abbrev pub SaysWhy : Outcome → Type 0
 SaysWhy outcome = Names outcome.exit outcome.refusal (string_bytes outcome.message)
 
--- no images on the units 5, 9, 10, 11 and 12
+-- No images on units 5, 9, 10, 11 and 12.
 abbrev pub no_others : List (Option (List ℕ))
 no_others = None ∷ None ∷ None ∷ None ∷ None ∷ []
 
--- what a job says to its input: what it writes, how it ends, its message, the image that is saved and those of the
--- units 5, 9, 10, 11 and 12, its printer bytes, what of the input is left unread, and the state in which an error
--- stopped it
+-- The defined output of a job for an input:
+--
+-- - what it writes, how it ends, and its message,
+-- - the image that is saved and those of units 5, 9, 10, 11 and 12,
+-- - its printer bytes, and the unread part of the input,
+-- - the state in which an error stopped it.
 pub record Said : Type 0 where
   pub written : List ℕ
   pub exit : Exit
@@ -99,7 +102,7 @@ pub record Said : Type 0 where
   pub unread : List ℕ
   pub stopped : Option State
 
--- a refused input: nothing is written, and the message says why
+-- A refused input: nothing is written, and the message states the refusal.
 abbrev pub refused : Refusal → List ℕ → Said
 refused refusal unread =
     record {
@@ -113,7 +116,7 @@ refused refusal unread =
       stopped = None;
     }
 
--- how it ends that an image or a text was judged: well, or refused, and then the message says why
+-- The exit after an image or a source text was checked: success, or a refusal, which the message states.
 abbrev pub judged_exit : Option Refusal → Exit
 judged_exit None = exits.Ended
 judged_exit (Some refusal) = exits.Refused
@@ -122,7 +125,7 @@ abbrev pub judged_message : Option Refusal → List ℕ
 judged_message None = []
 judged_message (Some refusal) = refusal_text refusal
 
--- a text on what may be refused: it is written in either case
+-- A report on an image or a source text that may be refused. It is written in both cases.
 abbrev pub judged : List ℕ → Option Refusal → List ℕ → Said
 judged text refusal unread =
     record {
@@ -136,7 +139,7 @@ judged text refusal unread =
       stopped = None;
     }
 
--- the outcome is what is said
+-- The outcome is the defined output.
 pub record IsOutcome (outcome : Outcome) (told : Said) : Type 0 where
   pub exit : outcome.exit ≡ told.exit
   pub message : string_bytes outcome.message ≡ told.message

@@ -1,11 +1,10 @@
--- What is said of that which a job makes that turns bytes into bytes.
+-- The defined output for the product of a job that converts bytes to bytes.
 use Rattle.std.specs.Prelude.{ℕ, List, [], Option, Some, None}
 use Rattle.pm_batch.specs.Products.{Product, Written, Image, Refused, Judged, Saved}
 use Rattle.pm_tool.specs.declared.outcome.Exit.TheVariants as exits
 use Rattle.pm_tool.specs.Outcomes.{Said, judged, no_others, refused}
 
--- a job comes to its end: these bytes are written, this image is saved, if there is one, and this of the input is left
--- unread
+-- A job succeeds: these bytes are written, this image is saved, if there is one, and this part of the input is unread.
 abbrev pub ended : List ℕ → Option (List ℕ) → List ℕ → Said
 ended written image unread =
     record {
@@ -19,7 +18,7 @@ ended written image unread =
       stopped = None;
     }
 
--- what is said of a product, where this of the input is left unread
+-- The defined output for a product, with this part of the input unread.
 abbrev pub said_product : Product → List ℕ → Said
 said_product (Written bytes) unread = ended bytes None unread
 said_product (Image image) unread = ended [] (Some image) unread

@@ -1,4 +1,4 @@
--- A run of the machine and what is shown of it.
+-- A run of the machine and its output.
 use Rattle.std.specs.Prelude.{◌≡◌, ◌≤◌, ◌<◌, ℕ, zero, suc, Bool, true, false, List}
 use Rattle.std.specs.Prelude.{[], ◌∷◌, ◌++◌, drop, length, if◌then◌else◌}
 use Rattle.std.specs.Io.KnownBytes.{Appends, Consumes, IsAtEnd}
@@ -18,8 +18,7 @@ use Rattle.pm_tool.specs.declared.steps.Show.{Show}
 use Rattle.pm_tool.specs.declared.steps.Show.TheVariants.{Trace, Console}
 use Rattle.pm_jobs.specs.Streams.{Streams, AppendsBut, IsCause, IsFront}
 
--- a run to where it ends: what its steps show, why it ends, the machine then, and the console bytes that are left
--- unread
+-- A run to its end: the output of its steps, the reason of its end, the last state, and the unread console bytes.
 pub record Run : Type 0 where
   pub shown : List ℕ
   pub ending : Ending
@@ -32,8 +31,8 @@ after_showing text run = record run { shown = text ++ run.shown }
 abbrev pub ended_run : List ℕ → Ending → State → List ℕ → Run
 ended_run shown ending machine unread = record { shown = shown; ending = ending; machine = machine; unread = unread }
 
--- what is shown of a step from one state to the other: the line of the state before it, if it is selected, or the bytes
--- that it adds to the console
+-- The output of a step from one state to the next: the line of the first state, if it is selected, or the bytes that
+-- the step adds to the console.
 abbrev pub shown_of : Show → State → State → List ℕ
 shown_of (Trace selection) before after = shown_line selection before
 shown_of (Console saving) before after = drop (length before.devices.console) after.devices.console
@@ -48,18 +47,18 @@ abbrev pub is_console : Show → Bool
 is_console (Trace selection) = false
 is_console (Console saving) = true
 
--- some steps, at most so many, each of which went and shows nothing
+-- At most `limit` steps, each of which succeeds and has no output.
 pub record Unshown (show : Show) (limit : ℕ) (s : State) (count : ℕ) (t : State) : Type 0 where
   pub within : count ≤ limit
   pub went : AllWent count s
   pub left : t ≡ after_steps count s
   pub blank : (k : ℕ) → k < count → shown_of show (after_steps k s) (after_steps (suc k) s) ≡ []
 
--- a step that waits shows nothing
+-- A step that waits has no output.
 abbrev pub shown_by : Show → State → State → Stop → List ℕ
 shown_by show before after stop = if is_waiting stop then [] else shown_of show before after
 
--- what a step leads to, where rest says how the run goes on
+-- The rest of the run after a step. `rest` is the continuation of the run.
 abbrev pub follows : Show → (List ℕ → State → Run) → State → State → Stop → List ℕ → Run
 follows show rest before after Went keys = after_showing (shown_of show before after) (rest keys after)
 follows show rest before after Ended keys = ended_run (shown_of show before after) endings.Ended after keys
@@ -67,28 +66,28 @@ follows show rest before after (Halted error) keys =
     ended_run (shown_of show before after) (endings.Error error) after keys
 follows show rest before after Waiting keys = ended_run [] endings.Waiting after keys
 
--- One step, and what it leads to. Each time that it waits the next console byte is keyed and the step is made again, as
--- long as there are any.
+-- One step and the rest of the run. Each time that it waits, the next console byte is keyed and the step is executed
+-- again, while there are bytes.
 unfoldable pub turn : Show → (List ℕ → State → Run) → List ℕ → State → Run
 turn show rest [] m = follows show rest m (stepped m).0 (stepped m).1 []
 turn show rest (key ∷ keys) m =
     if is_waiting (stepped m).1 then turn show rest keys (next (stepped m).0 (Key key))
     else follows show rest m (stepped m).0 (stepped m).1 (key ∷ keys)
 
--- the run of at most so many steps, with these console bytes to come
+-- The run of at most a given number of steps, with these console bytes as its input.
 unfoldable pub run_of : Show → ℕ → List ℕ → State → Run
 run_of show zero keys m = ended_run [] endings.Limit m keys
 run_of show (suc n) keys m = turn show (run_of show n) keys m
 
--- what is written after the steps: the last line ends a trace
+-- The text that is written after the steps: the last line of a trace.
 abbrev pub end_text : Show → Ending → ℕ → List ℕ
 end_text (Trace selection) ending steps = last_line ending steps ++ (10 ∷ [])
 end_text (Console saving) ending steps = []
 
--- ---- a run that is written as it goes
+-- ---- a run that is written while it is executed
 
--- The run is at its end: these bytes were keyed, and what it shows was written but for what is held back. If it waits,
--- nothing is left to read.
+-- The run has ended. These bytes were keyed, and its output was written except the part that is held back. If it waits,
+-- no input is left.
 pub record ComesToEnd (old new : Streams) (held_back : List ℕ) (show : Show) (limit : ℕ) (began : State)
     (ending : Ending) (machine : State) : Type 0 where
   pub read : List ℕ
@@ -100,8 +99,8 @@ pub record ComesToEnd (old new : Streams) (held_back : List ℕ) (show : Show) (
       → run_of show limit (read ++ rest) began ≡ ended_run shown ending machine rest
   pub drained : ending ≡ endings.Waiting → IsAtEnd new.source.remaining
 
--- The run was broken off: what was written is a front of what it shows, whatever is left to read. Where a read failed,
--- it is all that was shown up to then: a program never waits for input before its output is written.
+-- A fault stopped the run. What was written is a prefix of its output for any rest of the input. If a read failed, it
+-- is all output up to then: a program never waits for input before its output is written.
 pub record StopsShort (old new : Streams) (show : Show) (limit : ℕ) (began : State) (fault : Fault) : Type 0 where
   pub read : List ℕ
   pub front : List ℕ

@@ -1,4 +1,4 @@
--- What a job says to its input, and how a job keeps to it.
+-- The defined output of a job for its input, and the execution of a job.
 use Rattle.std.specs.Prelude.{◌≡◌, ◌⊎◌, ◌↔◌, true, false, ◌≤◌, ℕ, ◌+◌, ◌<◌, List, [], ◌∷◌, ◌++◌, Some}
 use Rattle.std.specs.Prelude.{None, Option, Result, Ok, Err, length, IfSome}
 use Rattle.std.specs.Io.KnownBytes.{Consumes, Appends, Keeps}
@@ -35,7 +35,7 @@ use Rattle.pm_jobs.specs.Streams.{Streams, IsFront, IsCause, CountsOn}
 
 -- ---- the jobs
 
--- a run that is told by its trace
+-- A run whose output is its trace.
 abbrev pub traced : Run → Said
 traced run = record {
   written = run.shown ++ (last_line run.ending run.machine.steps ++ (10 ∷ []));
@@ -48,27 +48,27 @@ traced run = record {
   stopped = None;
 }
 
--- the image on unit 4, where it is to be saved
+-- The image on unit 4 if it is to be saved.
 abbrev pub first_kept : Saving → Devices → Option (List ℕ)
 first_kept savings.Nothing devices = None
 first_kept savings.First devices = ejected_image 4 devices
 first_kept savings.All devices = ejected_image 4 devices
 first_kept savings.Others devices = None
 
--- the images on the other disk units
+-- The images on the other disk units.
 abbrev pub others_in : Devices → List (Option (List ℕ))
 others_in devices = ejected_image 5 devices ∷ ejected_image 9 devices ∷ ejected_image 10 devices
     ∷ ejected_image 11 devices ∷ ejected_image 12 devices ∷ []
 
--- the same, where they are to be saved
+-- The same if they are to be saved.
 abbrev pub others_kept : Saving → Devices → List (Option (List ℕ))
 others_kept savings.Nothing devices = no_others
 others_kept savings.First devices = no_others
 others_kept savings.All devices = others_in devices
 others_kept savings.Others devices = others_in devices
 
--- a run that is told by its console bytes: its last line is the message, and the images that it leaves are saved as is
--- to be
+-- A run whose output is its console bytes. Its last line is the message, and the images that `saving` selects are
+-- saved.
 abbrev pub run_said : Saving → Run → Said
 run_said saving run = record {
   written = run.shown;
@@ -81,17 +81,17 @@ run_said saving run = record {
   stopped = stop_of run.ending run.machine;
 }
 
--- a run, told in one of the two ways
+-- A run with one of the two outputs.
 abbrev pub said_run : Show → Run → Said
 said_run (Trace selection) run = traced run
 said_run (Console saving) run = run_said saving run
 
--- the run of a machine whose console bytes are the input, or the refusal
+-- The run of a machine whose console input is the input, or the refusal.
 abbrev pub said_started : Show → ℕ → Result State Refusal → List ℕ → Said
 said_started show limit (Ok machine) input = said_run show (run_of show limit input machine)
 said_started show limit (Err refusal) input = refused refusal input
 
--- the session over a machine: it ends well, whatever the machine did
+-- The session of a machine. It ends well, even if the machine did not.
 abbrev pub debugged : State → List ℕ → Said
 debugged machine input = record {
   written = answers (lines_of_input input) (opened machine);
@@ -104,57 +104,57 @@ debugged machine input = record {
   stopped = None;
 }
 
--- a machine on whose console these bytes wait too
+-- The machine after these bytes were appended to its console input queue.
 abbrev pub typed_into : List ℕ → State → State
 typed_into [] machine = machine
 typed_into (b ∷ bytes) machine = typed_into bytes (next machine (Key b))
 
--- the session over the machine that starts, on whose console bytes wait, or the refusal
+-- The session of the machine that starts, with bytes in its console input queue, or the refusal.
 abbrev pub said_debug : List ℕ → Result State Refusal → List ℕ → Said
 said_debug typed (Ok machine) input = debugged (typed_into typed machine) input
 said_debug typed (Err refusal) input = refused refusal input
 
--- a machine that starts, or none, and how it is talked with
+-- A machine that starts, or none, and its use.
 abbrev pub said_talk : Talk → Result State Refusal → List ℕ → Said
 said_talk (talks.Run show limit) start input = said_started show limit start input
 said_talk (talks.Session typed) start input = said_debug typed.items start input
 
--- What is said to all of the input. A program that the input spells has no console bytes; to a program of a disk the
--- input is its console's, and to a debugger it is its commands.
+-- The defined output for the whole input. A program in the input has no console bytes. For a program of a disk the
+-- input is that of its console, and for a debugger it is the commands.
 abbrev pub said_work : Work → List ℕ → Said
 said_work (works.Raw limit selection) input = said_started (Trace selection) limit (loaded (hex_spelled input)) []
 said_work (works.Talk start talk) input = said_talk talk (machine_at start) input
 said_work (works.Dis output) input = said_making true (dis_product output) input
 said_work (works.Batch job) input = said_batch job input
 
--- what a job says to all of its input
+-- The defined output of a job for its whole input.
 abbrev pub job_said : Job → List ℕ → Said
 job_said job input = said_work (work_of job) input
 
--- what the steps of a machine that starts have shown once these console bytes are keyed and no more are there
+-- The output of the steps of a machine that starts, after these console bytes are keyed and no more exist.
 abbrev pub shown_started : Show → ℕ → Result State Refusal → List ℕ → List ℕ
 shown_started show limit (Ok machine) input = (run_of show limit input machine).shown
 shown_started show limit (Err refusal) input = []
 
--- all that is shown when these bytes were read and one more is wanted
+-- All output after these bytes were read and one more is needed.
 abbrev pub shown_talk : Talk → Result State Refusal → List ℕ → List ℕ
 shown_talk (talks.Run show limit) start read = shown_started show limit start read
 shown_talk (talks.Session typed) start read = (said_debug typed.items start (whole_lines read)).written
 
--- ---- keeping to it
+-- ---- the execution of a job
 
--- a job's outcome, what it wrote and what it left unread are what is said
+-- The outcome of a job, what it wrote and what it left unread are the defined output.
 pub record Tells (old new : Streams) (outcome : Outcome) (told : Said) : Type 0 where
   pub written : Appends old.sink.contents new.sink.contents told.written
   pub comes_to : IsOutcome outcome told
   pub unread : Keeps (Some told.unread) new.source.remaining
 
--- what is written, answered and left unread is what is said to the input
+-- What is written, returned and left unread is the defined output for the input.
 abbrev pub TellsAll : Streams → Streams → Outcome → (List ℕ → Said) → Type 0
 TellsAll old new outcome text = IfSome old.source.remaining (λ input. Tells old new outcome (text input))
 
--- what was written is a front of what is said to the bytes that were read, taken as the whole input, and to all of the
--- input where that is known
+-- What was written is a prefix of the defined output for the bytes that were read, as the whole input. It is also a
+-- prefix of the defined output for the whole input, if that is known.
 pub record TellsFront (old new : Streams) (text : List ℕ → Said) : Type 0 where
   pub read : List ℕ
   pub front : List ℕ
@@ -163,50 +163,50 @@ pub record TellsFront (old new : Streams) (text : List ℕ → Said) : Type 0 wh
   pub so_far : IsFront front (text read).written
   pub whole : IfSome new.source.remaining (λ rest. IsFront front (text (read ++ rest)).written)
 
--- neither a fault of a stream nor want of memory
+-- The end is neither a stream fault nor out of memory.
 abbrev pub IsSoundExit : Exit → Type 0
 IsSoundExit exit = is_sound_exit exit ≡ true
 
--- a fault of a stream, or want of memory
+-- The end is a stream fault or out of memory.
 abbrev pub IsCutShort : Exit → Type 0
 IsCutShort exit = is_sound_exit exit ≡ false
 
--- A read fault is answered exactly where a source has failed or too many bytes were read, and a write fault exactly
--- where a sink has failed.
+-- A read fault is returned if and only if a source has failed or too many bytes were read. A write fault is returned if
+-- and only if a sink has failed.
 abbrev pub FailsExactly : Streams → Streams → Exit → Type 0
 FailsExactly old new exit = (read : List ℕ) × Consumes old.source.remaining new.source.remaining read
     × (exit ≡ exits.ReadFault ↔ (new.source.failed ≡ true) ⊎ (INPUT_LIMIT < length read))
     × (exit ≡ exits.WriteFault ↔ new.sink.failed ≡ true)
 
--- By the count of a source: a read fault is answered exactly where it has failed or gave more bytes than an input may
--- have.
+-- By the byte count of a source, a read fault is returned if and only if the source has failed or returned more bytes
+-- than an input may have.
 abbrev pub CountsExactly : Streams → Streams → Exit → Type 0
 CountsExactly old new exit = CountsOn old.source.given →
     (exit ≡ exits.ReadFault ↔ (new.source.failed ≡ true) ⊎ (old.source.given + INPUT_LIMIT < new.source.given))
 
--- a job comes to its end
+-- A job ends.
 pub record Finishes (old new : Streams) (outcome : Outcome) (text : List ℕ → Said) : Type 0 where
   pub tells : TellsAll old new outcome text
   pub few : (read : List ℕ) × Consumes old.source.remaining new.source.remaining read × (length read ≤ INPUT_LIMIT)
   pub exit : IsSoundExit outcome.exit
 
--- a job is broken off
+-- A fault stops a job.
 pub record BreaksOff (old new : Streams) (fault : Fault) (text : List ℕ → Said) : Type 0 where
   pub cut : TellsFront old new text
   pub cause : IsCause fault new.source.failed new.sink.failed cut.read
 
--- what was written is all that was shown when these bytes were read and one more was wanted
+-- What was written is all output after these bytes were read and one more was needed.
 pub record WritesFirst (old new : Streams) (shown : List ℕ → List ℕ) : Type 0 where
   pub read : List ℕ
   pub reads : Consumes old.source.remaining new.source.remaining read
   pub writes : Appends old.sink.contents new.sink.contents (shown read)
 
--- where a read failed, all that was shown by then was written
+-- If a read failed, all output up to then was written.
 abbrev pub WritesInTime : Streams → Streams → (List ℕ → List ℕ) → Type 0
 WritesInTime old new shown = new.source.failed ≡ true → WritesFirst old new shown
 
--- Where a read failed: a program never waits for input before its output is written, and no line of a session is read
--- before the one before it is answered. The other jobs write nothing before they have read all.
+-- If a read failed, a program has not waited for input before its output was written, and no line of a session was read
+-- before the previous one was answered. The other jobs write nothing before they have read all input.
 abbrev pub IsPromptWork : Work → Streams → Streams → Type 0
 IsPromptWork (works.Raw limit selection) old new = Unit {0}
 IsPromptWork (works.Talk start talk) old new = WritesInTime old new (shown_talk talk (machine_at start))

@@ -1,4 +1,4 @@
--- Where an error stopped a run, and on what.
+-- The state in which an error stopped a run.
 use Rattle.std.specs.Prelude.{◌≡◌, ◌+◌, ◌%◌, ℕ, List, [], ◌∷◌, Option, Some, None, IfSome, string_bytes}
 use Rattle.pm_words.specs.Words.{byte_at}
 use Rattle.pm_machine.specs.State.{State}
@@ -8,27 +8,27 @@ use Rattle.pm_session.specs.declared.ending.Ending.{Ending}
 use Rattle.pm_session.specs.declared.ending.Ending.TheVariants as endings
 use Rattle.pm_tool.specs.declared.stopped.Stopped.{Stopped}
 
--- the three bytes at IPC
+-- The three bytes at IPC.
 abbrev pub code_at : State → List ℕ
 code_at s = byte_at s.memory s.registers.ipc ∷ byte_at s.memory ((s.registers.ipc + 1) % 65536)
     ∷ byte_at s.memory ((s.registers.ipc + 2) % 65536) ∷ []
 
--- What is told of a stop is what the state shows: the place of IPC in the code, the line of a trace of the step that
--- was not made, where there was memory for it, the bytes at IPC, and IORESULT.
+-- A stop has what the state shows: the position of IPC in the code, the bytes at IPC, and IORESULT. If there was memory
+-- for it, it also has the line of a trace for the step that was not executed.
 pub record IsStop (stopped : Stopped) (s : State) : Type 0 where
   pub place : stopped.place ≡ place_in_code s
   pub step : IfSome stopped.step (λ line. string_bytes line ≡ trace_line s)
   pub code : stopped.code ≡ code_at s
   pub ioresult : stopped.ioresult ≡ s.registers.ioresult
 
--- a stop is told exactly where there was one
+-- A stop is returned if and only if there was one.
 abbrev pub AreStops : Option Stopped → Option State → Type 0
 AreStops None None = Unit {0}
 AreStops None (Some s) = ⊥
 AreStops (Some stopped) None = ⊥
 AreStops (Some stopped) (Some s) = IsStop stopped s
 
--- the state in which an error stopped a run
+-- The state in which an error stopped a run.
 abbrev pub stop_of : Ending → State → Option State
 stop_of endings.Ended s = None
 stop_of (endings.Error error) s = Some s

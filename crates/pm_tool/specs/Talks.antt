@@ -1,4 +1,4 @@
--- A session that is written as it goes.
+-- A session that is written while it is executed.
 use Rattle.std.specs.Prelude.{◌≡◌, ◌≤◌, ℕ, Bool, true, List, [], ◌++◌, length}
 use Rattle.std.specs.Io.KnownBytes.{Appends, Consumes, IsAtEnd}
 use Rattle.pm_debug.specs.Session.{Session}
@@ -7,7 +7,7 @@ use Rattle.pm_jobs.specs.declared.source.TheConstants.{INPUT_LIMIT}
 use Rattle.pm_session.specs.Sessions.{told, whole_lines}
 use Rattle.pm_jobs.specs.Streams.{Streams, IsCause, IsFront}
 
--- The session is over: these bytes were read, and these were written. Where it ended with the input, none are left.
+-- The session has ended. These bytes were read and these were written. If it ended with the input, none are left.
 pub record IsAnswered (old new : Streams) (began : Session) : Type 0 where
   pub read : List ℕ
   pub shown : List ℕ
@@ -19,8 +19,8 @@ pub record IsAnswered (old new : Streams) (began : Session) : Type 0 where
       → told (read ++ rest) began ≡ record { text = shown; unread = rest }
   pub drained : ended ≡ true → IsAtEnd new.source.remaining
 
--- The session was broken off: what was written is a front of the answers, whatever is left to read. Where a read
--- failed, it is the answers to all whole lines that were read: no line is wanted before the one before it is answered.
+-- A fault stopped the session. What was written is a prefix of the answers for any rest of the input. If a read failed,
+-- it is the answers to all whole lines that were read: a line is answered before the next one is read.
 pub record IsInterrupted (old new : Streams) (began : Session) (fault : Fault) : Type 0 where
   pub read : List ℕ
   pub front : List ℕ

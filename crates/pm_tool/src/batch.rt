@@ -1,4 +1,4 @@
-//! Jobs that turn bytes into bytes: one function of their input, which is read whole or not at all.
+//! Jobs that convert bytes to bytes, as one function of their input. They read the whole input or nothing of it.
 ghost use Rattle.std.specs.Prelude.{◌≡◌, false, [], List, ℕ, IfOk, IfErr, OnOk, OnErr};
 ghost use Rattle.std.specs.Io.KnownBytes.{Appends, Consumes};
 ghost use Rattle.pm_batch.specs.Batches.{reads_input};
@@ -14,7 +14,7 @@ use pm_batch::{Batch, Made, make};
 use pm_jobs::{Fault, Sink, Source, read_all, write_all};
 use std::alloc::Global;
 
-/// The whole input of a job that reads it; of another nothing is read.
+/// Returns the whole input of a job that reads it. For another job it reads nothing and returns no bytes.
 fn input_of<R: Source>(alloc: Global, source: &mut R, job: &Batch) -> Result<Vec<u8>, Fault>
     requires well { (R.seen source.old).failed ≡ false }
     ensures input { IfOk result (λ input. IsInput (reads_input job.now) (R.seen source.old).remaining
@@ -32,7 +32,7 @@ fn input_of<R: Source>(alloc: Global, source: &mut R, job: &Batch) -> Result<Vec
     Ok(input)
 }
 
-/// Writes what a job made, and answers what it comes to.
+/// Writes the product of a job and returns the outcome.
 fn deliver<W: Sink>(alloc: Global, sink: &mut W, made: Made) -> Result<Outcome, Fault>
     requires well { (W.seen sink.old).failed ≡ false }
     ensures written { OnOk result (Appends (W.seen sink.old).contents (W.seen sink.new).contents
@@ -64,7 +64,7 @@ fn deliver<W: Sink>(alloc: Global, sink: &mut W, made: Made) -> Result<Outcome, 
     }
 }
 
-/// Does a job that turns bytes into bytes.
+/// Executes a job that converts bytes to bytes.
 pub(crate) fn do_batch<R: Source, W: Sink>(
     alloc: Global,
     source: &mut R,

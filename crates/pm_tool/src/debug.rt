@@ -13,7 +13,7 @@ use pm_jobs::{Fault, Sink, Source, next_byte, write_all};
 use pm_session::answer;
 use std::alloc::Global;
 
-/// Answers one line: whether the session goes on.
+/// Answers one line. Returns whether the session continues.
 fn turn<W: Sink>(
     alloc: Global,
     sink: &mut W,

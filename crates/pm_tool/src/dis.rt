@@ -1,4 +1,4 @@
-//! The job on a code file: what is shown of it is written as it is made.
+//! The job on a code file. Its output is written while it is created.
 ghost use Rattle.std.specs.Prelude.{◌≡◌, true, false, [], List, ℕ, IfOk, IfErr, OnOk, OnErr};
 ghost use Rattle.std.specs.Io.KnownBytes.{Appends};
 ghost use Rattle.pm_tool.specs.Batches.{said_making};
@@ -15,7 +15,7 @@ use pm_jobs::{DisOutput, Fault, Sink, Source, read_all};
 use pm_writing::write_code;
 use std::alloc::Global;
 
-/// Writes what is shown of the code file that the bytes are, or refuses the bytes.
+/// Writes the requested output for the code file in the bytes, or refuses the bytes.
 fn show_code<W: Sink>(
     alloc: Global,
     sink: &mut W,
@@ -41,7 +41,7 @@ fn show_code<W: Sink>(
     Ok(Outcome::plain(alloc, Exit::Ended, String::new(alloc)))
 }
 
-/// Does the job on a code file.
+/// Executes the job on a code file.
 pub(crate) fn do_dis<R: Source, W: Sink>(
     alloc: Global,
     source: &mut R,

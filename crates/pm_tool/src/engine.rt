@@ -18,7 +18,7 @@ use crate::work::{Work, work_of};
 use pm_jobs::{Fault, Nothing, Selection, Sink, Source, read_all};
 use std::alloc::Global;
 
-/// Writes the trace of the program that the input spells.
+/// Writes the trace of the program in the input.
 fn raw<R: Source, W: Sink>(
     alloc: Global,
     source: &mut R,
@@ -46,7 +46,7 @@ fn raw<R: Source, W: Sink>(
     Ok(outcome)
 }
 
-/// Does the job, unless it is broken off.
+/// Executes a job, or returns the fault that stopped it.
 fn do_job<R: Source, W: Sink>(
     alloc: Global,
     source: &mut R,
@@ -73,7 +73,7 @@ fn do_job<R: Source, W: Sink>(
     }
 }
 
-/// The outcome of a job that was broken off. It takes no memory.
+/// Returns the outcome of a job that a fault stopped. It needs no memory.
 fn broken_off(alloc: Global, fault: Fault) -> Outcome
     ensures exit { result.exit ≡ fault_exit fault }
     ensures image { result.image ≡ None }
@@ -84,32 +84,31 @@ fn broken_off(alloc: Global, fault: Fault) -> Outcome
     Outcome::plain(alloc, Exit::of_fault(fault), String::new(alloc))
 }
 
-/// Does a job: reads its input, writes its output, and answers what it comes to.
+/// Executes a job: reads its input, writes its output, and returns its outcome.
 ///
 /// Neither stream may have failed before. An input of more than `INPUT_LIMIT` bytes is a read fault.
 pub fn run<R: Source, W: Sink>(alloc: Global, source: &mut R, sink: &mut W, job: Job) -> Outcome
     requires well { AreWell (both (R.seen source.old) (W.seen sink.old)) }
 
-    // What is written, answered and left unread is exactly what is said to the input.
+    // What is written, returned and left unread is exactly the defined output for the input.
     ensures exact { IsSoundExit result.exit → TellsAll (both (R.seen source.old) (W.seen sink.old))
         (both (R.seen source.new) (W.seen sink.new)) result (job_said job) }
 
-    // After a fault of a stream or want of memory, what was written is a front of that.
+    // After a stream fault or out of memory, a prefix of the defined output was written.
     ensures cut { IsCutShort result.exit →
         TellsFront (both (R.seen source.old) (W.seen sink.old)) (both (R.seen source.new) (W.seen sink.new))
         (job_said job) }
 
-    // Where a read failed, all that the program had shown by then was written, and every whole line of a session was
-    // answered: output is written before more input is wanted.
+    // If a read failed, all that the program had shown by then was written, and every whole line of a session was
+    // answered. Output is written before more input is read.
     ensures prompt { IsPrompt job (both (R.seen source.old) (W.seen sink.old))
         (both (R.seen source.new) (W.seen sink.new)) }
 
-    // A fault of a stream is answered exactly where a read or a write failed or the input is too long, and the text
-    // says which.
+    // A stream fault is returned if and only if a read or a write failed or the input is too long. The text names it.
     ensures fails { FailsExactly (both (R.seen source.old) (W.seen sink.old))
         (both (R.seen source.new) (W.seen sink.new)) result.exit }
 
-    // The same of a read fault by the source's own count, whether it tells its bytes or not.
+    // The same for a read fault by the byte count of the source, even if the source does not report its bytes.
     ensures counted { CountsExactly (both (R.seen source.old) (W.seen sink.old))
         (both (R.seen source.new) (W.seen sink.new)) result.exit }
     ensures fault { result.exit ≡ Exit.ReadFault → outcome_text result ≡ codes "read fault" }
@@ -118,7 +117,8 @@ pub fn run<R: Source, W: Sink>(alloc: Global, source: &mut R, sink: &mut W, job:
     ensures nothing_else { IsCutShort result.exit →
         (result.image ≡ None) × (images_of result.others ≡ no_others) × (result.printer.items ≡ []) }
 
-    // A refusal names its fault, never want of memory, by its text, and of a program the file that it is about.
+    // A refusal names its fault by its text, and never means out of memory. For a program it names the file that it is
+    // about.
     ensures told { SaysWhy result }
     ensures about { IsSoundExit result.exit → NamesFileIn (work_of job) result }
 {

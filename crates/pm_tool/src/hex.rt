@@ -13,7 +13,7 @@ fn is_blank(byte: u8) -> bool
     matches!(byte, 9 | 10 | 13 | 32)
 }
 
-/// The byte that two digits spell.
+/// Returns the byte of two hexadecimal digits.
 fn pair(high: u8, low: u8) -> Option<u8>
     ensures value { result ≡ pair_value high low }
 {
@@ -22,7 +22,7 @@ fn pair(high: u8, low: u8) -> Option<u8>
     Some((16 * high + low) as u8)
 }
 
-/// The bytes that a text spells, if it spells any.
+/// Returns the bytes of a text, or `None` if the text is not pairs of hexadecimal digits and white space.
 pub(crate) fn decode(alloc: Global, text: &[u8]) -> Result<Option<Vec<u8>>, AllocError>
     ensures bytes { IfOk result (λ bytes. option_map (λ v. v.items) bytes ≡ hex_spelled text.now) }
 {

@@ -1,4 +1,4 @@
-//! What helps where a program does not start.
+//! Hints for a program that does not start.
 ghost use Rattle.std.specs.Prelude.{◌≡◌, IfSome, true};
 ghost use Rattle.pm_codefile.specs.Dictionary.{segment_in};
 ghost use Rattle.pm_tool.specs.Hints.{has_number};
@@ -9,19 +9,19 @@ use pm_volume::Volume;
 use std::alloc::Global;
 use std::fmt;
 
-/// What helps where a program does not start.
+/// A hint for a program that does not start.
 #[derive(Drop)]
 pub enum Hint {
-    /// No file has the program's name, but one has this, with `.CODE` behind it.
+    /// No file has the name of the program, but one has this name, which ends with `.CODE`.
     Named(String),
-    /// Slot 1 of the program's code file is empty.
+    /// Slot 1 of the code file of the program is empty.
     NoFirst {
-        /// The first slot that has a segment with number 1, if one has.
+        /// The first slot with a segment of number 1, if there is one.
         first: Option<u8>,
         /// Whether slot 0 has a segment.
         has_system: bool,
     },
-    /// The program's file is no code file, for this.
+    /// The file of the program is no code file because of this fault.
     NoCode(CodeFault),
 }
 
@@ -51,7 +51,7 @@ impl fmt::Display for Hint {
     }
 }
 
-/// Whether a slot has a segment with this number, which is the low byte of its highest word.
+/// Whether a slot has a segment with this number. The number is the low byte of the highest word of the segment.
 fn has_number(file: &CodeFile<'_>, slot: u8, number: u8) -> bool
     ensures value { result ≡ has_number number (segment_in file.now slot) }
 {
@@ -61,7 +61,7 @@ fn has_number(file: &CodeFile<'_>, slot: u8, number: u8) -> bool
     }
 }
 
-/// The first slot that has a segment with this number, if one has.
+/// Returns the first slot that has a segment with this number.
 fn slot_of(file: &CodeFile<'_>, number: u8) -> Option<u8>
     ensures has { IfSome result (λ slot. has_number number (segment_in file.now slot) ≡ true) }
 {
@@ -73,7 +73,8 @@ fn slot_of(file: &CodeFile<'_>, number: u8) -> Option<u8>
     None
 }
 
-/// What is wrong with the code file of a name, if there is one.
+/// Returns the hint about the code file with this name: its fault, or its slots. Returns `None` if there is no such
+/// file.
 fn hint_of_code(volume: &Volume, name: &str) -> Option<Hint> {
     let entry = volume.find(name)?;
     match CodeFile::read(volume.file(&entry)?) {
@@ -85,7 +86,7 @@ fn hint_of_code(volume: &Volume, name: &str) -> Option<Hint> {
     }
 }
 
-/// A name with `.CODE` behind it, if it is that of a file, and can be shown.
+/// Returns the name with `.CODE` appended if a file has this name and the name can be shown.
 fn hint_of_name(alloc: Global, volume: &Volume, name: &str) -> Option<Hint> {
     let longer = format!(in alloc; "{name}.CODE").ok()?;
     volume.find(longer.as_str())?;
@@ -95,7 +96,7 @@ fn hint_of_name(alloc: Global, volume: &Volume, name: &str) -> Option<Hint> {
     Some(Hint::Named(longer))
 }
 
-/// What helps where a program of a volume does not start by this fault, if something does.
+/// Returns the hint for a program of a volume that does not start because of this fault, if there is a hint.
 pub(crate) fn hint_for(
     alloc: Global,
     volume: &Option<Volume>,

@@ -1,4 +1,4 @@
-//! Jobs, and what they come to.
+//! Jobs and their outcomes.
 ghost use Rattle.std.specs.Prelude.{◌≡◌, false, [], List, ℕ, Some, None, IfOk, option_map, string_bytes, vec_items};
 ghost use Rattle.pm_tool.specs.Disks.{images_of};
 ghost use Rattle.pm_tool.specs.Outcomes.{IsOutcome, SaysWhy, exit_number, exit_of, fault_exit, is_refusal, judged};
@@ -12,26 +12,34 @@ use pm_jobs::{AsmOutput, DisOutput, Fault, Saving, Selection};
 use pm_session::Ending;
 use std::alloc::{AllocError, Global};
 
-/// What is to be done.
+/// A job.
 #[derive(Drop)]
 pub enum Job {
-    /// The input spells a program: its bytes are pairs of hexadecimal digits of both cases, with white space (tabs,
-    /// line feeds, carriage returns and spaces) anywhere but within a pair. The output is the trace of at most `limit`
-    /// steps, of which the lines that are selected are written. Any other input is refused by `refused hex 1`, and a
-    /// program of more than 60,000 bytes by `refused boot 3`.
+    /// Runs the program in the input. Its bytes are pairs of hexadecimal digits in upper or lower case. White space
+    /// (tabs, line feeds, carriage returns and spaces) is allowed everywhere except within a pair.
+    ///
+    /// The output is the trace of at most `limit` steps, and only its selected lines are written. Any other input is
+    /// refused with `refused hex 1`, and a program of more than 60,000 bytes with `refused boot 3`.
     Raw {
         limit: u32,
         selection: Selection,
     },
-    /// A program runs: the code file `name` on the disk of unit 4. The disks are those of the units 4, 5, 9, 10, 11 and
-    /// 12, and are opened in that order: an image that is no volume is refused by `refused volume N`, and a program
-    /// that does not start by `refused boot N`, both before any input is read. The input is the console's: each time
-    /// that the program waits for console bytes, one is read. The output is what the program writes to the console. The
-    /// message is the last line of a trace; the outcome has the printer's bytes and, as `saving` says, the image on
-    /// unit 4, those on the other disk units or all, as the program left them. With `system`, the program is that of
-    /// the image on which the code file `name` has the segment of slot 0 of this code file, as `pm_filer::put_system`
-    /// puts it in; where it is not put in, the job is refused by `refused system N`, behind the images and before the
-    /// start.
+    /// Runs a program: the code file `name` on the disk of unit 4. The disks are those of units 4, 5, 9, 10, 11 and 12.
+    ///
+    /// The input is the console input: each time that the program waits for console bytes, one byte is read. The output
+    /// is what the program writes to the console. The message is the last line of a trace. The outcome has the bytes of
+    /// the printer and the images that `saving` selects, as the program left them.
+    ///
+    /// With `system`, the code file `name` on the image gets the segment of slot 0 of this code file, as by
+    /// `pm_filer::put_system`.
+    ///
+    /// # Errors
+    ///
+    /// All are checked in this order, before any input is read:
+    ///
+    /// - `refused volume N`: an image is no volume. The images are opened in the order of the units.
+    /// - `refused system N`: the system segment cannot be added.
+    /// - `refused boot N`: the program does not start.
     Run {
         disks: [Option<Vec<u8>>; 6],
         name: String,
@@ -39,9 +47,9 @@ pub enum Job {
         saving: Saving,
         system: Option<Vec<u8>>,
     },
-    /// The same program runs, and the output is its trace alone: a line for each step that does not wait, of the state
-    /// before it, if it is selected, and a last line: `ended K`, `error N K`, `limit K` after `limit` steps, or
-    /// `waiting K` where no input is left.
+    /// Runs the same program. The output is only its trace: a line for each selected step that does not wait, of the
+    /// state before it, and a last line. The last line is `ended K`, `error N K`, `limit K` after `limit` steps, or
+    /// `waiting K` if no input is left.
     Trace {
         disks: [Option<Vec<u8>>; 6],
         name: String,
@@ -49,84 +57,99 @@ pub enum Job {
         system: Option<Vec<u8>>,
         selection: Selection,
     },
-    /// A debugger of the same program, which is not run by itself: each line of the input is a command, and is answered
-    /// by one line, before the next is read. The session ends behind the line of `quit`, or with the input, and the job
-    /// then ends well, whatever the machine did. The console's bytes are not shown, and none of the input is its: the
-    /// bytes of `typed` wait on it from the start on.
+    /// Opens a debugger of the same program, which does not run by itself. Each line of the input is a command and is
+    /// answered before the next one is read. The session ends after the line of `quit` or with the input. The job then
+    /// succeeds, even if the machine did not.
+    ///
+    /// The console output is shown only by commands, and no input is passed to the console. The bytes of `typed` are in
+    /// the console input queue from the start on.
     Debug {
         disks: [Option<Vec<u8>>; 6],
         name: String,
         system: Option<Vec<u8>>,
         typed: Vec<u8>,
     },
-    /// The input is a text of the assembler, each byte above 127 being character 127. The output is one of four:
+    /// Assembles the source text in the input. Each byte above 127 is character 127. The output is one of four:
     ///
-    /// - The code file of its program, or the listing of it. Any other text is refused by `refused asm N LINE`, with
-    ///   the number of its first fault and its line, and one with a segment that is too long by `refused asm 7
+    /// - The code file of its program, or its listing. Any other text is refused with `refused asm N LINE`: the number
+    ///   of its first fault, and the line. If one of its segments is too long, it is refused with `refused asm 7
     ///   SEGMENT`.
-    /// - A line for each of its faults, in the order of the lines that they name: the message for a text with that
-    ///   fault alone. They are the first fault of each line that has one; where no line has any, the first of the
-    ///   labels of each line; where there is none of these either, the segment that is too long. The job is refused by
-    ///   the first of them, as above; where there is none, nothing is written.
-    /// - A line `SSS PPP OOOOO NAME` for each of its procedures and labels, in the order of the text: the number of the
-    ///   segment, that of the procedure, the offset in bytes from where the procedure is entered, and the label, or
-    ///   `.PROC` for the procedure itself. Any other text is refused as above.
+    /// - A line for each of its faults, in ascending order of the lines that they name: the message for a text with
+    ///   only this fault. These are the first fault of each line that has one. If there are none, they are the first
+    ///   fault of the labels of each line. If there are none of these either, it is the segment that is too long. The
+    ///   job is refused with the first of them, as above. If there are none, nothing is written.
+    /// - A line `SSS PPP OOOOO NAME` for each of its procedures and labels, in the order of the text. SSS and PPP are
+    ///   the numbers of the segment and the procedure. OOOOO is the offset in bytes from the entry of the procedure.
+    ///   NAME is the label, or `.PROC` for the procedure itself. Any other text is refused as above.
     Asm(AsmOutput),
-    /// The input is a code file. One that is none is refused by `refused code N`, with the slot that the fault names.
-    /// The output is one of four:
+    /// Disassembles the code file in the input. Any other input is refused with `refused code N` and the slot that the
+    /// fault names. The output is one of four:
     ///
-    /// - Its text: its segments by ascending slot, each with its procedures.
-    /// - The same with names: behind each line that is `CSP n` or `CXP 0, n` a comment with that of the standard
-    ///   procedure, or of the system's, where the number has one.
-    /// - Its listing by its own bytes and offsets, whatever laid them out: for each segment, ascending, a line for each
-    ///   item, jump entry and attribute table of its procedures, in the order of its dictionary, and for the
+    /// - Its source text: its segments in ascending order of their slots, each with its procedures.
+    /// - The same with names. A comment after each line `CSP n` or `CXP 0, n` has the name of the standard procedure or
+    ///   of the system's procedure, if the number has one.
+    /// - Its listing by its own bytes and offsets, in any layout. For each segment, in ascending order, it has a line
+    ///   for each item, jump entry and attribute table of its procedures, in the order of its dictionary, and for the
     ///   dictionary.
-    /// - Its code as statements: for each segment, ascending, of each procedure a line that names it and a line for
-    ///   each statement, which is its instructions with each operation on its operands.
+    /// - Its code as statements. For each segment, in ascending order, each procedure has a line with its name and a
+    ///   line for each statement. A statement is its instructions with each operation on its operands.
     Dis(DisOutput),
-    /// A command on the volume that an image is. The input's bytes stand in the place of a put's, of bytes or text, and
-    /// no other command reads any. The output is the list, the bytes or the text of a file; after a change the outcome
-    /// has the image that is to be saved. An image that is no volume is refused by `refused volume N`, before the input
-    /// is read; a command that the volume refuses by `refused filer 1 N`, N being the number of the volume's fault; a
-    /// text or a text file by `refused filer 2 N`, with the number of its fault and the line or place; a date by
-    /// `refused filer 3`.
+    /// Executes a command on the volume of an image. A put reads its bytes or text from the input, and a copy reads the
+    /// image of the other volume from it. No other command reads the input. The output is the list, the bytes or the
+    /// text of a file. After a change the outcome has the image to be saved.
+    ///
+    /// # Errors
+    ///
+    /// - `refused volume N`: the image is no volume. This is checked before the input is read.
+    /// - `refused filer 1 N`: the volume refuses the command with fault number N.
+    /// - `refused filer 2 N`: a text or a text file has fault number N. The line or position follows.
+    /// - `refused filer 3`: the date is not valid.
     Files {
         image: Vec<u8>,
         command: FileCommand,
     },
-    /// A new volume of this name and so many blocks, without files, whose image the outcome has. The input is not read.
-    /// A text that is no name is refused by `refused volume 10`, and fewer than 6 blocks by `refused volume 3`.
+    /// Creates a volume with this name and number of blocks, without files. The outcome has its image. The input is not
+    /// read.
+    ///
+    /// # Errors
+    ///
+    /// - `refused volume 10`: the name is not valid.
+    /// - `refused volume 3`: there are fewer than 6 blocks.
     New {
         name: String,
         blocks: u16,
     },
-    /// An image whose first copy of the directory alone is damaged, with the good second copy in that place; an image
-    /// that is a volume stays as it is. The outcome has the image that is to be saved. The input is not read. Any other
-    /// image is refused by `refused volume N`.
+    /// Repairs an image of which only the first copy of the directory is damaged: the good second copy replaces it. An
+    /// image that is a volume is unchanged. The outcome has the image to be saved. The input is not read. Any other
+    /// image is refused with `refused volume N`.
     Repair {
         image: Vec<u8>,
     },
-    /// The output says what is wrong with an image, of any bytes. The input is not read. An image that is no volume is
-    /// refused by `refused volume N` behind that.
+    /// Writes the faults of an image, which can have any bytes. The input is not read. If the image is no volume, it is
+    /// refused with `refused volume N` after the output.
     Check {
         image: Vec<u8>,
     },
-    /// A new volume with the files of an image, of any bytes, whose entries make sense by themselves, by the first copy
-    /// of the directory or, with `second`, by the second. The outcome has its image, and the output is a line for each
-    /// entry. The input is not read. An image that is too short is refused by `refused volume 2`, and one whose files
-    /// need more than 65,535 blocks by `refused volume 7`.
+    /// Copies files of an image, which can have any bytes, to a new volume. These are the files whose directory entries
+    /// are valid by themselves, in the first copy of the directory or, with `second`, in the second copy. The outcome
+    /// has the image of the new volume. The output is a line for each entry. The input is not read.
+    ///
+    /// # Errors
+    ///
+    /// - `refused volume 2`: the image is too short.
+    /// - `refused volume 7`: the files need more than 65,535 blocks.
     Salvage {
         image: Vec<u8>,
         second: bool,
     },
 }
 
-/// How a job ended.
+/// The end of a job.
 #[derive(Clone, Copy, Debug, PartialEq, Eq)]
 pub enum Exit {
-    /// It came to its end.
+    /// It succeeded.
     Ended,
-    /// The words of the command line are not those of a job. No job answers this.
+    /// The command line is invalid. No job returns this.
     Usage,
     /// The input was refused.
     Refused,
@@ -136,14 +159,14 @@ pub enum Exit {
     ReadFault,
     /// A write failed.
     WriteFault,
-    /// Memory was wanted and refused.
+    /// Memory was requested and refused.
     NoMemory,
-    /// The program came to the limit of its steps, or waited with no input left.
+    /// The program reached the limit of its steps, or waited and no input was left.
     Stopped,
 }
 
 impl Exit {
-    /// The exit status of the process.
+    /// Returns the exit status of the process.
     pub fn number(self) -> u8
         ensures value { result ≡ exit_number self }
     {
@@ -158,7 +181,7 @@ impl Exit {
         }
     }
 
-    /// How a job ends that was broken off.
+    /// Returns the exit of a job that this fault stopped.
     pub fn of_fault(fault: Fault) -> Exit
         ensures value { result ≡ fault_exit fault }
     {
@@ -169,7 +192,7 @@ impl Exit {
         }
     }
 
-    /// How a job ends whose run ends so.
+    /// Returns the exit of a job whose run ended with `ending`.
     pub(crate) fn of_ending(ending: Ending) -> Exit
         ensures value { result ≡ exit_of ending }
         ensures ran { is_refusal result ≡ false }
@@ -182,56 +205,56 @@ impl Exit {
     }
 }
 
-/// The images on the units 5, 9, 10, 11 and 12, in their order, that are to be saved.
+/// The images on units 5, 9, 10, 11 and 12, in this order, that are to be saved.
 pub type OtherImages = [Option<Vec<u8>>; 5];
 
-/// None of them.
+/// Returns no images.
 pub(crate) fn no_images() -> OtherImages
     ensures none { images_of result ≡ no_others }
 {
     [None, None, None, None, None]
 }
 
-/// Which file the refusal of a program is about.
+/// The file that the refusal of a program is about.
 #[derive(Clone, Copy)]
 pub enum About {
-    /// That of the image on this unit: one that is no volume, or that of unit 4, on which the program stands.
+    /// The image on this unit: an image that is no volume, or the image of unit 4, which contains the program.
     Unit(u8),
-    /// The system's code file.
+    /// The code file of the system.
     System,
 }
 
-/// What a job comes to, beside what it wrote.
+/// The outcome of a job in addition to what it wrote.
 #[derive(Drop)]
 pub struct Outcome {
     pub exit: Exit,
-    /// What is said of it, with no line feed at the end. It may be empty, and is so after a fault: `text` has what is
-    /// said then.
+    /// The message, without a line feed at its end. It may be empty. It is empty after a fault, for which `text`
+    /// returns the message.
     pub message: String,
-    /// The image of a volume to be saved, if there is one: of a run that on unit 4.
+    /// The image of a volume to be saved, if there is one. For a run it is that on unit 4.
     pub image: Option<Vec<u8>>,
-    /// The images on the other disk units that are to be saved of a run.
+    /// The images on the other disk units that are to be saved after a run.
     pub others: OtherImages,
     /// The bytes that were printed.
     pub printer: Vec<u8>,
-    /// Why the input was refused, if it was.
+    /// The reason why the input was refused, if it was.
     pub refusal: Option<Refusal>,
-    /// Why the run ended that the message tells of, if it tells of one.
+    /// The reason of the end of the run that the message states, if it states one.
     pub ending: Option<Ending>,
-    /// What a terminal is told in place of the refusal's reason, if more is known and there was memory for it: of a
-    /// text of the assembler the line that the refusal names and what helps there, of `asm --all` those of the first
-    /// faults.
+    /// The text that a terminal shows instead of the reason of the refusal, if there is one and there was memory for
+    /// it. For an assembler source text it has the line that the refusal names and a hint. For `asm --all` it has those
+    /// of the first faults.
     pub line: Option<String>,
-    /// Where an error stopped the run that the message tells of, and on what.
+    /// The state in which an error stopped the run.
     pub stopped: Option<Stopped>,
-    /// What the refusal of a program is about.
+    /// The file that the refusal of a program is about.
     pub about: Option<About>,
-    /// What helps where a program does not start, if something does and there was memory for it.
+    /// The hint for a program that does not start, if there is one and there was memory for it.
     pub hint: Option<Hint>,
 }
 
 impl Outcome {
-    /// An outcome with no images and no printer bytes.
+    /// Creates an outcome without images and printer bytes.
     pub(crate) fn plain(alloc: Global, exit: Exit, message: String) -> Outcome
         ensures exit { result.exit ≡ exit }
         ensures message { result.message ≡ message }
@@ -256,7 +279,7 @@ impl Outcome {
         }
     }
 
-    /// An outcome that has an image to save, with no message and no printer bytes.
+    /// Creates an outcome with an image to save, and without a message and printer bytes.
     pub(crate) fn with_image(alloc: Global, image: Vec<u8>) -> Outcome
         ensures exit { result.exit ≡ Exit.Ended }
         ensures message { string_bytes result.message ≡ [] }
@@ -271,7 +294,8 @@ impl Outcome {
         outcome
     }
 
-    /// What is said of it, with no line feed at the end: its message, or the text of a fault, which takes no memory.
+    /// Returns the message without a line feed at its end. After a fault it is the text of the fault, which needs no
+    /// memory.
     pub fn text(&self) -> &str
         ensures value { result.now ≡ outcome_text self.now }
     {
@@ -284,8 +308,8 @@ impl Outcome {
     }
 }
 
-/// Refuses the input for what stands in a line of it, with the file that it is about and what helps, as far as these
-/// are known: nothing is written.
+/// Refuses the input. The outcome has the text for a terminal, the file that the refusal is about, and the hint, if
+/// these are known. Nothing is written.
 pub(crate) fn refuse_for(
     alloc: Global,
     refusal: Refusal,
@@ -316,7 +340,7 @@ pub(crate) fn refuse_for(
     })
 }
 
-/// Refuses the input for what stands in a line of it, if that is known: nothing is written.
+/// Refuses the input. The outcome has the text for a terminal if it is known. Nothing is written.
 pub(crate) fn refuse_line(
     alloc: Global,
     refusal: Refusal,
@@ -328,8 +352,8 @@ pub(crate) fn refuse_line(
     refuse_for(alloc, refusal, line, None, None)
 }
 
-/// What a job comes to that judges an image or a text: an end, or a refusal, with the line that it names if that is
-/// known.
+/// Returns the outcome of a job that checks an image or a source text: success, or a refusal with the text for a
+/// terminal if it is known.
 pub(crate) fn conclude(
     alloc: Global,
     refusal: Option<Refusal>,

@@ -1,16 +1,18 @@
-//! What makes the steps of a run that need no look between them.
+//! The execution of the steps of a run between which nothing has to be checked.
 ghost use Rattle.pm_machine.specs.Quick.{QuickSteps};
 
 use pm_machine::Machine;
 
-/// What makes the steps that need no look between them: the machine's quick way, or in a test one that counts them.
+/// The execution of the steps between which nothing has to be checked: the fast path of the machine, or in a test one
+/// that counts them.
 pub trait Pace {
-    /// Makes at most `limit` steps, perhaps none, each of which goes on and writes nothing to the console: how many.
+    /// Executes at most `limit` steps and returns their number, which can be 0. Each of them succeeds and writes
+    /// nothing to the console.
     fn quick_steps(&mut self, machine: &mut Machine, limit: u64) -> u64
         ensures steps { QuickSteps limit machine.old.state result machine.new.state };
 }
 
-/// The machine's quick way.
+/// The fast path of the machine.
 #[derive(Clone, Copy)]
 pub struct Quick;
 

@@ -1,4 +1,4 @@
-//! The machines that programs start on.
+//! The machines at the start of programs.
 ghost use Rattle.std.specs.Prelude.{◌≡◌, ◌≢◌, Ok, Err, Some, None, IfOk, IfErr, OnOk, option_map, vec_items};
 ghost use Rattle.pm_tool.specs.Disks.{booted, booted_about, disk_fault, first_bad, first_disk_fault, first_with};
 ghost use Rattle.pm_tool.specs.Disks.{images_of, images_with, loaded, machine_at, start_about, state_in, system_about};
@@ -15,14 +15,14 @@ use pm_machine::{BootFault, Machine};
 use pm_volume::{Volume, VolumeFault};
 use std::alloc::{AllocError, Global};
 
-/// What a machine starts on.
+/// The program of a machine.
 #[derive(Drop)]
 pub(crate) enum Start {
-    /// The program that a text spells.
+    /// The program in a text of hexadecimal digits.
     Bare {
         text: Vec<u8>,
     },
-    /// The program of a code file on unit 4, with the system's segment where there is a code file of it.
+    /// The program of a code file on unit 4, with the system segment if its code file is given.
     Booted {
         disks: [Option<Vec<u8>>; 6],
         name: String,
@@ -30,23 +30,23 @@ pub(crate) enum Start {
     },
 }
 
-/// Why no machine starts.
+/// The reason why no machine starts.
 #[derive(Drop)]
 pub(crate) struct NoStart {
-    /// Why the program is refused.
+    /// The refusal of the program.
     pub refusal: Refusal,
-    /// Which file that is about, where it is one.
+    /// The file that the refusal is about, if there is one.
     pub about: Option<About>,
-    /// What a terminal is told in place of the refusal, if something is.
+    /// The text that a terminal shows instead of the refusal, if there is one.
     pub line: Option<String>,
-    /// What helps, if something does.
+    /// The hint, if there is one.
     pub hint: Option<Hint>,
 }
 
-/// The place of an image that is no volume, its fault, and the form that it has, where that is known.
+/// The index of an image that is no volume, its fault, and its form if that is known.
 type BadImage = (usize, VolumeFault, Option<Form>);
 
-/// The unit of the disk at a place: 4, 5, 9, 10, 11 or 12.
+/// Returns the unit of the disk at an index: 4, 5, 9, 10, 11 or 12.
 fn unit_at(place: usize) -> u8
     ensures unit { result ≡ unit_at place }
 {
@@ -60,7 +60,7 @@ fn unit_at(place: usize) -> u8
     }
 }
 
-/// What a fault of the system's segment is about: its code file, or the program on unit 4.
+/// Returns what a fault of the system segment is about: its code file, or the program on unit 4.
 fn system_about(fault: SystemFault) -> About
     ensures about { result ≡ system_about fault }
 {
@@ -70,7 +70,7 @@ fn system_about(fault: SystemFault) -> About
     }
 }
 
-/// The volume that the image at a place is, where there is one.
+/// Returns the volume of the image at an index, if there is an image.
 fn volume_of(image: Option<Vec<u8>>, place: usize) -> Result<Option<Volume>, BadImage>
     ensures volume { IfOk result (λ volume. volume ≡ option_map vec_items image) }
     ensures sound { OnOk result (disk_fault (option_map vec_items image) ≡ None) }
@@ -86,7 +86,7 @@ fn volume_of(image: Option<Vec<u8>>, place: usize) -> Result<Option<Volume>, Bad
     }
 }
 
-/// The volumes that the images are, or the first that is none.
+/// Returns the volumes of the images, or the first image that is no volume.
 fn volumes_of(disks: [Option<Vec<u8>>; 6]) -> Result<[Option<Volume>; 6], BadImage>
     ensures volumes { IfOk result (λ volumes. volumes ≡ images_of disks) }
     ensures sound { OnOk result (first_disk_fault (images_of disks) ≡ None) }
@@ -103,8 +103,8 @@ fn volumes_of(disks: [Option<Vec<u8>>; 6]) -> Result<[Option<Volume>; 6], BadIma
     Ok(volumes)
 }
 
-/// The volume of unit 4, where there is one, with the system's segment in the program's code file, where a code file of
-/// the system is given.
+/// Returns the volume of unit 4, if there is one. If a code file of the system is given, the code file of the program
+/// gets the system segment.
 fn first_with(
     alloc: Global,
     volume: Option<Volume>,
@@ -125,7 +125,7 @@ fn first_with(
     Ok(Some(volume))
 }
 
-/// The volumes with the system's segment in the program's code file, where there is a code file of the system.
+/// Returns the volumes with the system segment in the code file of the program, if a code file of the system is given.
 fn with_system(
     alloc: Global,
     mut volumes: [Option<Volume>; 6],
@@ -141,7 +141,7 @@ fn with_system(
     Ok(volumes)
 }
 
-/// No machine, for this and about that file, and this helps.
+/// Creates the reason why no machine starts, with the file that it is about and the hint.
 fn no_start(refusal: Refusal, about: About, hint: Option<Hint>) -> NoStart
     ensures refusal { result.refusal ≡ refusal }
     ensures about { result.about ≡ Some about }
@@ -155,7 +155,7 @@ fn no_start(refusal: Refusal, about: About, hint: Option<Hint>) -> NoStart
     }
 }
 
-/// The machine at the start of a program of unit 4, or why there is none.
+/// Returns the machine at the start of a program of unit 4, or the reason why there is none.
 fn boot(
     alloc: Global,
     disks: [Option<Vec<u8>>; 6],
@@ -195,7 +195,7 @@ fn boot(
     Ok(Err(no_start(Refusal::Boot(fault), About::Unit(4), hint)))
 }
 
-/// No machine for a program that the input spells, which is about no file.
+/// Creates the reason why no machine starts for a program in the input. It is about no file.
 fn no_bare_start(refusal: Refusal) -> NoStart
     ensures refusal { result.refusal ≡ refusal }
     ensures about { result.about ≡ None }
@@ -208,7 +208,7 @@ fn no_bare_start(refusal: Refusal) -> NoStart
     }
 }
 
-/// The machine at its start on the program that the text spells, or why there is none.
+/// Returns the machine at the start of the program in the text, or the reason why there is none.
 fn load(alloc: Global, text: &[u8]) -> Result<Result<Machine, NoStart>, AllocError>
     ensures machine { IfOk result (λ machine. state_in machine ≡ loaded (hex_spelled text.now)) }
     ensures about { IfOk result (λ machine. IfErr machine (λ none. none.about ≡ None)) }
@@ -223,7 +223,7 @@ fn load(alloc: Global, text: &[u8]) -> Result<Result<Machine, NoStart>, AllocErr
     }
 }
 
-/// The machine that starts, or why there is none.
+/// Returns the machine at its start, or the reason why there is none.
 pub(crate) fn start_on(alloc: Global, start: Start) -> Result<Result<Machine, NoStart>, AllocError>
     ensures machine { IfOk result (λ machine. state_in machine ≡ machine_at start) }
     ensures about { IfOk result (λ machine. IfErr machine (λ none. none.about ≡ start_about start)) }

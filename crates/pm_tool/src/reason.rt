@@ -1,4 +1,4 @@
-//! Why a run ended, and where, in words.
+//! Messages for the end of a run and for its position.
 use crate::stopped::Stopped;
 use pm_notes::system_name;
 use pm_opcode::row_at;
@@ -6,11 +6,11 @@ use pm_session::Ending;
 use pm_words::ExecError;
 use std::fmt;
 
-/// What may be meant where the operating system is called.
+/// The hint for a call of the operating system.
 const SYSTEM: &str =
     "CXP 0, n calls procedure n of the operating system, and --system PATH adds its segment";
 
-/// A procedure of the operating system, by its number and, where it is known, its name.
+/// A procedure of the operating system: its number and, if it is known, its name.
 #[derive(Clone, Copy)]
 struct Procedure(u8);
 
@@ -24,7 +24,7 @@ impl fmt::Display for Procedure {
     }
 }
 
-/// The unit of the system's library whose segment has a number, from memory of Apple Pascal 1.1.
+/// Returns the unit of the system library whose segment has this number, in Apple Pascal 1.1.
 fn unit_name(segment: u8) -> Option<&'static str> {
     match segment {
         20 => Some("TURTLEGRAPHICS"),
@@ -37,12 +37,12 @@ fn unit_name(segment: u8) -> Option<&'static str> {
     }
 }
 
-/// A call of a procedure in a segment that is not there, or not as it has to be.
+/// A call of a procedure in a segment that is missing or not valid.
 #[derive(Clone, Copy)]
 struct Called {
     segment: u8,
     procedure: u8,
-    /// Whether the system's segment was put in.
+    /// Whether the system segment was added.
     has_system: bool,
 }
 
@@ -60,7 +60,7 @@ impl fmt::Display for Called {
     }
 }
 
-/// Whether code has reals: an instruction of theirs, a comparison of the type 2, or a standard procedure for them.
+/// Whether the code uses reals: an instruction on reals, a comparison of type 2, or a standard procedure on reals.
 fn is_of_reals(code: [u8; 3]) -> bool {
     match row_at(code[0]).mnemonic {
         "ABR" | "ADR" | "DVR" | "FLO" | "FLT" | "MPR" | "NGR" | "SBR" | "SQR" => true,
@@ -70,18 +70,18 @@ fn is_of_reals(code: [u8; 3]) -> bool {
     }
 }
 
-/// Why a run ended, as the text that says what it means and what helps.
+/// The message for the end of a run: its meaning and a hint.
 #[derive(Clone, Copy)]
 pub struct RunReason<'a> {
     pub ending: Ending,
-    /// Where an error stopped it.
+    /// The state in which an error stopped it.
     pub stopped: Option<&'a Stopped>,
-    /// Whether the system's segment was put in.
+    /// Whether the system segment was added.
     pub has_system: bool,
 }
 
 impl RunReason<'_> {
-    /// What is known beside the error, by the instruction that it stopped.
+    /// Writes what is known in addition to the error, by the instruction that it stopped.
     fn write_more<W: fmt::Write>(
         &self,
         f: &mut fmt::Formatter<W>,
@@ -126,7 +126,8 @@ impl fmt::Display for RunReason<'_> {
     }
 }
 
-/// Where an error stopped a run: the place in the code, and the line of a trace for the step that was not made.
+/// The message for the position at which an error stopped a run: the position in the code, and the line of a trace for
+/// the step that failed.
 #[derive(Clone, Copy)]
 pub struct Whereabouts<'a>(pub &'a Stopped);
 

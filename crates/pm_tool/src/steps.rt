@@ -1,4 +1,4 @@
-//! The steps of a run: what they show is written, and a machine that waits gets the next byte of the input.
+//! The steps of a run. Their output is written, and a machine that waits gets the next byte of the input.
 ghost use Rattle.std.specs.Prelude.{◌≡◌, false, true, [], ◌++◌, drop, length, IfOk, IfErr, OnOk, OnErr};
 ghost use Rattle.std.specs.Io.KnownBytes.{Appends};
 ghost use Rattle.pm_machine.specs.Steps.{stepped};
@@ -12,16 +12,16 @@ use pm_session::Ending;
 use pm_trace::Lines;
 use std::alloc::{AllocError, Global};
 
-/// What is shown of a run.
+/// The output of a run.
 #[derive(Clone, Copy)]
 pub enum Show {
-    /// A line for each step that is selected, and a last line that says why the run ended.
+    /// A line for each selected step, and a last line with the reason of the end.
     Trace(Selection),
-    /// The bytes that the program writes to the console. `saving` says which images are saved.
+    /// The bytes that the program writes to the console. `saving` selects the images that are saved.
     Console { saving: Saving },
 }
 
-/// Makes one step, the quick way where that can.
+/// Executes one step, on the fast path if possible.
 fn next_step<P: Pace>(machine: &mut Machine, pace: &mut P) -> Result<Stop, AllocError>
     ensures next { IfOk result (λ stop. stepped machine.old.state ≡ (machine.new.state, stop)) }
 {
@@ -32,7 +32,7 @@ fn next_step<P: Pace>(machine: &mut Machine, pace: &mut P) -> Result<Stop, Alloc
     Ok(stop)
 }
 
-/// Makes one step. Its line goes onto the page, if it is selected, unless the step waits.
+/// Executes one step. Its line is appended to the page if it is selected and the step does not wait.
 #[inline(never)]
 fn traced_step<P: Pace>(
     machine: &mut Machine,
@@ -54,7 +54,7 @@ fn traced_step<P: Pace>(
     Ok(stop)
 }
 
-/// Makes one step. What it adds to the console goes onto the page, unless the step waits.
+/// Executes one step. The bytes that it writes to the console are appended to the page, unless the step waits.
 fn console_step(machine: &mut Machine, page: &mut Vec<u8>) -> Result<Stop, AllocError>
     ensures next { IfOk result (λ stop. stepped machine.old.state ≡ (machine.new.state, stop)) }
     ensures page { IfOk result (λ stop. page.new.items
@@ -69,7 +69,7 @@ fn console_step(machine: &mut Machine, page: &mut Vec<u8>) -> Result<Stop, Alloc
     Ok(stop)
 }
 
-/// Makes one step. What it shows goes onto the page.
+/// Executes one step. Its output is appended to the page.
 fn step<P: Pace>(
     machine: &mut Machine,
     show: Show,
@@ -87,7 +87,7 @@ fn step<P: Pace>(
     }
 }
 
-/// Makes some steps that show nothing, at most `limit` and perhaps none: how many.
+/// Executes at most `limit` steps without output, and returns their number, which can be 0.
 fn unshown_steps<P: Pace>(machine: &mut Machine, show: Show, limit: u64, pace: &mut P) -> u64
     ensures unshown { Unshown show limit machine.old.state result machine.new.state }
 {
@@ -97,7 +97,7 @@ fn unshown_steps<P: Pace>(machine: &mut Machine, show: Show, limit: u64, pace: &
     }
 }
 
-/// The bytes at which a page of a trace is full.
+/// The number of bytes of a full page of a trace.
 const PAGE: usize = 65_536;
 
 /// Writes the page and clears it.
@@ -114,7 +114,7 @@ fn write_page<W: Sink>(sink: &mut W, page: &mut Vec<u8>) -> Result<(), Fault>
     Ok(())
 }
 
-/// Writes the page and clears it, once it is full: a trace is written by pages, and console bytes are written at once.
+/// Writes the page and clears it if it is full. A trace is written by pages, and console bytes are written at once.
 fn turn_page<W: Sink>(sink: &mut W, page: &mut Vec<u8>, show: Show) -> Result<(), Fault>
     requires well { (W.seen sink.old).failed ≡ false }
     ensures written { OnOk result (AppendsBut (W.seen sink.old).contents
@@ -134,12 +134,14 @@ fn turn_page<W: Sink>(sink: &mut W, page: &mut Vec<u8>, show: Show) -> Result<()
     Ok(())
 }
 
-/// Makes at most `limit` steps and writes what they show, but for the page that it gives back. Each time that the
-/// machine waits, the page is written and the machine gets the next byte of the input. `pace` is asked for all steps of
-/// a trace, and for all of a run that write nothing to the console but the first, one at a time or as many as it makes.
+/// Executes at most `limit` steps and writes their output, except the page that it returns. Each time that the machine
+/// waits, the page is written and the machine gets the next byte of the input.
 ///
-/// Neither stream may have failed before. After a fault of a stream or want of memory what was written is a front of
-/// what the steps show.
+/// `pace` is used for all steps of a trace, one at a time. In a run it is used for steps that write nothing to the
+/// console, any number at a time, but not for the first step.
+///
+/// Neither stream may have failed before. After a stream fault or out of memory, a prefix of the output of the steps
+/// was written.
 pub fn drive<R: Source, W: Sink, P: Pace>(
     alloc: Global,
     source: &mut R,

@@ -1,4 +1,4 @@
-//! Where an error stopped a run, and on what.
+//! The state in which an error stopped a run.
 ghost use Rattle.std.specs.Prelude.{◌≡◌};
 ghost use Rattle.pm_tool.specs.Stops.{AreStops, IsStop, stop_of};
 
@@ -7,22 +7,22 @@ use pm_session::Ending;
 use pm_trace::trace_line;
 use std::alloc::Global;
 
-/// What the state shows in which an error stopped a run: its last step was not made.
+/// The state in which an error stopped a run. Its last step was not executed.
 #[derive(Drop)]
 pub struct Stopped {
-    /// The numbers of the segment and of the procedure, and how many bytes behind its entry IPC stands; nowhere where
-    /// SEG or JTAB is odd.
+    /// The numbers of the segment and the procedure, and the offset of IPC in bytes from its entry, or `None` if SEG or
+    /// JTAB is odd.
     pub place: Option<CodePlace>,
-    /// The line of a trace for the step, where there was memory for its text.
+    /// The line of a trace for the step, if there was memory for it.
     pub step: Option<String>,
     /// The three bytes at IPC.
     pub code: [u8; 3],
-    /// IORESULT: how the last input or output went.
+    /// IORESULT, the result of the last input or output.
     pub ioresult: u16,
 }
 
 impl Stopped {
-    /// Where a machine stands, and on what.
+    /// Returns the position of a machine and the step there.
     fn at(alloc: Global, machine: &Machine) -> Stopped
         ensures stop { IsStop result machine.now.state }
     {
@@ -42,7 +42,7 @@ impl Stopped {
     }
 }
 
-/// Where an error stopped a machine, if it is one that ended its run.
+/// Returns the state of a machine that an error stopped, if its run ended with an error.
 pub(crate) fn stopped_at(alloc: Global, machine: &Machine, ending: Ending) -> Option<Stopped>
     ensures stops { AreStops result (stop_of ending machine.now.state) }
 {

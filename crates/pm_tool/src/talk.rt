@@ -1,4 +1,4 @@
-//! Jobs that talk with a machine: its run is shown and gets the input, or a debugger answers lines.
+//! Jobs that use a machine interactively: a run with its input and output, or a debugger that answers lines.
 ghost use Rattle.std.specs.Prelude.{◌≡◌, false, true, [], ◌++◌, List, ℕ, Ok, IfOk, IfErr, OnOk, OnErr};
 ghost use Rattle.std.specs.Prelude.{None, option_map, vec_items};
 ghost use Rattle.pm_machine.specs.Events.{Eject, next};
@@ -25,16 +25,16 @@ use pm_session::{Ending, LastLine};
 use pm_volume::Disk;
 use std::alloc::{AllocError, Global};
 
-/// How a machine is talked with.
+/// The use of a machine.
 #[derive(Drop)]
 pub(crate) enum Talk {
-    /// It runs, for at most so many steps. The input is its console's.
+    /// It runs for at most `limit` steps. The input is that of its console.
     Run { show: Show, limit: u64 },
-    /// A debugger answers each line of the input. These bytes wait on the machine's console.
+    /// A debugger answers each line of the input. The bytes of `typed` are in the console input queue.
     Session { typed: Vec<u8> },
 }
 
-/// Takes away the image of the disk on a unit, where there is one.
+/// Ejects the disk of a unit and returns its image, if there is one.
 fn taken(machine: &mut Machine, unit: u8) -> Option<Vec<u8>>
     ensures image { option_map vec_items result ≡ ejected_image unit machine.old.state.devices }
     ensures event { machine.new.state ≡ next machine.old.state (Eject unit) }
@@ -42,7 +42,7 @@ fn taken(machine: &mut Machine, unit: u8) -> Option<Vec<u8>>
     machine.eject(unit).map(Disk::into_bytes)
 }
 
-/// Takes away the images of the disks on all units.
+/// Ejects the disks of all units and returns their images.
 #[tactic(auto, using(crate::proofs::Ejected::left))]
 fn all_taken(machine: &mut Machine) -> (Option<Vec<u8>>, OtherImages)
     ensures first { option_map vec_items result.0 ≡ first_kept Saving.All machine.old.state.devices }
@@ -59,7 +59,7 @@ fn all_taken(machine: &mut Machine) -> (Option<Vec<u8>>, OtherImages)
     (first, others)
 }
 
-/// Takes away the images that are to be saved.
+/// Ejects the disks whose images are to be saved, and returns the images.
 fn images_taken(machine: &mut Machine, saving: Saving) -> (Option<Vec<u8>>, OtherImages)
     ensures first { option_map vec_items result.0 ≡ first_kept saving machine.old.state.devices }
     ensures others { images_of result.1 ≡ others_kept saving machine.old.state.devices }
@@ -72,7 +72,7 @@ fn images_taken(machine: &mut Machine, saving: Saving) -> (Option<Vec<u8>>, Othe
     }
 }
 
-/// What a run comes to that is told by its console bytes: its last line, what was printed, and the images that are to
+/// Returns the outcome of a run whose output is its console bytes: its last line, the printed bytes, and the images to
 /// be saved.
 fn left_by_run(
     alloc: Global,
@@ -104,7 +104,7 @@ fn left_by_run(
     })
 }
 
-/// Writes the end of what is shown of a run, after what is left on the page, and answers what the run comes to.
+/// Writes the rest of the output of a run after the rest of the page, and returns the outcome of the run.
 fn tell<W: Sink>(
     alloc: Global,
     sink: &mut W,
@@ -143,7 +143,7 @@ fn tell<W: Sink>(
     }
 }
 
-/// Runs a machine: writes what is shown of it, and answers what it comes to.
+/// Runs a machine: writes its output and returns the outcome.
 fn do_run<R: Source, W: Sink>(
     alloc: Global,
     source: &mut R,
@@ -171,7 +171,7 @@ fn do_run<R: Source, W: Sink>(
     Ok(outcome)
 }
 
-/// Lets bytes wait on a machine's console, one behind the other.
+/// Appends bytes to the console input queue of a machine, in their order.
 fn type_into(machine: &mut Machine, bytes: &[u8]) -> Result<(), AllocError>
     ensures typed { OnOk result (machine.new.state ≡ typed_into bytes.now machine.old.state) }
 {
@@ -181,7 +181,7 @@ fn type_into(machine: &mut Machine, bytes: &[u8]) -> Result<(), AllocError>
     Ok(())
 }
 
-/// Lets a debugger of a machine answer the lines of the input.
+/// Answers the lines of the input with a debugger of a machine.
 fn do_session<R: Source, W: Sink>(
     alloc: Global,
     source: &mut R,
@@ -205,7 +205,7 @@ fn do_session<R: Source, W: Sink>(
     Ok(Outcome::plain(alloc, Exit::Ended, String::new(alloc)))
 }
 
-/// Talks with the machine that starts. Where none does, the job is refused and none of the input is read.
+/// Uses the machine that starts. If none starts, the job is refused and no input is read.
 pub(crate) fn do_talk<R: Source, W: Sink>(
     alloc: Global,
     source: &mut R,

@@ -1,4 +1,4 @@
-//! The shapes of jobs.
+//! The kinds of jobs.
 ghost use Rattle.std.specs.Prelude.{◌≡◌};
 ghost use Rattle.pm_batch.specs.Files.{opened_image};
 ghost use Rattle.pm_check.specs.Forms.{form_seen};
@@ -13,20 +13,20 @@ use pm_check::form_seen;
 use pm_filer::FileCommand;
 use pm_jobs::{DisOutput, Selection};
 
-/// A job, by its shape.
+/// A job by its kind.
 #[derive(Drop)]
 pub(crate) enum Work {
     /// The text of a program is read, and then its run is traced.
     Raw { limit: u64, selection: Selection },
-    /// The machine that starts is talked with.
+    /// The machine that starts is used interactively.
     Talk(Start, Talk),
-    /// What is shown of a code file is written.
+    /// The output for a code file is written.
     Dis(DisOutput),
-    /// Bytes are turned into bytes.
+    /// Bytes are converted to bytes.
     Batch(Batch),
 }
 
-/// To talk with the machine that starts on a program.
+/// Creates the work for a machine that starts on a program.
 fn talk(disks: [Option<Vec<u8>>; 6], name: String, system: Option<Vec<u8>>, talk: Talk) -> Work
     ensures work { result ≡ Work.Talk (Start.Booted disks name system) talk }
 {
@@ -38,21 +38,21 @@ fn talk(disks: [Option<Vec<u8>>; 6], name: String, system: Option<Vec<u8>>, talk
     Work::Talk(start, talk)
 }
 
-/// A run that shows this, of at most so many steps.
+/// Creates a run with this output and at most `limit` steps.
 fn run_of(show: Show, limit: u64) -> Talk
     ensures talk { result ≡ Talk.Run show limit }
 {
     Talk::Run { show, limit }
 }
 
-/// A run of the program that the input spells, of at most so many steps, of which these lines are shown.
+/// Creates the work for a run of the program in the input, of at most `limit` steps and with these selected lines.
 fn traced(limit: u64, selection: Selection) -> Work
     ensures work { result ≡ Work.Raw limit selection }
 {
     Work::Raw { limit, selection }
 }
 
-/// A command on the volume that an image is, whose form is told where it is none.
+/// Creates the work for a command on the volume of an image. If the image is no volume, its form is reported.
 fn files(image: Vec<u8>, command: FileCommand) -> Work
     ensures work { result ≡ Work.Batch (Batch.Files (opened_image image.items) (form_seen image.items) command) }
 {
@@ -65,7 +65,7 @@ fn files(image: Vec<u8>, command: FileCommand) -> Work
     })
 }
 
-/// What a job has to do.
+/// Returns the work of a job.
 pub(crate) fn work_of(job: Job) -> Work
     ensures work { result ≡ work_of job }
 {

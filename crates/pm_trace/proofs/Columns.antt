@@ -1,4 +1,4 @@
--- Columns of characters, one behind the other.
+-- Columns of characters, one after the other.
 use Rattle.std.proofs.Common.{ℕ, List, [], ◌∷◌}
 use Rattle.std.specs.List.{AllByRecursion, flat_map}
 use Rattle.std.specs.Str.{IsAscii, IsUtf8}

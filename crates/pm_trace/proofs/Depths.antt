@@ -15,13 +15,13 @@ goes_by : (last : Bool) (f g : ℕ) (below : ℕ → ℕ) → Some g ≡ (if las
 goes_by true f g below e = cc
 goes_by false f g below e = cc
 
--- no frame stands below that of the system
+-- The system's frame ends the chain.
 pub depth_ends : (m : List ℕ) (n f : ℕ) → None ≡ next_frame m f → depth_from m n f ≡ 0
 unfolding depth_from
 depth_ends m zero f e = refl
 depth_ends m (suc n) f e = ends_by (f == SYSTEM_FRAME || not (is_even f)) (word_at m ((f + 2) % 65536)) (depth_from m n (word_at m ((f + 2) % 65536))) e
 
--- one frame more
+-- One frame more.
 pub depth_goes : (m : List ℕ) (n f g : ℕ) → Some g ≡ next_frame m f → depth_from m (suc n) f ≡ suc (depth_from m n g)
 unfolding depth_from
 depth_goes m n f g e = goes_by (f == SYSTEM_FRAME || not (is_even f)) (word_at m ((f + 2) % 65536)) g (depth_from m n) e
@@ -30,10 +30,10 @@ pub depth_none : (m : List ℕ) (f : ℕ) → depth_from m 0 f ≡ 0
 unfolding depth_from
 depth_none m f = refl
 
--- a frame that is counted
+-- A frame that is counted.
 pub one_more : (k d : ℕ) → k + suc d ≡ k + 1 + d
 one_more k d = omega arith
 
--- blanks of a line of them
+-- Spaces from a line of spaces.
 pub first_blanks : (n : ℕ) → n ≤ 64 → take (2 * n) (replicate 128 32) ≡ blanks n
 first_blanks n few = take-replicate (2 * n) 128 32 (omega (arith, few))

@@ -1,4 +1,4 @@
--- The line of a trace, put onto a page part by part.
+-- The line of a trace, appended to a page part by part.
 use Rattle.std.proofs.Common.{◌≡◌, refl, ℕ, List, [], ◌∷◌, ◌++◌, ap, ◌∙◌, append_assoc}
 use Rattle.std.specs.Prelude.{Option}
 use Rattle.std.specs.List.{flat_map}

@@ -1,5 +1,4 @@
--- The lines of a trace that are selected, and what stands in front of them: each a function of the state before its
--- step.
+-- The selected lines of a trace and the columns before them, as functions of the state before the step.
 use Rattle.std.specs.Prelude.{ℕ, zero, suc, ◌+◌, ◌*◌, ◌%◌, ◌==◌, ◌&&◌, ◌||◌, not, nat_le, Bool, true, false}
 use Rattle.std.specs.Prelude.{List, [], ◌∷◌, ◌++◌, codes, replicate, Option, None, Some, if◌then◌else◌}
 use Rattle.std.specs.List.{list_any}
@@ -17,7 +16,7 @@ use Rattle.pm_jobs.specs.declared.selection.Code.{Code}
 use Rattle.pm_jobs.specs.declared.selection.Code.TheVariants as codes_of
 use Rattle.pm_jobs.specs.declared.selection.Selection.{Selection}
 
--- a place stands in the code that is asked for; what stands nowhere stands in no segment
+-- A position is in the requested code. No position is in no segment.
 abbrev pub stands_in : Code → Option CodePlace → Bool
 stands_in codes_of.Anywhere place = true
 stands_in (codes_of.Segment segment) None = false
@@ -26,57 +25,58 @@ stands_in (codes_of.Procedure segment procedure) None = false
 stands_in (codes_of.Procedure segment procedure) (Some place) =
     place.segment == segment && place.procedure == procedure
 
--- the names of the calls and of the returns
+-- The names of the calls and of the returns.
 abbrev pub calls_and_returns : List (List ℕ)
 calls_and_returns =
     codes "CIP" ∷ codes "CBP" ∷ codes "CXP" ∷ codes "CLP" ∷ codes "CGP" ∷ codes "RNP" ∷ codes "RBP" ∷ []
 
--- an instruction of this name is a call or a return
+-- An instruction of this name is a call or a return.
 abbrev pub is_call_or_return : List ℕ → Bool
 is_call_or_return name = list_any (bytes_eq name) calls_and_returns
 
--- the step that is made next is a call or a return
+-- The next step is a call or a return.
 abbrev pub is_at_call : State → Bool
 is_at_call s = is_call_or_return (mnemonic_of (byte_at s.memory s.registers.ipc))
 
--- the line of the step that is made next is shown
+-- The line of the next step is shown.
 abbrev pub is_selected : Selection → State → Bool
 is_selected wanted s =
     nat_le wanted.from s.steps && (stands_in wanted.code (place_in_code s) && (not wanted.calls || is_at_call s))
 
--- The frame behind one on the dynamic chain, by its second word; none behind that of the system, or at an odd address.
+-- The next frame of the dynamic chain, by the second word of a frame. There is none after the system's frame or at an
+-- odd address.
 abbrev pub next_frame : List ℕ → ℕ → Option ℕ
 next_frame m f = if f == SYSTEM_FRAME || not (is_even f) then None else Some (word_at m ((f + 2) % 65536))
 
--- how many frames stand on the dynamic chain from this address on, below that of the system: at most so many, and none
--- from an odd address on
+-- The number of frames of the dynamic chain from `f` on, without the system's frame, at most a given number. An odd
+-- address ends the chain.
 unfoldable pub depth_from : List ℕ → ℕ → ℕ → ℕ
 depth_from m zero f = 0
 depth_from m (suc n) f =
     if f == SYSTEM_FRAME || not (is_even f) then 0 else suc (depth_from m n (word_at m ((f + 2) % 65536)))
 
--- the most levels by which a line is indented
+-- The maximum number of levels by which a line is indented.
 abbrev pub most_depth : ℕ
 most_depth = 64
 
--- the depth at which a machine stands
+-- The call depth of a machine.
 abbrev pub depth : State → ℕ
 depth s = depth_from s.memory most_depth s.registers.mp
 
--- two blanks for each level
+-- Two spaces for each level.
 abbrev pub blanks : ℕ → List ℕ
 blanks n = replicate (2 * n) 32
 
--- a number with zeros in front, and a blank behind it
+-- A number with leading zeros, followed by a space.
 abbrev pub column : ℕ → ℕ → List ℕ
 column width n = padded width n ++ 32 ∷ []
 
--- the place of a step in columns; dashes where it stands nowhere
+-- The position of a step in columns, or dashes if there is none.
 abbrev pub place_columns : Option CodePlace → List ℕ
 place_columns None = codes "--- --- ----- "
 place_columns (Some place) = column 3 place.segment ++ column 3 place.procedure ++ column 5 place.offset
 
--- what stands in front of a line: the blanks, and the place
+-- The columns before a line: the spaces and the position.
 abbrev pub front_blanks : Bool → State → List ℕ
 front_blanks wanted s = if wanted then blanks (depth s) else []
 
@@ -86,7 +86,6 @@ front_place wanted s = if wanted then place_columns (place_in_code s) else []
 abbrev pub front : Selection → State → List ℕ
 front wanted s = front_blanks wanted.calls s ++ front_place wanted.places s
 
--- What is shown of a step, by the state before it: its line, with what stands in front of that and a line feed behind
--- it, or nothing.
+-- What is shown of a step, by the state before it: its line with the columns before it and a line feed, or nothing.
 unfoldable pub shown_line : Selection → State → List ℕ
 shown_line wanted s = if is_selected wanted s then front wanted s ++ trace_line s ++ 10 ∷ [] else []

@@ -1,4 +1,4 @@
-//! Digits that are kept, since they seldom change from one line of a trace to the next.
+//! Digits that are cached, because they seldom change from one line of a trace to the next.
 
 ghost use Rattle.std.specs.Prelude.{◌≡◌, ◌<◌, ◌∷◌, ◌++◌, []};
 ghost use Rattle.pm_code.specs.Shown.{padded};
@@ -6,7 +6,7 @@ ghost use Rattle.pm_code.specs.Shown.{padded};
 use crate::digits::{Column, column, seven_digits};
 use std::marker::Model;
 
-/// A word and its column, seen as the word.
+/// A word and its column. Contracts see it as the word.
 #[derive(Drop)]
 pub(crate) struct CachedColumn {
     word: u16,
@@ -27,7 +27,7 @@ impl Model for CachedColumn {
 }
 
 impl CachedColumn {
-    /// The column of 0.
+    /// Creates a cache with the column of 0.
     pub(crate) fn new() -> CachedColumn {
         CachedColumn {
             word: 0,
@@ -35,7 +35,7 @@ impl CachedColumn {
         }
     }
 
-    /// The column of a word, which is kept.
+    /// Returns the column of a word, which is cached afterwards.
     #[inline(always)]
     pub(crate) fn of(&mut self, word: u16) -> Column
         ensures digits { result ≡ padded 5 word ++ 32 ∷ [] }
@@ -48,7 +48,7 @@ impl CachedColumn {
     }
 }
 
-/// A number of tens and its seven digits, seen as the number.
+/// A number of tens and its seven digits. Contracts see it as the number.
 #[derive(Drop)]
 pub(crate) struct CachedTens {
     tens: u32,
@@ -69,7 +69,7 @@ impl Model for CachedTens {
 }
 
 impl CachedTens {
-    /// The digits of 0.
+    /// Creates a cache with the digits of 0.
     pub(crate) fn new() -> CachedTens {
         CachedTens {
             tens: 0,
@@ -77,7 +77,7 @@ impl CachedTens {
         }
     }
 
-    // A number of tens in seven digits, which are kept.
+    // Returns a number of tens in seven digits, which are cached afterwards.
     #[inline(always)]
     fn of(&mut self, tens: u32) -> [u8; 7]
         requires few { tens < 10000000 }
@@ -90,7 +90,7 @@ impl CachedTens {
         self.digits
     }
 
-    /// A count in eight digits, and a space. The digits of its tens are kept.
+    /// Returns a count in eight digits and a space. The digits of its tens are cached afterwards.
     #[inline(always)]
     pub(crate) fn front(&mut self, count: u32) -> [u8; 9]
         requires few { count < 100000000 }

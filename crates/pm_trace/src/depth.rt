@@ -1,4 +1,4 @@
-//! How deep a machine stands in calls.
+//! The call depth of a machine.
 
 ghost use Rattle.std.specs.Prelude.{◌≡◌, ◌≤◌};
 ghost use Rattle.pm_trace.specs.Selected.{depth, depth_from, next_frame};
@@ -7,13 +7,13 @@ use pm_machine::Machine;
 use pm_words::Memory;
 use pm_words::layout::SYSTEM_FRAME;
 
-/// The most levels that are told.
+/// The maximum depth that is shown.
 const MOST_DEPTH: u16 = 64;
 
-/// Where the dynamic link stands in a frame.
+/// The offset of the dynamic link in a frame, in bytes.
 const DYNAMIC_LINK: u16 = 2;
 
-/// The frame behind one on the dynamic chain; none behind that of the system, or at an odd address.
+/// Returns the next frame of the dynamic chain. Returns `None` for the system's frame and for an odd address.
 fn next_frame(memory: &Memory, frame: u16) -> Option<u16>
     ensures next { result ≡ next_frame memory.now.words frame }
 {
@@ -23,7 +23,7 @@ fn next_frame(memory: &Memory, frame: u16) -> Option<u16>
     memory.word(frame.wrapping_add(DYNAMIC_LINK))
 }
 
-/// How many frames stand on the dynamic chain from an address on, below that of the system.
+/// Returns the number of frames of the dynamic chain from `first` on, without the system's frame, at most 64.
 fn depth_from(memory: &Memory, first: u16) -> u16
     ensures depth { result ≡ depth_from memory.now.words 64 first }
     ensures most { result ≤ 64 }
@@ -38,7 +38,7 @@ fn depth_from(memory: &Memory, first: u16) -> u16
     MOST_DEPTH
 }
 
-/// The depth at which a machine stands.
+/// Returns the call depth of a machine, at most 64.
 pub(crate) fn depth(machine: &Machine) -> u16
     ensures depth { result ≡ depth machine.now.state }
     ensures most { result ≤ 64 }

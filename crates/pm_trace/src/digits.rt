@@ -1,4 +1,4 @@
-//! Numbers with zeros in front.
+//! Numbers with leading zeros.
 
 ghost use Rattle.std.specs.Prelude.{◌≡◌, ◌<◌, ◌+◌, ◌/◌, ◌%◌, ◌∷◌, ◌++◌, [], Some};
 ghost use Rattle.std.specs.List.{AllByRecursion, flat_map};
@@ -8,7 +8,7 @@ ghost use Rattle.pm_trace.specs.Trace.{top_text};
 
 use std::fmt;
 
-// The digits of each number below 100, two for each.
+// The two digits of each number below 100.
 static PAIRS: [[u8; 2]; 100] = [
     *b"00", *b"01", *b"02", *b"03", *b"04", *b"05", *b"06", *b"07", *b"08", *b"09", *b"10", *b"11",
     *b"12", *b"13", *b"14", *b"15", *b"16", *b"17", *b"18", *b"19", *b"20", *b"21", *b"22", *b"23",
@@ -21,7 +21,7 @@ static PAIRS: [[u8; 2]; 100] = [
     *b"96", *b"97", *b"98", *b"99",
 ];
 
-/// A number below 100 in two digits.
+/// Returns a number below 100 in two digits.
 #[inline(always)]
 fn pair(number: u16) -> [u8; 2]
     requires below { number < 100 }
@@ -30,7 +30,7 @@ fn pair(number: u16) -> [u8; 2]
     PAIRS[number as usize]
 }
 
-/// A count in seven digits.
+/// Returns a count in seven digits.
 #[inline(never)]
 #[tactic(auto, using(crate::proofs::Zeros::seven_digits))]
 pub(crate) fn seven_digits(count: u32) -> [u8; 7]
@@ -53,7 +53,7 @@ pub(crate) fn seven_digits(count: u32) -> [u8; 7]
     ]
 }
 
-/// A count of steps in at least eight digits.
+/// A count of steps as text, in at least eight digits.
 #[derive(Clone, Copy)]
 pub(crate) struct Count(pub u64);
 
@@ -70,7 +70,7 @@ impl fmt::Display for Count {
 /// Five characters and a space.
 pub(crate) type Column = [u8; 6];
 
-/// A word in five digits.
+/// Returns a word in five digits, with a space.
 #[inline(always)]
 #[tactic(auto, using(crate::proofs::Zeros::digits_by_pairs))]
 pub(crate) fn column(word: u16) -> Column
@@ -84,7 +84,7 @@ pub(crate) fn column(word: u16) -> Column
     [first, thousands, third, tens, last, b' ']
 }
 
-/// A word in five digits, or five dashes where there is none.
+/// Returns a word in five digits, or five dashes if there is none, with a space.
 pub(crate) fn column_or_dashes(word: Option<u16>) -> Column
     ensures text { result ≡ top_text word ++ 32 ∷ [] }
     ensures ascii { IsAscii result }
@@ -95,7 +95,7 @@ pub(crate) fn column_or_dashes(word: Option<u16>) -> Column
     }
 }
 
-/// Columns as one text.
+/// Returns columns as one string.
 #[tactic(auto, using(crate::proofs::Columns::columns_utf8))]
 pub(crate) fn joined(columns: &[Column]) -> &str
     requires ascii { AllByRecursion IsAscii columns.now }

@@ -1,4 +1,4 @@
-//! The line of a trace for a machine's next step; the lines that are selected, and what stands in front of them.
+//! The line of a trace for the next step of a machine, the selection of lines, and the columns before a line.
 #![tactic(auto)]
 
 mod cached_digits;

@@ -1,4 +1,4 @@
-//! The lines of a trace that are selected, one behind the other.
+//! The selected lines of a trace, one after the other.
 
 ghost use Rattle.std.specs.Prelude.{◌≡◌, ◌≤◌, ◌++◌, OnOk};
 ghost use Rattle.pm_trace.specs.Selected.{blanks, front, front_blanks, front_place, shown_line};
@@ -11,10 +11,10 @@ use pm_jobs::Selection;
 use pm_machine::{Machine, place_in_code};
 use std::alloc::{AllocError, Global};
 
-/// Blanks in front of the deepest line.
+/// The spaces before the deepest line.
 static BLANKS: [u8; 128] = [b' '; 128];
 
-// Two blanks for each level.
+// Returns two spaces for each level.
 #[tactic(auto, using(crate::proofs::Depths::first_blanks))]
 fn blanks(depth: u16) -> &'static [u8]
     requires most { depth ≤ 64 }
@@ -23,7 +23,7 @@ fn blanks(depth: u16) -> &'static [u8]
     &BLANKS[..2 * usize::from(depth)]
 }
 
-// Adds two blanks for each level of depth, where they are wanted.
+// Appends two spaces for each level of depth, if requested.
 fn add_blanks(page: &mut Vec<u8>, machine: &Machine, wanted: bool) -> Result<(), AllocError>
     ensures blanks { OnOk result (page.new.items ≡ page.old.items ++ front_blanks wanted machine.now.state) }
 {
@@ -33,7 +33,7 @@ fn add_blanks(page: &mut Vec<u8>, machine: &Machine, wanted: bool) -> Result<(),
     page.extend_from_slice(blanks(depth(machine)))
 }
 
-// Adds the place of a step, where that is wanted.
+// Appends the position of a step, if requested.
 fn add_places(page: &mut Vec<u8>, machine: &Machine, wanted: bool) -> Result<(), AllocError>
     ensures places { OnOk result (page.new.items ≡ page.old.items ++ front_place wanted machine.now.state) }
 {
@@ -43,7 +43,7 @@ fn add_places(page: &mut Vec<u8>, machine: &Machine, wanted: bool) -> Result<(),
     add_place(page, place_in_code(machine))
 }
 
-// Adds what stands in front of a line.
+// Appends the columns before a line.
 fn add_front(page: &mut Vec<u8>, machine: &Machine, wanted: Selection) -> Result<(), AllocError>
     ensures front { OnOk result (page.new.items ≡ page.old.items ++ front wanted machine.now.state) }
 {
@@ -52,23 +52,22 @@ fn add_front(page: &mut Vec<u8>, machine: &Machine, wanted: Selection) -> Result
     Ok(())
 }
 
-/// Adds the lines of a trace that are selected to a page. What it keeps is how digits were spelled, so any machine's
-/// line can come next.
+/// Appends the selected lines of a trace to a page. It only caches digits, so the next line can be of any machine.
 #[derive(Drop)]
 pub struct Lines {
     tracer: Tracer,
 }
 
 impl Lines {
-    /// One that has kept nothing.
+    /// Creates a value that has cached nothing.
     pub fn new(alloc: Global) -> Lines {
         Lines {
             tracer: Tracer::new(alloc),
         }
     }
 
-    /// Adds what is shown of the step that a machine makes next: its line with what stands in front of that and a line
-    /// feed, or nothing where the line is not selected. After want of memory a part of it may stand on the page.
+    /// Appends what is shown of the next step of a machine: its line with the columns before it and a line feed.
+    /// Appends nothing if the line is not selected. After `AllocError` a part of the line may have been appended.
     #[tactic(auto, unfolding(crate::specs::Selected::shown_line))]
     pub fn add(
         &mut self,

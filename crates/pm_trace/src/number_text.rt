@@ -1,4 +1,4 @@
-//! Instructions whose operands are numbers, put onto a page.
+//! The text of instructions whose operands are numbers, appended to a page.
 
 ghost use Rattle.std.specs.Prelude.{◌≡◌, ◌<◌, ◌≤◌, ◌∷◌, ◌++◌, ◌+◌, ◌*◌, length, slice_index, IfOk, OnOk, if◌then◌else◌};
 ghost use Rattle.std.specs.Fmt.{decimal};
@@ -10,7 +10,7 @@ ghost use Rattle.pm_disasm.specs.Text.{text_at};
 use pm_opcode::{Form, form_at, implied_number, row_at};
 use std::alloc::AllocError;
 
-/// Adds a character and a number.
+/// Appends a character and a number.
 #[inline(always)]
 #[tactic(auto, using(crate::proofs::Decimals::one_digit, crate::proofs::Decimals::two_digits))]
 fn add_number(page: &mut Vec<u8>, lead: u8, number: u16) -> Result<(), AllocError>
@@ -26,7 +26,7 @@ fn add_number(page: &mut Vec<u8>, lead: u8, number: u16) -> Result<(), AllocErro
     }
 }
 
-/// Adds a character and a number of three to five digits.
+/// Appends a character and a number of three to five digits.
 #[inline(never)]
 #[tactic(auto, using(crate::proofs::Decimals::three_digits, crate::proofs::Decimals::four_digits, crate::proofs::Decimals::five_digits))]
 fn add_long_number(page: &mut Vec<u8>, lead: u8, number: u16) -> Result<(), AllocError>
@@ -50,7 +50,7 @@ fn add_long_number(page: &mut Vec<u8>, lead: u8, number: u16) -> Result<(), Allo
     }
 }
 
-/// Adds the name of an opcode, and the number that it says itself.
+/// Appends the name of an opcode, and the number that the opcode contains.
 #[inline(always)]
 fn add_plain(page: &mut Vec<u8>, op: u8) -> Result<(), AllocError>
     ensures text { OnOk result (page.new.items
@@ -63,7 +63,7 @@ fn add_plain(page: &mut Vec<u8>, op: u8) -> Result<(), AllocError>
     }
 }
 
-/// Adds the name of an opcode and a byte.
+/// Appends the name of an opcode and a byte.
 #[inline(always)]
 fn add_byte(page: &mut Vec<u8>, op: u8, byte: u8) -> Result<(), AllocError>
     ensures text { OnOk result (page.new.items ≡ page.old.items ++ mnemonic_of op ++ 32 ∷ decimal byte) }
@@ -72,7 +72,7 @@ fn add_byte(page: &mut Vec<u8>, op: u8, byte: u8) -> Result<(), AllocError>
     add_number(page, b' ', u16::from(byte))
 }
 
-/// Adds the name of an opcode and a word, the low byte of which comes first.
+/// Appends the name of an opcode and a word, whose low byte is first.
 #[inline(always)]
 fn add_word(page: &mut Vec<u8>, op: u8, low: u8, high: u8) -> Result<(), AllocError>
     ensures text { OnOk result (page.new.items
@@ -82,7 +82,7 @@ fn add_word(page: &mut Vec<u8>, op: u8, low: u8, high: u8) -> Result<(), AllocEr
     add_number(page, b' ', u16::from(low) + 256 * u16::from(high))
 }
 
-/// Adds the name of an opcode and a signed byte.
+/// Appends the name of an opcode and a signed byte.
 #[inline(always)]
 #[tactic(auto, using(crate::proofs::ShortText::positive, crate::proofs::ShortText::negative))]
 fn add_signed(page: &mut Vec<u8>, op: u8, byte: u8) -> Result<(), AllocError>
@@ -97,7 +97,7 @@ fn add_signed(page: &mut Vec<u8>, op: u8, byte: u8) -> Result<(), AllocError>
     add_number(page, b'-', 256 - u16::from(byte))
 }
 
-/// Adds the name of an opcode and two bytes.
+/// Appends the name of an opcode and two bytes.
 #[inline(always)]
 fn add_pair(page: &mut Vec<u8>, op: u8, first: u8, second: u8) -> Result<(), AllocError>
     ensures text { OnOk result (page.new.items
@@ -109,8 +109,9 @@ fn add_pair(page: &mut Vec<u8>, op: u8, first: u8, second: u8) -> Result<(), All
     add_number(page, b' ', u16::from(second))
 }
 
-/// Adds the text of the instruction at a place, where its operands are none, a byte, a word, a number of one byte,
-/// or a byte and such a number; false, and nothing is added, where it is any other, or near the end of the bytes.
+/// Appends the text of the instruction at a position and returns true. The operands must be none, a byte, a word, a
+/// number of one byte, or a byte and such a number. For another instruction, or one near the end of the bytes, it
+/// returns false and appends nothing.
 #[inline(always)]
 pub(crate) fn add_short(page: &mut Vec<u8>, bytes: &[u8], at: usize) -> Result<bool, AllocError>
     requires inside { at < length bytes.now }

@@ -1,4 +1,4 @@
-//! The columns of a step's place in the code.
+//! The columns of the position of a step in the code.
 
 ghost use Rattle.std.specs.Prelude.{◌≡◌, ◌++◌, OnOk};
 ghost use Rattle.pm_trace.specs.Selected.{column, place_columns};
@@ -7,7 +7,7 @@ use crate::digits::column;
 use pm_machine::CodePlace;
 use std::alloc::AllocError;
 
-/// The number of a segment or a procedure in three digits, with a blank behind it.
+/// Returns the number of a segment or a procedure in three digits, followed by a space.
 #[tactic(auto, using(crate::proofs::PlaceDigits::three_digits))]
 fn number_column(number: u8) -> [u8; 4]
     ensures digits { result ≡ column 3 number }
@@ -16,7 +16,7 @@ fn number_column(number: u8) -> [u8; 4]
     [b'0' + tens / 10, b'0' + tens % 10, b'0' + number % 10, b' ']
 }
 
-/// Adds a place in columns; dashes where it is none.
+/// Appends a position in columns, or dashes if there is none.
 pub(crate) fn add_place(page: &mut Vec<u8>, place: Option<CodePlace>) -> Result<(), AllocError>
     ensures columns { OnOk result (page.new.items ≡ page.old.items ++ place_columns place) }
 {

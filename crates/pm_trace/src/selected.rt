@@ -1,4 +1,4 @@
-//! Whether the line of a step is shown.
+//! The selection of the lines that are shown.
 
 ghost use Rattle.std.specs.Prelude.{◌≡◌};
 ghost use Rattle.pm_trace.specs.Selected.{is_at_call, is_call_or_return, is_selected, stands_in};
@@ -8,7 +8,7 @@ use pm_jobs::{Code, Selection};
 use pm_machine::{CodePlace, Machine, place_in_code};
 use pm_opcode::row_at;
 
-/// Whether a place stands in the code that is asked for.
+/// Whether a position is in the requested code.
 fn stands_in(code: Code, place: Option<CodePlace>) -> bool
     ensures value { result ≡ stands_in code place }
 {
@@ -22,7 +22,7 @@ fn stands_in(code: Code, place: Option<CodePlace>) -> bool
     }
 }
 
-/// Whether a machine stands in the code that is asked for.
+/// Whether a machine is in the requested code.
 fn is_inside(machine: &Machine, code: Code) -> bool
     ensures value { result ≡ stands_in code (place_in_code machine.now.state) }
 {
@@ -39,7 +39,7 @@ fn is_call_or_return(name: &str) -> bool
     matches!(name, "CIP" | "CBP" | "CXP" | "CLP" | "CGP" | "RNP" | "RBP")
 }
 
-/// Whether the step that a machine makes next is a call or a return.
+/// Whether the next step of a machine is a call or a return.
 fn is_at_call(machine: &Machine) -> bool
     ensures value { result ≡ is_at_call machine.now.state }
 {
@@ -47,7 +47,7 @@ fn is_at_call(machine: &Machine) -> bool
     is_call_or_return(row_at(op).mnemonic)
 }
 
-/// Whether the line of the step that a machine makes next is shown.
+/// Whether the line of the next step of a machine is shown.
 pub(crate) fn is_selected(wanted: Selection, machine: &Machine) -> bool
     ensures value { result ≡ is_selected wanted machine.now.state }
 {

@@ -1,4 +1,4 @@
-//! The line of a trace for a machine's next step.
+//! The line of a trace for the next step of a machine.
 
 ghost use Rattle.std.specs.Prelude.{◌≡◌, ◌%◌, Some};
 ghost use Rattle.pm_trace.specs.Trace.{top_word, trace_line};
@@ -10,9 +10,12 @@ use pm_words::Memory;
 use pm_words::layout::STACK_END;
 use std::fmt;
 
-/// The line of a trace for the step that a machine makes next, without a line feed: the steps so
-/// far in at least eight digits; IPC, SP, MP, BASE, NP and the word at SP in five digits each, with
-/// five dashes in place of the word where SP is 65,504; and the instruction at IPC.
+/// The line of a trace for the next step of a machine, without a line feed. It consists of:
+///
+/// - the steps so far, in at least eight digits,
+/// - IPC, SP, MP, BASE, NP and the word at SP, in five digits each, with five dashes instead of the word if SP is
+///   65,504,
+/// - the instruction at IPC.
 #[derive(Clone, Copy)]
 pub struct TraceLine<'a> {
     /// The machine before the step.
@@ -20,7 +23,7 @@ pub struct TraceLine<'a> {
 }
 
 impl<'a> TraceLine<'a> {
-    /// The line of a machine.
+    /// Creates the line of a machine.
     pub fn new(machine: &'a Machine) -> TraceLine<'a>
         ensures machine { result.machine.now ≡ machine.now }
     {
@@ -50,7 +53,7 @@ impl fmt::Display for TraceLine<'_> {
     }
 }
 
-/// The word at the top of the stack.
+/// Returns the word at the top of the stack, or `None` if the stack is empty.
 #[tactic(auto, unfolding(crate::specs::Trace::top_word))]
 pub(crate) fn top(memory: &Memory, sp: u16) -> Option<u16>
     requires even { sp % 2 ≡ 0 }

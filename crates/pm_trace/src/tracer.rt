@@ -1,4 +1,4 @@
-//! The lines of a trace, one behind the other.
+//! The lines of a trace, one after the other.
 
 ghost use Rattle.std.specs.Prelude.{◌≡◌, ◌<◌, ◌∷◌, [], ◌++◌, OnOk};
 ghost use Rattle.pm_trace.specs.Trace.{trace_line};
@@ -13,20 +13,20 @@ use pm_machine::Machine;
 use pm_words::Memory;
 use std::alloc::{AllocError, Global};
 
-/// Adds the lines of a trace to a page. What it keeps is how digits were spelled that seldom change, so any machine's
-/// line can come next.
+/// Appends the lines of a trace to a page. It only caches digits that seldom change, so the next line can be of any
+/// machine.
 #[derive(Drop)]
 pub struct Tracer {
     tens: CachedTens,
     mp: CachedColumn,
     base: CachedColumn,
     np: CachedColumn,
-    // the text of an instruction whose operands are no numbers
+    // The text of an instruction whose operands are not numbers.
     text: String,
 }
 
 impl Tracer {
-    /// One that has kept nothing.
+    /// Creates a value that has cached nothing.
     pub fn new(alloc: Global) -> Tracer {
         Tracer {
             tens: CachedTens::new(),
@@ -37,8 +37,8 @@ impl Tracer {
         }
     }
 
-    /// Adds the line of a trace for the step that a machine makes next, with a line feed. After want of memory a part
-    /// of it may stand on the page.
+    /// Appends the line of a trace for the next step of a machine, with a line feed. After `AllocError` a part of the
+    /// line may have been appended.
     #[tactic(auto, unfolding(crate::specs::Trace::trace_line))]
     pub fn add_line(&mut self, page: &mut Vec<u8>, machine: &Machine) -> Result<(), AllocError>
         ensures line { OnOk result (page.new.items
@@ -66,7 +66,7 @@ impl Tracer {
         Ok(())
     }
 
-    // Adds the line of a machine that made more steps than eight digits can count.
+    // Appends the line of a machine that has executed more steps than eight digits can count.
     #[inline(never)]
     fn add_long_line(&mut self, page: &mut Vec<u8>, machine: &Machine) -> Result<(), AllocError>
         ensures line { OnOk result (page.new.items
@@ -77,7 +77,7 @@ impl Tracer {
         page.extend_from_slice(self.text.as_bytes())
     }
 
-    // Adds the text of what stands at an address.
+    // Appends the text of the instruction at an address.
     #[inline(always)]
     #[tactic(auto, unfolding(pm_disasm::specs::Text::line_text))]
     fn add_place(
@@ -94,7 +94,7 @@ impl Tracer {
         self.add_text(page, &Line::new(memory, address))
     }
 
-    // Adds the text of a line, whatever the operands of its instruction.
+    // Appends the text of a line with any operands.
     #[inline(never)]
     fn add_text(&mut self, page: &mut Vec<u8>, line: &Line<'_>) -> Result<(), AllocError>
         ensures text { OnOk result

@@ -1,4 +1,4 @@
-//! Each number of the header that is no answer of a whole call above, by a call that has to give it.
+//! Each number of the header that no whole job above returns, by a call that must return it.
 use crate::calls::machines::{SUM, raw};
 use crate::calls::volumes::blank;
 use crate::calls::{Answer, NOTHING, NOWHERE, answer};

@@ -2,6 +2,6 @@ use Rattle.std.proofs.Common.{◌≡◌, map, take}
 use Rattle.pm_debug.specs.Breaks.{instead}
 use Rattle.pm_debug.proofs.breaks.with_instead.Given as goal
 
--- the breakpoints so far
+-- The breakpoints so far.
 abbrev pub invariant-loop-known : goal.invariant-loop-known
 invariant-loop-known l = record { so_far : l.all.items ≡ map (instead l.new) (take l.known-index l.breaks.items) }

@@ -3,7 +3,7 @@ use Rattle.pm_debug.specs.Passes.{all_passed}
 use Rattle.pm_session.specs.Answers.{ran_to}
 use Rattle.pm_session.proofs.answers.pass.Given as goal
 
--- what the run comes to that has passed over some is what that of the beginning comes to
+-- The outcome of the run after some passes is the outcome from the beginning.
 abbrev pub invariant-passes : goal.invariant-passes
 invariant-passes l = record {
   passed : all_passed l.fn.debugger.breaks l.most l.fn.debugger.passes l.fn.debugger.left

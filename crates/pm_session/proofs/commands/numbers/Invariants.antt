@@ -4,7 +4,7 @@ use Rattle.pm_session.specs.Words.{words_of_line}
 use Rattle.pm_session.proofs.CommandLaws.{behind}
 use Rattle.pm_session.proofs.commands.numbers.Given as goal
 
--- the numbers so far, and those of the rest, are the line's
+-- The numbers so far, and those of the rest, are the line's.
 abbrev pub invariant-words : goal.invariant-words
 invariant-words l = record {
   rest : numbers 4 (words_of_line l.line) ≡ behind l.numbers.items (numbers (4 - length l.numbers.items) (words_of_line l.rest));

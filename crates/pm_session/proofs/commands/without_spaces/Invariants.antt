@@ -2,7 +2,7 @@ use Rattle.std.proofs.Common.{◌≡◌, ◌≤◌, length}
 use Rattle.pm_session.specs.Words.{words_of_line}
 use Rattle.pm_session.proofs.commands.without_spaces.Given as goal
 
--- the words stay the same
+-- The words are unchanged.
 abbrev pub invariant-spaces : goal.invariant-spaces
 invariant-spaces l = record {
   words : words_of_line l.rest ≡ words_of_line l.line;

@@ -2,6 +2,6 @@ use Rattle.std.proofs.Common.{◌≡◌, ◌++◌, map, take, string_bytes}
 use Rattle.pm_session.specs.Views.{shown_character}
 use Rattle.pm_session.proofs.views.push_characters.Given as goal
 
--- the characters so far
+-- The characters so far.
 abbrev pub invariant-loop-byte : goal.invariant-loop-byte
 invariant-loop-byte l = string_bytes l.text ≡ string_bytes l.fn.text ++ map shown_character (take l.byte-index l.bytes)

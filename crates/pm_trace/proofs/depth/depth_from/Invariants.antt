@@ -2,6 +2,6 @@ use Rattle.std.proofs.Common.{◌≡◌, ◌+◌, ◌-◌}
 use Rattle.pm_trace.specs.Selected.{depth_from}
 use Rattle.pm_trace.proofs.depth.depth_from.Given as goal
 
--- the frames so far, and those from here on, are all of them
+-- The frames so far and those from here on are all frames.
 abbrev pub invariant-loop-count : goal.invariant-loop-count
 invariant-loop-count l = record { rest : depth_from l.memory.words 64 l.first ≡ l.count + depth_from l.memory.words (64 - l.count) l.frame }

@@ -1,4 +1,4 @@
--- `into_loose`: null tells an empty handle; any other pointer goes with the block that is owned.
+-- `into_loose`: a null pointer is an empty handle. Any other pointer comes with the block that is owned.
 use Rattle.std.proofs.Common.{◌≡◌, List, [], ◌∷◌, ◌++◌, refl, sym, ap, ◌∙◌, lit<}
 use Rattle.std.specs.Prelude.{Option, Some, None, option_map}
 use mir.Syntax.{Fn}

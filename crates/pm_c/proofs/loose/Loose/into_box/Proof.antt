@@ -1,4 +1,4 @@
--- `into_box`: the two parts are those that the box is made of.
+-- `into_box`: the two parts are those of the box.
 use Rattle.std.proofs.Common.{◌≡◌, List, [], ◌∷◌, ◌++◌, refl, sym, ap, subst}
 use mir.Syntax.{a_type, dcons, dnil}
 use mir.Val.{Val, vptr}

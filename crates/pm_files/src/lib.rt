@@ -3,6 +3,7 @@
 
 mod closed;
 mod fault;
+mod folder;
 mod host;
 mod image;
 mod place;
@@ -11,6 +12,7 @@ mod store;
 
 pub use closed::hold_closed;
 pub use fault::DiskFault;
+pub use folder::{Folder, HostFolder};
 pub use host::{Host, Kind, Node, Stream};
 pub use image::IMAGE_LIMIT;
 pub use store::{HostStore, Store};

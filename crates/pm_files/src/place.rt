@@ -116,7 +116,10 @@ fn resolved<R: Host + AllocGlobal>(rt: &R, name: &str) -> Result<Option<String>,
 
 /// The path of an open file by its number, which leads to it whatever its names are. `None` where the system has no
 /// such paths.
-fn by_number<R: Host + AllocGlobal>(rt: &R, file: &R::File) -> Result<Option<String>, DiskFault> {
+pub(crate) fn by_number<R: Host + AllocGlobal>(
+    rt: &R,
+    file: &R::File,
+) -> Result<Option<String>, DiskFault> {
     let number = rt.number(file);
     let Ok(path) = format!(in rt.alloc(); "/proc/self/fd/{number}") else {
         return Err(DiskFault::NoMemory);

@@ -293,7 +293,7 @@ fn put_beside<R: Host>(
 }
 
 /// Makes a file with the bytes under its own name, where none can be made beside it.
-fn make_there<R: Host>(rt: &R, path: &str, bytes: &[u8]) -> Result<(), DiskFault> {
+pub(crate) fn make_there<R: Host>(rt: &R, path: &str, bytes: &[u8]) -> Result<(), DiskFault> {
     let mut file = rt.make(path, ORDINARY).map_err(DiskFault::of_write)?;
     let done = fill(&mut file, bytes);
     if done.is_err() {

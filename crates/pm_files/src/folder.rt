@@ -1,0 +1,150 @@
+//! A folder that is created or opened once, and its files.
+ghost use Rattle.std.specs.Prelude.{◌≡◌, ℕ, List, Option, None, IfOk, OnErr, OnOk};
+ghost use Rattle.pm_files.specs.Folders.{AddsFile, IsEmptyFolder};
+ghost use Rattle.pm_files.specs.Held.{HoldsFile};
+
+use crate::fault::DiskFault;
+use crate::host::{Host, Kind, Node};
+use crate::image::{fault_of_open, read_file};
+use crate::place::by_number;
+use crate::replacing::make_there;
+use std::alloc::{AllocError, Global};
+use std::fs;
+use std::fs::{File, OpenOptions};
+use std::io::ErrorKind;
+use std::rt::Files;
+
+/// A folder, and its files by their names.
+///
+/// Until `create` or `open` returns `Ok`, the folder has no file and takes none.
+pub trait Folder {
+    /// What each file of the folder contains, where that is known.
+    ghost files: { Self → Option (List ℕ → Option (List ℕ)) };
+
+    /// Creates the folder. Nothing may exist at the path. The parent folder must exist.
+    fn create(&mut self, path: &str) -> Result<(), DiskFault>
+        ensures empty { OnOk result (IsEmptyFolder (files self.new)) }
+        ensures unchanged { OnErr result (files self.new ≡ files self.old) };
+
+    /// Opens a folder that exists.
+    fn open(&mut self, path: &str) -> Result<(), DiskFault>;
+
+    /// Creates a file in the folder. No file is replaced and no link is followed. After an error, no file has been
+    /// created.
+    fn add(&mut self, name: &str, bytes: &[u8]) -> Result<(), DiskFault>
+        ensures adds { OnOk result (AddsFile (files self.old) (files self.new) name.now bytes.now) }
+        ensures unchanged { OnErr result (files self.new ≡ files self.old) };
+
+    /// Returns the contents of a regular file of the folder, of at most `IMAGE_LIMIT` bytes. No link is followed.
+    fn read(&mut self, alloc: Global, name: &str) -> Result<Vec<u8>, DiskFault>
+        ensures value { IfOk result (λ bytes. HoldsFile (files self.old) name.now bytes.items) }
+        ensures unchanged { files self.new ≡ files self.old };
+}
+
+/// A folder that is held open, and the path that leads through it.
+#[derive(Drop)]
+struct Opened<F> {
+    /// The folder. While it is open, its number leads to it, even if it is moved or replaced.
+    folder: F,
+    /// The path of the folder by its number.
+    path: String,
+}
+
+/// A folder of a system. Nothing is known of what its files contain, because other programs can change them.
+#[derive(Drop)]
+pub struct HostFolder<'a, R: Host> {
+    rt: &'a R,
+    opened: Option<Opened<R::File>>,
+}
+
+/// Returns a path in a folder.
+fn joined(alloc: Global, folder: &str, name: &str) -> Result<String, DiskFault> {
+    match format!(in alloc; "{folder}/{name}") {
+        Ok(path) => Ok(path),
+        Err(_) => Err(DiskFault::NoMemory),
+    }
+}
+
+/// Returns the folder at a path, opened. `Replaced` if a link or another file is at the path by then, or if the system
+/// has no paths by number.
+fn open_folder<R: Host + AllocGlobal>(rt: &R, path: &str) -> Result<Opened<R::File>, DiskFault> {
+    // A pipe at this path would block; with a full stop after it, it is refused.
+    let inside = joined(rt.alloc(), path, ".")?;
+    let folder = File::open(rt, inside.as_str()).map_err(DiskFault::of_read)?;
+    let node = rt.node(&folder).map_err(DiskFault::of_read)?;
+    let there = rt.node_at(path, false).map_err(DiskFault::of_read)?;
+    if !there.is_some_and(|there| there.is(node)) {
+        return Err(DiskFault::Replaced);
+    }
+    match by_number(rt, &folder)? {
+        Some(path) => Ok(Opened { folder, path }),
+        None => Err(DiskFault::Replaced),
+    }
+}
+
+/// Opens a regular file to read it, without waiting. A pipe that is put at its path is not waited for if the file may
+/// be written.
+fn open_file<R: Files>(rt: &R, path: &str) -> Result<R::File, DiskFault> {
+    match OpenOptions::new().read(true).write(true).open(rt, path) {
+        Ok(file) => Ok(file),
+        Err(_) => File::open(rt, path).map_err(DiskFault::of_read),
+    }
+}
+
+/// Returns the regular file at a path, opened. `Replaced` if another file is at the path by then.
+fn regular<R: Host>(rt: &R, path: &str) -> Result<R::File, DiskFault> {
+    let there = rt.node_at(path, false).map_err(DiskFault::of_read)?;
+    let node: Node = match there {
+        None => return Err(DiskFault::Read(ErrorKind::NotFound)),
+        Some(node) if node.kind == Kind::File => node,
+        Some(_) => return Err(DiskFault::Read(ErrorKind::InvalidInput)),
+    };
+    let file = open_file(rt, path)?;
+    let open = rt.node(&file).map_err(fault_of_open)?;
+    if open.is(node) && open.is_file() {
+        Ok(file)
+    } else {
+        Err(DiskFault::Replaced)
+    }
+}
+
+impl<'a, R: Host + AllocGlobal> HostFolder<'a, R> {
+    /// A folder of the system that is neither created nor opened yet.
+    pub fn new(rt: &'a R) -> HostFolder<'a, R> {
+        HostFolder { rt, opened: None }
+    }
+
+    /// Returns the path of a file of the folder.
+    fn path_of(&self, name: &str) -> Result<String, DiskFault> {
+        match &self.opened {
+            Some(opened) => joined(self.rt.alloc(), opened.path.as_str(), name),
+            None => Err(DiskFault::Read(ErrorKind::NotFound)),
+        }
+    }
+}
+
+impl<R: Host + AllocGlobal> Folder for HostFolder<'_, R> {
+    ghost files = { λ _. None };
+
+    fn create(&mut self, path: &str) -> Result<(), DiskFault> {
+        fs::create_dir(self.rt, path).map_err(DiskFault::of_write)?;
+        self.opened = Some(open_folder(self.rt, path)?);
+        Ok(())
+    }
+
+    fn open(&mut self, path: &str) -> Result<(), DiskFault> {
+        self.opened = Some(open_folder(self.rt, path)?);
+        Ok(())
+    }
+
+    fn add(&mut self, name: &str, bytes: &[u8]) -> Result<(), DiskFault> {
+        let path = self.path_of(name)?;
+        make_there(self.rt, path.as_str(), bytes)
+    }
+
+    fn read(&mut self, alloc: Global, name: &str) -> Result<Vec<u8>, DiskFault> {
+        let path = self.path_of(name)?;
+        let mut file = regular(self.rt, path.as_str())?;
+        read_file(alloc, &mut file)
+    }
+}

@@ -76,6 +76,8 @@ fn words(kind: ErrorKind) -> &'static str {
         ErrorKind::FileTooLarge => "the file is too large for the system or its limits",
         ErrorKind::ReadOnlyFilesystem => "the device is read-only",
         ErrorKind::WouldBlock => "another program is writing the file",
+        ErrorKind::AlreadyExists => "it exists already",
+        ErrorKind::InvalidInput => "it is not a regular file",
         _ => "the operating system refuses the access",
     }
 }

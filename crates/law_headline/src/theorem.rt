@@ -27,7 +27,7 @@ type Volumes = [Option<Volume>; 6];
 ///
 /// The clauses are the main theorem. `refusal` and `order` are about any volumes and any order of steps, keys and
 /// operator actions. The machine starts in the state that the table defines for these volumes. It ends in the state
-/// that the table defines after the events of the actions.
+/// that the table defines after the events of the executed actions.
 ///
 /// The next clauses are about texts. A code file that the assembler accepts is loaded as its listing states: from this
 /// machine on by a call (`loads`) and by standard procedure 21 (`keeps`), at a boot (`starts`), and from a volume on

@@ -1,6 +1,7 @@
--- The instruction rules on words as integers. The lines of a rule are in the order in which errors are checked: first
--- the pops, from the top word down (error 7 if there are too few words), then the checks of the rule itself, then the
--- push (error 4 if SP would be below NP).
+-- The instruction rules on words as integers. The lines of a rule are in the order in which errors are checked:
+-- - the pops, from the top word down (error 7 if there are too few words);
+-- - the checks of the rule itself;
+-- - the push (error 4 if SP would be below NP).
 use Rattle.std.specs.Prelude.{ℕ, ◌&&◌, int_le}
 use Rattle.pm_words.specs.declared.error.ExecError.TheVariants.{InvalidIndex}
 use Rattle.pm_words.specs.Stack.{◌>>=◌, StackRow, demand, pop, push}

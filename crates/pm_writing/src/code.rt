@@ -12,8 +12,8 @@ use pm_statements::Layout;
 use std::alloc::Global;
 
 /// Writes the output of `dis` for a code file to a sink, one procedure after the other. It needs memory for one decoded
-/// segment and the text of one procedure. For statements it also needs memory for the sizes of the procedures of the
-/// file. No write to the sink may have failed before.
+/// segment and the text of one procedure. For statements it also needs memory for the sizes and the cached procedures
+/// of the whole file. No write to the sink may have failed before.
 ///
 /// # Errors
 ///

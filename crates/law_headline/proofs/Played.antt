@@ -1,11 +1,11 @@
--- Actions that are done one after the other.
+-- Actions that are executed one after the other.
 use Rattle.std.proofs.Common.{◌≡◌, List, [], ◌∷◌, ◌++◌, map, refl, sym, ap, ◌∙◌, append_assoc}
 use Rattle.law_headline.specs.declared.action.Action.{Action}
 use Rattle.law_headline.specs.Actions.{IsCut, event_of}
 use Rattle.pm_machine.specs.Events.{after_all, next}
 use Rattle.pm_machine.specs.State.{State}
 
--- one action more
+-- The state after one more action.
 pub after_more : (s : State) (done : List Action) (action : Action)
     → after_all s (map event_of (done ++ action ∷ [])) ≡ next (after_all s (map event_of done)) (event_of action)
 after_more s [] action = refl
@@ -15,7 +15,7 @@ map_append : (done left : List Action) → map event_of (done ++ left) ≡ map e
 map_append [] left = refl
 map_append (d ∷ done) left = ap (λ es. event_of d ∷ es) (map_append done left)
 
--- the actions that are done, and those that are left, are all; the state is that after those that are done
+-- The executed actions and the remaining ones are all actions. The state is the state after the executed actions.
 pub record Played (start : State) (actions : List Action) (now : State) (done left : List Action) : Type 0 where
   pub all : actions ≡ done ++ left
   pub state : now ≡ after_all start (map event_of done)

@@ -20,17 +20,17 @@ use Rattle.law_headline.specs.Put.{PutProgramIsBooted, PutProgramIsFound}
 some_same : (a b : List ℕ) → Some a ≡ Some b → a ≡ b
 some_same a b h = cc
 
--- what a name gives, once its file is known
+-- The bytes of a name whose file is known.
 given_bytes : (image name : List ℕ) (entry : Entry) → file_named image name ≡ Some entry → file_given image name ≡ file_bytes image entry
 given_bytes image name entry named = ap (bytes_of_file image) named
 
--- what was put under a name is given by it
+-- The bytes that were put under a name are the bytes of this name.
 put_given : (image name file : List ℕ) (f : Filed) → IsVolumeOfBytes image → filed image (Put name 2 file) ≡ Ok f → file_given f.image name ≡ Some file
 put_given image name file f b done =
     let same : is_same_name name name ≡ true = same-from_upper name name refl in
     rw same at (put_is_got image name 2 file f b done name)
 
--- the new file's entry
+-- The entry of the new file.
 put_entry : (image name file : List ℕ) (f : Filed) → IsVolumeOfBytes image → filed image (Put name 2 file) ≡ Ok f
     → (g : _) × (file_named f.image name ≡ Some (new_entry g name 2 (length file) (last_date_of (directory_of image))))
 unfolding filed

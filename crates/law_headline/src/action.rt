@@ -1,4 +1,4 @@
-//! What a program and its operator do to a machine.
+//! What a program and its operator do with a machine.
 
 ghost use Rattle.std.specs.Prelude.{◌≡◌, map, OnErr, OnOk};
 ghost use Rattle.law_headline.specs.Actions.{IsCut, event_of};
@@ -23,7 +23,7 @@ pub enum Action {
     Eject(u8),
 }
 
-/// Does one action.
+/// Executes one action.
 fn act(machine: &mut Machine, action: Action) -> Result<(), AllocError>
     ensures event { OnOk result (machine.new.state ≡ next machine.old.state (event_of action)) }
     ensures unchanged { OnErr result (machine.new ≡ machine.old) }
@@ -46,13 +46,13 @@ fn act(machine: &mut Machine, action: Action) -> Result<(), AllocError>
     Ok(())
 }
 
-/// Does actions one after the other, in any order and number. The machine is then in the state that the table gives
-/// after their events.
+/// Executes actions one after the other, in any order and number. The machine is then in the state that the table
+/// defines after their events.
 ///
 /// # Errors
 ///
 /// `AllocError` if there is no memory for the output of a step or for a key. The machine is then in the state after the
-/// actions before that one.
+/// actions before the one that failed.
 pub fn play(machine: &mut Machine, actions: Vec<Action>) -> Result<(), AllocError>
     ensures order { OnOk result (machine.new.state ≡ after_all machine.old.state (map event_of actions.items)) }
     ensures cut { OnErr result (IsCut machine.old.state (map event_of actions.items) machine.new.state) }

@@ -22,24 +22,24 @@ use std::alloc::Global;
 /// The volumes of the units 4, 5, 9, 10, 11 and 12.
 type Volumes = [Option<Volume>; 6];
 
-/// Boots a program and does actions on the machine, one after the other. Returns the machine, and whether all actions
-/// were done: without memory the machine is in the state after those before.
+/// Boots a program and executes actions on the machine, one after the other. Returns the machine, and whether all
+/// actions were executed. If memory runs out, the machine is in the state after the actions before the one that failed.
 ///
-/// The clauses are the main theorem. `refusal` and `order` are about any volumes and any order of steps, keys and the
-/// operator's actions: the machine starts in the state that the table gives for these volumes, and is in the state that
-/// the table gives after the events of the actions.
+/// The clauses are the main theorem. `refusal` and `order` are about any volumes and any order of steps, keys and
+/// operator actions. The machine starts in the state that the table defines for these volumes. It ends in the state
+/// that the table defines after the events of the executed actions.
 ///
-/// The next clauses are about texts. What the assembler accepts is loaded as its listing states: from this machine on
-/// by a call (`loads`) and by standard procedure 21 (`keeps`), at a boot (`starts`), and from a volume on which it was
-/// put (`found`, `put`). The characters of the listing denote these bytes (`denotes`). The disassembler's text of the
-/// code file is assembled to the same code file (`back`).
+/// The next clauses are about texts. A code file that the assembler accepts is loaded as its listing states: from this
+/// machine on by a call (`loads`) and by standard procedure 21 (`keeps`), at a boot (`starts`), and from a volume on
+/// which it was put (`found`, `put`). The characters of the listing denote these bytes (`denotes`). The disassembler's
+/// text of the code file is assembled to the same code file (`back`).
 ///
-/// The last clause is about the debugger: what a session shows is what the table gives after its steps, keys and pokes
-/// (`shows`).
+/// The last clause is about the debugger (`shows`). The output of a session is that which the table defines after its
+/// steps, keys and pokes.
 ///
 /// # Errors
 ///
-/// As those of [`Machine::boot`]; the volumes come back.
+/// The errors of [`Machine::boot`]. The volumes are returned with the error.
 pub fn headline(
     alloc: Global,
     volumes: Volumes,

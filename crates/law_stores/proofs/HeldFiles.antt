@@ -1,4 +1,4 @@
--- What a path of a store that tells holds after a job.
+-- The contents of a path of a store after a job.
 use Rattle.std.proofs.Common.{◌≡◌, ◌∙◌, ℕ, true, false, List, [], Option, None, Some, Result, Ok, Err, IfOk, IfSome, OnErr}
 use Rattle.std.proofs.Common.{◌∷◌, Bool, String, Vec, ap, refl, subst, sym, option_map, vec_items, string_bytes}
 use Rattle.std.specs.declared.alloc.Global.{Global}
@@ -24,7 +24,7 @@ abbrev bytes_in : Option (List ℕ) → List ℕ
 bytes_in None = []
 bytes_in (Some bytes) = bytes
 
--- one path holds one list of bytes
+-- A path has only one list of bytes.
 same : (image file : List ℕ) → Some image ≡ Some file → file ≡ image
 same image file is = sym (ap bytes_in is)
 
@@ -34,13 +34,13 @@ left old new path image file None has saves had =
     same image file (sym had ∙ subst (λ files. HoldsFile files path file) saves has)
 left old new path image file (Some bytes) has saves had = same bytes file (sym saves.0 ∙ has)
 
--- where a job is refused its file, that has what it had
+-- If the job fails with a disk fault, its file has its old bytes.
 pub file_stays : (done : Result Outcome DiskFault) (old new : List ℕ → Option (List ℕ)) (path image file : List ℕ)
     → new path ≡ Some file → OnErr done (Some new ≡ Some old) → old path ≡ Some image → OnErr done (file ≡ image)
 file_stays (Ok outcome) old new path image file has stays had = tt
 file_stays (Err fault) old new path image file has stays had = left old new path image file None has stays had
 
--- where the job was cut short its file has what it had
+-- If the job was cut short, its file has its old bytes.
 pub file_cut : (done : Result Outcome DiskFault) (old new : List ℕ → Option (List ℕ)) (path image file : List ℕ)
     → new path ≡ Some file → IfOk done (λ outcome. IsCutShort outcome.exit → Some new ≡ Some old)
     → old path ≡ Some image → IfOk done (StaysWhereCut image file)
@@ -48,7 +48,7 @@ file_cut (Ok outcome) old new path image file has stays had =
     λ cut. left old new path image file None has (stays cut) had
 file_cut (Err fault) old new path image file has stays had = tt
 
--- the file has the image of the outcome, or what it had
+-- The file has the image of the outcome, or its old bytes.
 pub file_saved : (done : Result Outcome DiskFault) (old new : List ℕ → Option (List ℕ)) (path image file : List ℕ)
     → new path ≡ Some file
     → IfOk done (λ outcome. Saves (Some old) (Some new) path (option_map vec_items outcome.image))
@@ -73,7 +73,7 @@ verb_said old new path image file verbs.Check input has saves had =
     (subst (λ bytes. Saves (Some old) (Some new) path (said_verb bytes verbs.Check input).image)
     (same image saves.0 (sym had ∙ saves.1)) saves.2) had
 
--- the file has the image that is said of what it had and of the input, or what it had
+-- The file has the image that the definition gives for its old bytes and the input, or its old bytes.
 pub file_said : (done : Result Outcome DiskFault) (old new : List ℕ → Option (List ℕ)) (path image file : List ℕ)
     (verb : Verb) (known : Option (List ℕ)) (input : List ℕ) → new path ≡ Some file
     → IfOk done (λ outcome. IsSoundExit outcome.exit
@@ -85,11 +85,11 @@ file_said (Ok outcome) old new path image file verb known input has saves is had
     (subst (λ known. IfSome known (λ input. SavesSaid (Some old) (Some new) path verb input)) is (saves sound)) had
 file_said (Err fault) old new path image file verb known input has saves is had = tt
 
--- no disk stands on another unit
+-- No other unit has a disk.
 abbrev none_other : List (Option (String Global))
 none_other = None ∷ None ∷ None ∷ None ∷ None ∷ []
 
--- of five other units none has a path
+-- If the five other units have no path, nothing is saved for them.
 others_none : (old between : Files) (images : List (Option (List ℕ)))
     → SavesEach old between (None ∷ None ∷ None ∷ None ∷ None ∷ []) images → between ≡ old
 others_none old between images saves =
@@ -99,7 +99,7 @@ others_none old between images saves =
     let d12 = d11.2 in
     d12.2 ∙ d12.1 ∙ d11.1 ∙ d10.1 ∙ d9.1 ∙ saves.1
 
--- nor has unit 4
+-- The same with unit 4.
 none_saved : (old between : Files) (images : List (Option (List ℕ)))
     → SavesEach old between (None ∷ None ∷ None ∷ None ∷ None ∷ None ∷ []) images → between ≡ old
 none_saved old between images saves = others_none saves.0 between (next_images images) saves.2 ∙ saves.1
@@ -111,7 +111,7 @@ alone old between path images saves =
     subst (λ files. Saves (Some old) files path (first_image images))
     (sym (others_none saves.0 between (next_images images) saves.2)) saves.1
 
--- of one disk its image alone is saved, or none
+-- For one disk, only its image is saved, or none.
 one_saved : (old : List ℕ → Option (List ℕ)) (between : Files) (saving : Saving) (path : List ℕ)
     (images : List (Option (List ℕ))) → SavesEach (Some old) between (saved_paths saving path (paths_in none_other)) images
     → Saves (Some old) between path (fourth_saved saving (first_image images))
@@ -120,7 +120,7 @@ one_saved old between savings.First path images saves = alone old between path i
 one_saved old between savings.All path images saves = alone old between path images saves
 one_saved old between savings.Others path images saves = none_saved (Some old) between images saves
 
--- of what is said of a run that image is saved which is there
+-- For a run, the image that is saved is the image of the definition.
 fourth_said : (saving : Saving) (limit : ℕ) (disks : List (Option (Vec ℕ Global))) (name : String Global) (input : List ℕ)
     → fourth_saved saving (job_said (jobs.Run disks name limit saving None) input).image
     ≡ (job_said (jobs.Run disks name limit saving None) input).image
@@ -147,7 +147,7 @@ run_left old new between path image file saved true printed has saves prints had
 run_left old new between path image file saved false printed has saves prints had =
     left old new path image file saved has (subst (λ files. Saves (Some old) files path saved) (sym prints) saves) had
 
--- the file of the disk has the image of the outcome, or what it had
+-- The file of the disk has the image of the outcome, or its old bytes.
 pub disk_saved : (saving : Saving) (done : Result Outcome DiskFault) (old new : List ℕ → Option (List ℕ))
     (from path image file : List ℕ) → new path ≡ Some file
     → IfOk done (λ outcome. SavesRun (Some old) (Some new) (saved_paths saving from (paths_in none_other)) printings.Nowhere outcome)
@@ -158,7 +158,7 @@ disk_saved saving (Ok outcome) old new from path image file has saves is had =
     (one_saved old saves.0 saving from _ saves.1) saves.2 (subst (λ path. old path ≡ Some image) (sym is) had)
 disk_saved saving (Err fault) old new from path image file has saves is had = tt
 
--- no image is read where there is no path
+-- No image is read for a missing path.
 reads_none : (files : Files) (paths images : List (Option (List ℕ))) → ReadsEach files (None ∷ paths) images
     → (rest : List (Option (List ℕ))) × (images ≡ None ∷ rest) × ReadsEach files paths rest
 reads_none files paths [] reads = absurd reads
@@ -177,7 +177,7 @@ reads_disk old path image paths (None ∷ images) reads had = absurd reads.0
 reads_disk old path image paths (Some read ∷ images) reads had =
     (images, ap (λ bytes. Some bytes ∷ images) (same image read (sym had ∙ reads.0)), reads.1)
 
--- of a disk alone one image is read
+-- For one disk, one image is read.
 reads_one : (old : List ℕ → Option (List ℕ)) (path image : List ℕ) (images : List (Option (List ℕ)))
     → ReadsEach (Some old) (Some path ∷ None ∷ None ∷ None ∷ None ∷ None ∷ []) images → old path ≡ Some image
     → images ≡ Some image ∷ None ∷ None ∷ None ∷ None ∷ None ∷ []
@@ -192,7 +192,7 @@ reads_one old path image images reads had =
     (d10.1 ∙ ap (λ rest. None ∷ rest) (d11.1 ∙ ap (λ rest. None ∷ rest)
     (d12.1 ∙ ap (λ rest. None ∷ rest) (reads_end (Some old) d12.0 d12.2))))))
 
--- the file of the disk has the image that is said of it and of the input, or what it had
+-- The file of the disk has the image that the definition gives for its image and the input, or its old bytes.
 pub disk_said : (done : Result Outcome DiskFault) (old new : List ℕ → Option (List ℕ)) (from : String Global)
     (path image file : List ℕ) (name : String Global) (limit : ℕ) (saving : Saving) (known : Option (List ℕ)) (input : List ℕ)
     → new path ≡ Some file

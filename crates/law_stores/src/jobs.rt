@@ -24,12 +24,15 @@ pub struct OnFile {
 /// The path of the only file.
 const FILE: &str = "file";
 
-/// Executes a verb of `files` on a file with these bytes, with this input. If the job has an outcome with an image, the
-/// file has this image afterwards. If the outcome has no image, the file has its old bytes. If the outcome is neither a
-/// stream failure nor out of memory, the file has the image that the definition of the verb gives for the old bytes and
-/// the input. If the definition gives no image, the file has its old bytes. After a stream failure or out of memory, or
-/// if the file cannot be read or written, the file has its old bytes. The clauses state nothing about the file if the
-/// call itself returns an error.
+/// Executes a verb of `files` on a file with these bytes, with this input.
+///
+/// - If the job has an outcome with an image, the file has this image afterwards.
+/// - If the outcome has no image, the file has its old bytes.
+/// - If the outcome is neither a stream failure nor out of memory, the file has the image that the definition of the
+///   verb results in for the old bytes and the input. If this image is missing, the file has its old bytes.
+/// - After a stream failure or out of memory, or if the file cannot be read or written, the file has its old bytes.
+///
+/// The clauses state nothing about the file if the call itself returns an error.
 pub fn on_file(alloc: Global, image: Vec<u8>, typed: &[u8], verb: Verb) -> Result<OnFile, DiskFault>
     ensures unchanged { IfOk result (λ came. OnErr came.done (came.file.items ≡ image.items)) }
     ensures cut { IfOk result (λ came. IfOk came.done (StaysWhereCut image.items came.file.items)) }
@@ -50,12 +53,18 @@ pub fn on_file(alloc: Global, image: Vec<u8>, typed: &[u8], verb: Verb) -> Resul
     Ok(OnFile { done, file })
 }
 
-/// Runs the program with this name on a disk with these bytes, with this input, for at most `limit` steps. If the job
-/// has an outcome with an image, and the image of unit 4 is to be saved, the file has this image afterwards. In all
-/// other outcomes the file has its old bytes. If the outcome is neither a stream failure nor out of memory, the file
-/// has the image that the definition of the run gives for the input and only this disk, on unit 4. If the definition
-/// gives no image, the file has its old bytes. After a stream failure or out of memory, the file has its old bytes. The
-/// clauses state nothing about the file if the file cannot be read or written, or if the call itself returns an error.
+/// Runs the program with this name on a disk with these bytes, with this input, for at most `limit` steps.
+///
+/// - If the job has an outcome with an image, and the image of unit 4 is to be saved, the file has this image
+///   afterwards.
+/// - In all other outcomes the file has its old bytes.
+/// - If the outcome is neither a stream failure nor out of memory, the file has the image that the definition of the
+///   run results in. The definition is that for the input and only this disk, on unit 4. If it has no image, the file
+///   has its old bytes.
+/// - After a stream failure or out of memory, the file has its old bytes.
+///
+/// The clauses state nothing about the file if the file cannot be read or written, or if the call itself returns an
+/// error.
 pub fn on_disk(
     alloc: Global,
     image: Vec<u8>,

@@ -1,4 +1,4 @@
--- The results are computed.
+-- The worked results, by computation.
 use Rattle.std.proofs.Common.{refl}
 use Rattle.pm_rows.specs.Worked.{WorkedResults}
 

@@ -1,6 +1,7 @@
--- The rows on words as integers. The lines of a row stand in the order of its faults: the words that it pops, the top
--- one first (error 7 where there are too few), then what it checks itself, then the word that it pushes (error 4
--- where SP would be below NP).
+-- The instruction rules on words as integers. The lines of a rule are in the order in which errors are checked:
+-- - the pops, from the top word down (error 7 if there are too few words);
+-- - the checks of the rule itself;
+-- - the push (error 4 if SP would be below NP).
 use Rattle.std.specs.Prelude.{ℕ, ◌&&◌, int_le}
 use Rattle.pm_words.specs.declared.error.ExecError.TheVariants.{InvalidIndex}
 use Rattle.pm_words.specs.Stack.{◌>>=◌, StackRow, demand, pop, push}
@@ -12,7 +13,7 @@ use Rattle.pm_families.specs.declared.families.Arithmetic.TheVariants.{Constant,
 use Rattle.pm_words.specs.Signed.{signed, truth}
 use Rattle.pm_rows.specs.Integers.{unary, binary, relation}
 
--- SLDC, LDCI and LDCN. .. -> .., w: the number of the instruction, 0 for LDCN
+-- SLDC, LDCI and LDCN. .. -> .., w: the operand of the instruction, or 0 for LDCN
 unfoldable pub constant_row : ℕ → StackRow
 constant_row w m sp np = push m sp np w
 
@@ -37,7 +38,7 @@ relation_row o m sp np = do
   a ← pop m b.above
   push m a.above np (truth (relation o a.word b.word))
 
--- CHK. .., a, b, c -> .., a: the third word stays, if it lies between the two above it
+-- CHK. .., a, b, c -> .., a: fails unless b <= a <= c as signed numbers
 unfoldable pub check_row : StackRow
 check_row m sp np = do
   c ← pop m sp

@@ -1,4 +1,4 @@
--- The rows on addresses that are on the stack. Addresses are modulo 65,536.
+-- The instruction rules on addresses on the stack. Addresses are modulo 65,536.
 use Rattle.std.specs.Prelude.{ℕ, ◌+◌, ◌-◌, ◌*◌, ◌%◌, Ok, nat_le, nat_lt}
 use Rattle.pm_words.specs.declared.error.ExecError.TheVariants.{InvalidMemory, StackOverflow}
 use Rattle.pm_words.specs.Words.{copied}
@@ -20,14 +20,14 @@ indirect_row b m sp np = do
   w ← load m ((a.word + 2 * b) % 65536)
   push m a.above np w
 
--- IXA. .., a, i -> .., a + 2bi: item i of an array whose items have b words
+-- IXA. .., a, i -> .., a + 2bi: the address of item i of an array whose items have b words
 unfoldable pub index_row : ℕ → StackRow
 index_row b m sp np = do
   i ← pop m sp
   a ← pop m i.above
   push m a.above np ((a.word + 2 * b * i.word) % 65536)
 
--- STO. .., a, v -> ..: v goes to a
+-- STO. .., a, v -> ..: stores v at address a
 unfoldable pub store_indirect_row : StackRow
 store_indirect_row m sp np = do
   v ← pop m sp
@@ -35,7 +35,7 @@ store_indirect_row m sp np = do
   n ← store m a.word v.word
   Ok (n, a.above)
 
--- LDM. .., a -> .., n words: n words from an address go onto the stack, the one at the lowest address at the top
+-- LDM. .., a -> .., n words: pushes the n words from address a on, with the word at the lowest address on top
 unfoldable pub load_words_row : ℕ → StackRow
 load_words_row n m sp np = do
   a ← pop m sp
@@ -43,15 +43,15 @@ load_words_row n m sp np = do
   _ ← demand (nat_le (np + 2 * n) a.above) StackOverflow
   Ok (copied m a.word (a.above - 2 * n) (2 * n), a.above - 2 * n)
 
--- STM. .., a, n words -> ..: the n words on the stack go to the address below them, which is popped with them
+-- STM. .., a, n words -> ..: copies the n words on the stack to the address a below them, and pops all of them
 unfoldable pub store_words_row : ℕ → StackRow
 store_words_row n m sp np = do
   a ← pop m (sp + 2 * n)
   _ ← demand (words_lie_in_memory a.word n) InvalidMemory
   Ok (copied m sp a.word (2 * n), a.above)
 
--- MOV. .., to, from -> ..: b words from the upper address go to the lower one, all read before any is written; an
--- instruction names at most 32,767 words
+-- MOV. .., to, from -> ..: copies b words from address `from` to address `to`; all are read before any is written. An
+-- instruction has at most 32,767 words.
 unfoldable pub move_row : ℕ → StackRow
 move_row b m sp np = do
   from ← pop m sp

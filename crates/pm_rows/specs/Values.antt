@@ -1,4 +1,4 @@
--- The rows on bytes, sets, strings and fields, and the typed comparisons: each is a row of pm_values.
+-- The instruction rules on bytes, sets, strings and fields, and the typed comparisons. Each is a rule of pm_values.
 use Rattle.pm_words.specs.Stack.{StackRow}
 use Rattle.pm_families.specs.declared.families.Value.{Value}
 use Rattle.pm_families.specs.declared.families.Value.TheVariants as value

@@ -1,4 +1,4 @@
--- Results computed: what the definitions give for a few words, worked out by hand.
+-- Worked examples: the results of the definitions for a few words, worked out by hand.
 use Rattle.std.specs.Prelude.{◌≡◌, Ok, Err, true, false}
 use Rattle.pm_words.specs.declared.error.ExecError.TheVariants.{DivideByZero}
 use Rattle.pm_families.specs.declared.families.Unary.TheVariants.{Absolute, Negate, Square, Complement}
@@ -7,20 +7,20 @@ use Rattle.pm_families.specs.declared.families.Relation.TheVariants.{Less}
 use Rattle.pm_rows.specs.Integers.{binary, relation, unary}
 
 pub record WorkedResults : Type 0 where
-  -- sums and products wrap: 32,767 + 1 is the word 32,768
+  -- Sums and products wrap: 32,767 + 1 is the word 32,768.
   pub sum : binary Add 32767 1 ≡ Ok 32768
   pub difference : binary Subtract 0 1 ≡ Ok 65535
   pub product : binary Multiply 256 257 ≡ Ok 256
-  -- -7 by 2 is -3 and leaves -1; -32,768 by -1 wraps; nothing is divided by 0
+  -- The quotient of -7 and 2 is -3, and the remainder is -1. The quotient of -32,768 and -1 wraps. Division by 0 fails.
   pub quotient : binary Divide 65529 2 ≡ Ok 65533
   pub remainder : binary Modulo 65529 2 ≡ Ok 65535
   pub wrapped : binary Divide 32768 65535 ≡ Ok 32768
   pub by_zero : binary Divide 65529 0 ≡ Err DivideByZero
-  -- the absolute value and the negative of -32,768 are its own word
+  -- The absolute value and the negative of -32,768 are the same word, 32,768.
   pub absolute : unary Absolute 32768 ≡ 32768
   pub negative : unary Negate 32768 ≡ 32768
   pub square : unary Square 65535 ≡ 1
   pub complement : unary Complement 0 ≡ 65535
-  -- words compare as signed numbers
+  -- Words are compared as signed numbers.
   pub below : relation Less 65535 0 ≡ true
   pub not_below : relation Less 32767 32768 ≡ false

@@ -1,4 +1,4 @@
-//! The rows on words as integers.
+//! The instruction rules on words as integers.
 
 ghost use Rattle.std.specs.Prelude.{◌≡◌};
 ghost use Rattle.pm_words.specs.Top.{MovesTop};
@@ -9,7 +9,7 @@ ghost use Rattle.pm_rows.specs.Arithmetic.{unary_row};
 use pm_families::{Arithmetic, Binary, Relation, Unary};
 use pm_words::{ExecError, Memory, Top};
 
-// The word that an operation makes of one word.
+// The result of an operation on one word.
 #[inline(always)]
 fn word_of_one(operation: Unary, a: u16) -> u16
     ensures word { result ≡ unary operation a }
@@ -22,7 +22,7 @@ fn word_of_one(operation: Unary, a: u16) -> u16
     }
 }
 
-// The word that an operation makes of two words.
+// The result of an operation on two words, or `DivideByZero`.
 #[inline(always)]
 fn word_of_two(operation: Binary, a: u16, b: u16) -> Result<u16, ExecError>
     ensures word { result ≡ binary operation a b }
@@ -38,7 +38,7 @@ fn word_of_two(operation: Binary, a: u16, b: u16) -> Result<u16, ExecError>
     }
 }
 
-// DVI. The signed quotient, toward zero.
+// DVI. The signed quotient, rounded toward zero.
 fn quotient(a: u16, b: u16) -> Result<u16, ExecError>
     ensures word { result ≡ binary Binary.Divide a b }
 {
@@ -60,7 +60,7 @@ fn remainder(a: u16, b: u16) -> Result<u16, ExecError>
     Ok(remainder.cast_unsigned())
 }
 
-// Whether two signed words compare so.
+// Whether `a` and `b` satisfy the relation as signed numbers.
 #[inline(always)]
 fn holds(operation: Relation, a: u16, b: u16) -> bool
     ensures holds { result ≡ relation operation a b }
@@ -147,7 +147,16 @@ fn check(memory: &mut Memory, top: Top) -> Result<Top, ExecError>
     Ok(stack)
 }
 
-/// Does an operation on words as integers, and gives the new top. An error changes nothing.
+/// Executes an operation on words as integers. Returns the new top of the stack.
+///
+/// # Errors
+///
+/// An error leaves the memory unchanged. The checks are in this order:
+///
+/// - `InvalidMemory` if the stack has too few words.
+/// - `DivideByZero` if `DVI` or `MODI` divides by 0.
+/// - `InvalidIndex` if the value of `CHK` is outside its bounds.
+/// - `StackOverflow` if SP would be below NP.
 #[inline(always)]
 #[tactic(auto, unfolding(crate::specs::Arithmetic::arithmetic_row), using(pm_words::proofs::WatchLaws::stays))]
 pub fn perform(memory: &mut Memory, top: Top, operation: Arithmetic) -> Result<Top, ExecError>

@@ -10,7 +10,7 @@ use pm_families::{Condition, Jump};
 use pm_words::stack::load;
 use pm_words::{ExecError, Memory};
 
-/// The word of a signed byte: the offset that a jump of two bytes has.
+/// Returns the word of a signed byte. It is the offset of a jump of two bytes.
 #[inline(always)]
 pub fn signed(byte: u8) -> u16
     ensures word { result ≡ signed_byte byte }
@@ -19,7 +19,7 @@ pub fn signed(byte: u8) -> u16
     if word < 128 { word } else { word + 65280 }
 }
 
-// Where a jump leads: forward from the next instruction, or by an entry of the jump table.
+// The target of a jump: forward from the next instruction, or by an entry of the jump table.
 #[inline(always)]
 #[tactic(auto, unfolding(crate::specs::Jumps::target))]
 fn target(memory: &Memory, registers: ValidRegisters, offset: u16) -> Result<u16, ExecError>
@@ -35,7 +35,7 @@ fn target(memory: &Memory, registers: ValidRegisters, offset: u16) -> Result<u16
     entry_target(memory, registers.jtab.wrapping_add(offset))
 }
 
-// Where an entry of a jump table leads.
+// The target of the jump table entry at address `entry`.
 #[inline(always)]
 fn entry_target(memory: &Memory, entry: u16) -> Result<u16, ExecError>
     ensures target { result ≡ entry_target memory.now.words entry }
@@ -44,7 +44,7 @@ fn entry_target(memory: &Memory, entry: u16) -> Result<u16, ExecError>
     Ok(entry.wrapping_sub(distance))
 }
 
-// The registers after a jump, which may not be taken.
+// The registers after a jump that is taken or not.
 #[inline(always)]
 fn jump_if(
     taken: bool,
@@ -96,7 +96,7 @@ fn short(
     }
 }
 
-// The place of a word in the order of signed words.
+// The position of a word in the order of signed words.
 #[inline(always)]
 fn rank(word: u16) -> u16
     ensures rank { result ≡ rank word }
@@ -104,7 +104,7 @@ fn rank(word: u16) -> u16
     word.wrapping_add(32768)
 }
 
-// Where a case jump leads for a value.
+// The target of a case jump for `value`.
 #[inline(always)]
 fn case_target(
     memory: &Memory,
@@ -143,7 +143,13 @@ fn case(
     Ok(registers.with_top(top).with_ipc(ipc))
 }
 
-/// The registers after a jump; IPC is the next instruction before it. An error changes nothing.
+/// Returns the registers after a jump. IPC in `registers` is the address of the next instruction. Only SP and IPC
+/// change.
+///
+/// # Errors
+///
+/// `InvalidMemory` if the stack has too few words, or if a jump that is taken has an odd table offset or table entry
+/// address.
 #[inline(always)]
 #[tactic(auto, unfolding(crate::specs::Jumps::jump_row))]
 pub fn perform(

@@ -1,4 +1,4 @@
-//! Rows of the table that change the memory and the registers alone: arithmetic and comparisons of words, variables,
+//! Instruction rules that change only the memory and the registers: arithmetic and comparisons of words, variables,
 //! addresses, words and texts of the code, values, and jumps. Each family of operations is a module with one call,
 //! `perform`.
 #![tactic(auto)]

@@ -1,4 +1,4 @@
-//! The rows on what stands in the code.
+//! The instruction rules on constants in the code.
 
 ghost use Rattle.std.specs.Prelude.{◌≡◌, ◌+◌, ◌-◌, ◌*◌, ◌%◌, ◌≤◌, length, reverse};
 ghost use Rattle.pm_words.specs.Watch.{WatchStays};
@@ -10,7 +10,7 @@ use arrayvec::ArrayVec;
 use pm_families::Literal;
 use pm_words::{ExecError, Memory, Top};
 
-// The words from an even address on.
+// The `count` words from the even address `start` on.
 fn words_in(memory: &Memory, start: u32, count: u8) -> ArrayVec<u16, 255>
     requires even { start % 2 ≡ 0 }
     requires inside { start + 2 * count ≤ 65536 }
@@ -25,7 +25,7 @@ fn words_in(memory: &Memory, start: u32, count: u8) -> ArrayVec<u16, 255>
     words
 }
 
-// Writes words below an even SP, the first one highest.
+// Writes words below an even SP. The first word is at the highest address.
 #[tactic(auto, using(pm_words::proofs::WatchLaws::stays))]
 fn put_words(memory: &mut Memory, sp: u16, words: &[u16])
     requires even { sp % 2 ≡ 0 }
@@ -71,7 +71,12 @@ fn address(memory: &mut Memory, top: Top, address: u16) -> Result<Top, ExecError
     Ok(stack)
 }
 
-/// Pushes what stands in the code, and gives the new top. An error changes nothing.
+/// Pushes a constant of the code: the address of a text, or words. Returns the new top of the stack.
+///
+/// # Errors
+///
+/// An error leaves the memory unchanged. `StackOverflow` if SP would be below NP. For words it is `InvalidMemory`
+/// before that if the words are not in memory from an even address on, or if SP is odd.
 #[tactic(auto, unfolding(crate::specs::Literals::literal_row), using(pm_words::proofs::WatchLaws::stays))]
 pub fn perform(memory: &mut Memory, top: Top, operation: Literal) -> Result<Top, ExecError>
     ensures row { MovesTop result top memory.old memory.new

@@ -1,4 +1,4 @@
-//! The rows on addresses that are on the stack.
+//! The instruction rules on addresses on the stack.
 
 ghost use Rattle.std.specs.Prelude.{◌≡◌, ◌+◌, ◌*◌, ◌%◌};
 ghost use Rattle.pm_words.specs.Top.{MovesTop};
@@ -37,7 +37,7 @@ fn indirect(memory: &mut Memory, top: Top, by: u16) -> Result<Top, ExecError>
     Ok(stack)
 }
 
-// The address of item `i` of an array at `a`, whose items have `size` words.
+// The address of item `i` of an array at `a` whose items have `size` words.
 #[inline(always)]
 fn item_at(a: u16, size: u16, i: u16) -> u16
     ensures address { result ≡ (a + 2 * size * i) % 65536 }
@@ -134,8 +134,15 @@ fn move_words(memory: &mut Memory, top: Top, words: u16) -> Result<Top, ExecErro
     Ok(stack)
 }
 
-/// Does an operation on an address that is on the stack, and gives the new top. An error changes
-/// nothing.
+/// Executes an operation on an address on the stack. Returns the new top of the stack.
+///
+/// # Errors
+///
+/// An error leaves the memory unchanged. The checks are in this order:
+///
+/// - `InvalidMemory` if the stack has too few words.
+/// - `InvalidMemory` if an address is odd, words are outside memory, or `MOV` has more than 32,767 words.
+/// - `StackOverflow` if SP would be below NP.
 #[inline(always)]
 #[tactic(auto, unfolding(crate::specs::Pointers::pointer_row), using(pm_words::proofs::WatchLaws::stays))]
 pub fn perform(memory: &mut Memory, top: Top, operation: Pointer) -> Result<Top, ExecError>

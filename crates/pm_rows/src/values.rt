@@ -1,4 +1,4 @@
-//! The rows on bytes, sets, strings and fields, and the typed comparisons.
+//! The instruction rules on bytes, sets, strings and fields, and the typed comparisons.
 
 ghost use Rattle.std.specs.Prelude.{◌≡◌, IfOk};
 ghost use Rattle.pm_words.specs.Stack.{IsStack, Changes};
@@ -8,7 +8,7 @@ ghost use Rattle.pm_rows.specs.Values.{field_row, set_row, value_row};
 use pm_families::{Byte, Field, Set, Text, Value};
 use pm_words::{ExecError, Memory, Top};
 
-// SP and NP as numbers, as the functions of pm_values take them.
+// SP and NP are passed as numbers, as the functions of pm_values require.
 #[tactic(auto, unfolding(crate::specs::Values::set_row), using(pm_words::proofs::WatchLaws::stays))]
 fn set(memory: &mut Memory, sp: u16, np: u16, operation: Set) -> Result<u16, ExecError>
     ensures row { Changes result memory.old memory.new (set_row operation memory.old.words sp np) }
@@ -56,7 +56,11 @@ fn value(memory: &mut Memory, sp: u16, np: u16, operation: Value) -> Result<u16,
     }
 }
 
-/// Does an operation on values in memory, and gives the new top. An error changes nothing.
+/// Executes an operation on values in memory. Returns the new top of the stack.
+///
+/// # Errors
+///
+/// The error is that of the operation in pm_values. The memory is then unchanged.
 #[inline(always)]
 pub fn perform(memory: &mut Memory, top: Top, operation: Value) -> Result<Top, ExecError>
     ensures row { MovesTop result top memory.old memory.new

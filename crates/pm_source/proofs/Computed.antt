@@ -1,4 +1,4 @@
--- The lines and the faults are computed.
+-- The worked lines and faults, by computation.
 use Rattle.std.proofs.Common.{refl}
 use Rattle.pm_opcode.specs.Table.{form_of, groups, implied, mnemonic_of}
 use Rattle.pm_source.specs.Faults.{faults}

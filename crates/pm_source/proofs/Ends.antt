@@ -1,4 +1,4 @@
--- Where procedures end whose labels are found, and the segments of a text by their numbers.
+-- The ends of procedures after their labels are found, and the segments of a text by their numbers.
 use Rattle.std.proofs.Common.{◌≡◌, ◌<◌, ◌≤◌, ℕ, ◌+◌, Bool, true, false, List, [], ◌∷◌, ◌++◌, length}
 use Rattle.std.proofs.Common.{map, refl, sym, ap, subst, ◌∙◌, arith, append_assoc, Some, inl, inr}
 use Rattle.std.specs.Prelude.{zero, suc, nat_eq, ◌==◌, if◌then◌else◌}
@@ -27,18 +27,18 @@ pub end_of_items : (at : ℕ) (rows : List Row) → end_of at (items_of rows) �
 end_of_items at [] = refl
 end_of_items at (row ∷ rows) = end_append at (row_items row) (items_of rows) ∙ end_of_items (end_of at (row_items row)) rows
 
--- The code of a procedure ends where that of the text does.
+-- The code of a procedure has the same end after its labels are found.
 pub found_code_end : (at : ℕ) (p : Source) → end_of at (map (found_item (place_of at p.code)) (items_of p.code)) ≡ code_end at p.code
 found_code_end at p = found_end (place_of at p.code) at (items_of p.code) ∙ end_of_items at p.code
 
--- So the next procedure begins where the text says.
+-- The next procedure therefore begins at the offset that the text defines.
 pub found_behind : (at : ℕ) (p : Source) → jtab_of (found_procedure at p) + 2 ≡ source_end at p
 found_behind at p =
     let entries : length (map (λ e. found_label (place_of at p.code) e.1) p.entries) ≡ length p.entries =
     map_length (λ e. found_label (place_of at p.code) e.1) p.entries in
     omega (arith, found_code_end at p, entries)
 
--- What all segments are, those are that are taken by their numbers.
+-- A property of all segments is one of the segments with a given number.
 all_with : (P : SourceSegment → Type 0) (n : ℕ) (ss : List SourceSegment) → AllByRecursion P ss → AllByRecursion P (option_to_list (segment_with n ss))
 all_with P n [] h = tt
 all_with P n (s ∷ ss) h = by (s.number == n) (all_with P n ss h.1)
@@ -55,7 +55,7 @@ all_from P n (suc count) ss h =
 pub all_ascending : (P : SourceSegment → Type 0) (ss : List SourceSegment) → AllByRecursion P ss → AllByRecursion P (ascending ss)
 all_ascending P ss h = all_from P 0 16 ss h
 
--- The other way round: each segment of a number below 16 is taken.
+-- The converse: each segment with a number below 16 is taken.
 pub all_split : {A : Type 0} (P : A → Type 0) (xs ys : List A) → AllByRecursion P (xs ++ ys) → AllByRecursion P xs × AllByRecursion P ys
 all_split P [] ys h = (tt, h)
 all_split P (x ∷ xs) ys h = let more = all_split P xs ys h.1 in ((h.0, more.0), more.1)
@@ -74,7 +74,7 @@ taken P n (suc count) ss m s h low high e =
           first.0)
     ]
 
--- the first segment of a number, those before it having others
+-- The first segment with a number, if those before it have other numbers.
 first_with : (done : List SourceSegment) (s : SourceSegment) (rest : List SourceSegment) → list_any (λ n. nat_eq n s.number) (map (λ t. t.number) done) ≡ false
     → segment_with s.number (done ++ s ∷ rest) ≡ Some s
 first_with [] s rest h = let same : nat_eq s.number s.number ≡ true = eq-eqb _ _ refl in rw same refl

@@ -1,4 +1,4 @@
--- What the operands of an instruction say in range is an item in its ranges.
+-- An instruction whose operands are in range is an item in its ranges.
 use Rattle.std.proofs.Common.{◌≡◌, ◌<◌, ◌≤◌, ℕ, ◌+◌, ◌-◌, Bool, true, false, List, [], ◌∷◌, refl, sym, ap, subst, arith, Option, Some, None, inl, inr}
 use Rattle.std.specs.Prelude.{zero, suc, nat_eq, nat_lt, nat_le, ◌&&◌, if◌then◌else◌}
 use Rattle.std.proofs.lemmas.Bool.{lt-ltb, leb-true, eqb-true, cases_lt}
@@ -16,11 +16,11 @@ use Rattle.pm_source.specs.Line.{short_instruction, bare_instruction, one_number
 use Rattle.pm_source.proofs.Numerals.{bound, both, pair_is, some_is, stored_small}
 use Rattle.pm_source.proofs.Goods.{IsGood, IsNumber, well, is_right, byte_ranged, number_ranged}
 
--- an opcode without operands
+-- An opcode without operands.
 pub bare_good : (op : ℕ) → op < 256 → form_of op ≡ forms.Plain → IsGood (plain (bare op))
 bare_good op o f = well forms.Plain (bare op) [] o f refl refl (omega arith) refl (refl, refl) refl tt
 
--- The opcodes whose number stands in them.
+-- The opcodes that contain their number.
 is_plain_form : Form → Bool
 is_plain_form forms.Plain = true
 is_plain_form _ = false
@@ -71,7 +71,7 @@ last_run : all_plain 248 8 ≡ true
 unfolding form_of groups is_plain_form
 last_run = refl
 
--- a number in the range of its opcodes
+-- A number in the range of its opcodes.
 record Runs (op least greatest : ℕ) : Type 0 where
   plain : (n : ℕ) → least ≤ n → n ≤ greatest → form_of (op + (n - least)) ≡ forms.Plain
   below : (n : ℕ) → least ≤ n → n ≤ greatest → op + (n - least) < 256
@@ -126,7 +126,7 @@ plain_good op texts x o f e = by (short_range op) texts refl e
     by None [] s e = let p = pair_is (plain (bare op)) x true true e in subst IsGood p.0 (bare_good op o f)
     by None (text ∷ texts) s e = absurd (cc)
 
--- one number, as it is stored
+-- One number, in its stored form.
 abbrev stored_at : ℕ → ℕ × Bool → Operand (Item Name)
 stored_at op a = Some (plain (record (bare op) { a = a.0 }), a.1)
 

@@ -1,4 +1,4 @@
--- Lines without faults say fit statements, and the other way round.
+-- Lines without faults state statements that fit, and the converse.
 use Rattle.std.proofs.Common.{◌≡◌, ℕ, ◌+◌, Bool, true, false, not, List, [], ◌∷◌, ◌++◌, refl, sym, ap, ◌∙◌}
 use Rattle.std.specs.Prelude.{◌&&◌, ◌||◌}
 use Rattle.std.specs.List.{list_any}
@@ -39,7 +39,7 @@ end_came (Says s flaw ∷ lines) (t ∷ said) h e =
     let rest = h.1 in
     ap (λ x. is_end x || list_any is_end said) (sym rest.0) ∙ or_more (is_end s) (list_any ends lines) (list_any is_end said) e (end_came lines said rest.1)
 
--- the tests of a line with a statement
+-- The tests of a line with a statement.
 abbrev misplaced : Reading → Statement → List Line → Bool
 misplaced r s rest = not (is_in_place r s) || (is_begin s && not (list_any ends rest))
 
@@ -109,7 +109,7 @@ clean n r (Says s flaw ∷ lines) (t ∷ said) h f e =
     }) in
     shown s flaw rest.0 h.0
 
--- What lines without faults say.
+-- The statements of lines without faults.
 pub record SaysFit (r : Reading) (lines : List Line) : Type 0 where
   pub said : List Statement
   pub are_said : AreSaid lines said

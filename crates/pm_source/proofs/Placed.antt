@@ -1,4 +1,5 @@
--- A procedure whose labels are found is one of a program: its labels stand at boundaries of its items, and its items are items.
+-- A procedure whose labels are found is one of a program: its labels are at boundaries of its items, and its items are
+-- valid.
 use Rattle.std.proofs.Common.{◌≡◌, ◌<◌, ◌≤◌, ℕ, ◌+◌, ◌%◌, Bool, true, false, List, [], ◌∷◌, ◌++◌, map, refl, sym, ap, subst, ◌∙◌, arith, Some}
 use Rattle.std.specs.Prelude.{max, ◌||◌, ◌==◌, if◌then◌else◌}
 use Rattle.std.specs.List.{AllByRecursion, AllZip}
@@ -37,7 +38,7 @@ later_among places at (x ∷ xs) ys place h =
     subst (λ k. IsIn (boundaries (at + k) rest) place) (sym (found_size places at x)) more in
     or_right (at == place) (is_among (boundaries (at + size at (found_item places x)) rest) place) there
 
--- a label stands at a boundary
+-- A label is at a boundary.
 place_among : (places : Places) (at : ℕ) (rows : List Row) (name : Name) (place : ℕ) → place_of at rows name ≡ Some place
     → IsIn (boundaries at (map (found_item places) (items_of rows))) place
 place_among places at [] name place e = absurd (cc)
@@ -64,7 +65,7 @@ end_after : (at : ℕ) (items : List (Item ℕ)) → at ≤ end_of at items
 end_after at [] = omega arith
 end_after at (item ∷ items) = omega (arith, end_after (at + size at item) items)
 
--- a boundary is no later than the end
+-- A boundary is at most the end.
 among_end : (at : ℕ) (items : List (Item ℕ)) (place : ℕ) → IsIn (boundaries at items) place → place ≤ end_of at items
 among_end at [] place h = by (at == place) refl h
   where
@@ -78,7 +79,7 @@ among_end at (item ∷ items) place h = by (at == place) refl h (λ f. among_end
     by true f h more = omega (arith, eqb-true at place f, end_after (at + size at item) items)
     by false f h more = more h
 
--- What each place of a label is, the places are that are found.
+-- A property of each label's offset is one of each offset that is found.
 abbrev EachPlace : Places → (ℕ → Type 0) → Type 0
 EachPlace places P = (name : Name) (place : ℕ) → places name ≡ Some place → P place
 

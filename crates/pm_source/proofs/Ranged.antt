@@ -1,4 +1,4 @@
--- What a line says without a flaw is in its ranges.
+-- The statement of a line without a flaw is in its ranges.
 use Rattle.std.proofs.Common.{◌≡◌, ◌<◌, ◌≤◌, ℕ, ◌+◌, ◌%◌, Bool, true, false, List, [], ◌∷◌, refl, sym, ap, subst, ◌∙◌, arith, Option, Some, None}
 use Rattle.std.specs.Prelude.{zero, suc, map, ◌&&◌, if◌then◌else◌}
 use Rattle.std.proofs.lemmas.Bool.{eqb-true}
@@ -38,7 +38,7 @@ IsRanged (Begin number level parameters locals) = (number < 256) × (level < 256
 IsRanged (Code (Items line label items)) = AllByRecursion IsGood items
 IsRanged _ = Unit {0}
 
--- A keyword whose opcode is one.
+-- A keyword whose opcode is valid.
 abbrev IsKnown : Keyword → Type 0
 IsKnown (Mnemonic op) = op < 256
 IsKnown _ = Unit {0}
@@ -275,6 +275,6 @@ lines_ranged line [] said h = subst (AllByRecursion IsRanged) (sym h) tt
 lines_ranged line (text ∷ texts) said h =
     line_said line text (line_of line text) (lines_from (line + 1) texts) said refl h (λ more k. lines_ranged (line + 1) texts more k)
 
--- Statements that lines say are in their ranges.
+-- The statements that the lines of a text state are in their ranges.
 pub said_ranges : (text : List ℕ) (said : List Statement) → AreSaid (lines_of text) said → AllByRecursion IsRanged said
 said_ranges text said h = lines_ranged 1 (lines text) said h

@@ -1,4 +1,4 @@
--- What is read without a fault is a sound program, and its statements are those that were read.
+-- Statements that are read without a fault are a sound program, and they are the statements of this program.
 use Rattle.std.proofs.Common.{◌≡◌, ◌<◌, ◌≤◌, ℕ, ◌+◌, ◌%◌, Bool, true, false, eqb, not, List, [], ◌∷◌, ◌++◌, length}
 use Rattle.std.proofs.Common.{map, refl, sym, ap, subst, ◌∙◌, arith, append_assoc, Option, Some, None}
 use Rattle.std.specs.Prelude.{◌&&◌, ◌||◌, ◌==◌, nat_eq, nat_lt}
@@ -15,7 +15,7 @@ use Rattle.pm_source.proofs.Fit.{IsFit, AreFit, after_all, taken_in, IsSound}
 use Rattle.pm_source.proofs.Ranged.{IsRanged}
 use Rattle.pm_source.proofs.Complete.{append_nil, statements_append, labels_append, map_append, exits_append, any_number, has_exit_is, has_label_is}
 
--- one more that is none of those before it
+-- Distinct elements followed by one that differs from all of them are distinct.
 distinct_push : {K : Type 0} (eq : K → K → Bool) (xs : List K) (y : K) → IsDistinct eq xs → list_any (λ x. eq x y) xs ≡ false → IsDistinct eq (xs ++ y ∷ [])
 unfolding IsDistinct
 distinct_push eq [] y d h = (tt, tt)
@@ -29,7 +29,7 @@ distinct_push eq (x ∷ xs) y d h = let parts = split (eq x y) (list_any (λ z. 
     split true b e = absurd (cc)
     split false b e = (refl, e)
 
--- What a step must give.
+-- The properties that a step must have.
 record Steps (r : Reading) (s : Statement) : Type 0 where
   sound : IsSound (after r s)
   more : taken_in (after r s) ≡ taken_in r ++ s ∷ []
@@ -41,7 +41,7 @@ pub all_append : {A : Type 0} (P : A → Type 0) (xs ys : List A) → AllByRecur
 all_append P [] ys h k = k
 all_append P (x ∷ xs) ys h k = (h.0, all_append P xs ys h.1 k)
 
--- a test behind one that holds
+-- The second test of two is false if the first is true and their conjunction is false.
 behind : (a b : Bool) → a ≡ true → (a && b) ≡ false → b ≡ false
 behind true b e f = f
 behind false b e f = absurd (cc)
@@ -219,7 +219,7 @@ step segments (Some p) (Code row) i h f = code_step segments p row h f
 step segments (Some p) (Entry line name) i h f = entry_step segments p line name h
 step segments (Some p) End i h f = end_step segments p h f
 
--- What a reading of statements without faults gives.
+-- The result of reading statements without faults.
 pub record Reads (r : Reading) (said : List Statement) : Type 0 where
   pub sound : IsSound (after_all r said)
   pub more : taken_in (after_all r said) ≡ taken_in r ++ said

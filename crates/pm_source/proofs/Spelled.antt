@@ -1,4 +1,4 @@
--- A text has no faults exactly where it spells a program.
+-- A text has no faults if and only if it defines a program.
 use Rattle.std.proofs.Common.{◌≡◌, ◌<◌, ℕ, ◌+◌, List, [], ◌∷◌, ◌++◌, map, refl, sym, ap, subst, ◌∙◌}
 use Rattle.std.specs.Prelude.{if◌then◌else◌}
 use Rattle.std.specs.List.{AllByRecursion, AllZip}
@@ -15,7 +15,7 @@ use Rattle.pm_source.proofs.Exactly.{faultless_is_said, said_is_faultless}
 use Rattle.pm_source.proofs.Ends.{found_behind, all_ascending, ascending_all, all_split}
 use Rattle.pm_source.proofs.Ranged.{IsRanged, said_ranges}
 
--- procedures without faults of labels, from an offset on
+-- Procedures without label faults, from an offset on.
 pub record MeanFrom (at : ℕ) (ps : List Source) : Type 0 where
   pub mean : AllZip MeansProcedure ps (found_procedures at ps)
   pub follow : FollowFrom at (found_procedures at ps)
@@ -32,7 +32,7 @@ procedures_found at (p ∷ ps) h =
           (refl, subst (λ k. FollowFrom k (found_procedures next ps)) (sym (found_behind at p)) more.follow);
     }
 
--- a segment whose labels have no fault
+-- A segment without label faults.
 abbrev pub IsClean : SourceSegment → Type 0
 IsClean s = label_faults_from 0 s.procedures ≡ []
 
@@ -68,7 +68,7 @@ faultless_is_spelled text h =
       meant = segments_found (ascending (source_of text)) (all_ascending IsClean (source_of text) (are_clean (source_of text) parts.1));
     }
 
--- The other way round.
+-- The converse.
 record ComeFrom (at : ℕ) (ps : List Source) (qs : List Procedure) : Type 0 where
   faults : label_faults_from at ps ≡ []
   same : found_procedures at ps ≡ qs

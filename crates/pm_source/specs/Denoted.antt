@@ -6,14 +6,14 @@ use Rattle.pm_code.specs.Program.{segment_numbered, Segment, FitSlots, IsProgram
 use Rattle.pm_code.specs.Image.{Listed, bytes_of_segment, listed_segment, listing}
 use Rattle.pm_source.specs.Words.{Cut, cut}
 
--- What a line of a listing denotes: a segment, a procedure, an offset in the segment, and the bytes that stand there.
+-- One line of a listing: a segment, a procedure, an offset in the segment, and the bytes at this offset.
 pub record Denoted : Type 0 where
   pub segment : ℕ
   pub procedure : ℕ
   pub at : ℕ
   pub bytes : List ℕ
 
--- bytes, each behind a space and in two hexadecimal digits, up to a second space
+-- The bytes of a line up to a second space. Each byte is a space and two hexadecimal digits.
 abbrev pub pairs_value : List ℕ → List ℕ
 pairs_value [] = []
 pairs_value (space ∷ []) = []
@@ -21,7 +21,7 @@ pairs_value (space ∷ high ∷ []) = []
 pairs_value (space ∷ high ∷ low ∷ rest) =
     if high == 32 then [] else digits_value 16 (high ∷ low ∷ []) ∷ pairs_value rest
 
--- the value of a line whose first three words are cut off
+-- The value of a line, by its first three words.
 abbrev pub line_by_words : Cut → Cut → Cut → Denoted
 line_by_words segment procedure at = record {
   segment = digits_value 10 segment.word;
@@ -30,34 +30,34 @@ line_by_words segment procedure at = record {
   bytes = pairs_value at.rest;
 }
 
--- A line by its characters: three decimal numbers, and the bytes. What stands behind them is not read.
+-- The value of a line, by its characters: three decimal numbers, and the bytes. Characters after the bytes are ignored.
 abbrev pub line_value : List ℕ → Denoted
 line_value cs = line_by_words (cut cs) (cut (cut cs).rest) (cut (cut (cut cs).rest).rest)
 
--- What the characters of a listing denote, line by line.
+-- The lines of a listing, by its characters.
 unfoldable pub denoted : List ℕ → List Denoted
 denoted shown = map line_value (lines shown)
 
--- the lines of a segment
+-- The lines of segment `n`.
 abbrev pub of_segment : ℕ → List Denoted → List Denoted
 of_segment n [] = []
 of_segment n (d ∷ ds) = if d.segment == n then d ∷ of_segment n ds else of_segment n ds
 
--- the bytes of lines, joined
+-- The bytes of the lines, joined.
 abbrev pub bytes_of_lines : List Denoted → List ℕ
 bytes_of_lines [] = []
 bytes_of_lines (d ∷ ds) = d.bytes ++ bytes_of_lines ds
 
--- The bytes that a listing denotes for a segment: those of its lines, joined.
+-- The bytes that a listing denotes for segment `n`: the bytes of its lines, joined.
 abbrev pub denoted_bytes : ℕ → List ℕ → List ℕ
 denoted_bytes n shown = bytes_of_lines (of_segment n (denoted shown))
 
--- Each line names the offset at which its bytes stand, where the first ones stand at this one.
+-- Each line has the offset of its bytes, if the first bytes are at `at`.
 abbrev pub ArePlacedFrom : ℕ → List Denoted → Type 0
 ArePlacedFrom at [] = Unit {0}
 ArePlacedFrom at (d ∷ ds) = (d.at ≡ at) × ArePlacedFrom (at + length d.bytes) ds
 
--- what a line of a segment says
+-- The denoted line of a listed line of a segment.
 abbrev pub denoted_line : ℕ → Listed → Denoted
 denoted_line number l = record { segment = number; procedure = l.procedure; at = l.at; bytes = l.bytes }
 
@@ -65,12 +65,12 @@ abbrev pub denoted_program : List Segment → List Denoted
 denoted_program [] = []
 denoted_program (s ∷ ss) = map (denoted_line s.number) (listed_segment s) ++ denoted_program ss
 
--- The characters of a program's listing denote its lines: of each its segment, procedure, offset and bytes.
+-- The characters of a program's listing denote the lines of the program: their segments, procedures, offsets and bytes.
 abbrev pub ListingIsRead : Type 0
 ListingIsRead = (ss : List Segment) → IsProgram ss → FitSlots ss → denoted (listing ss) ≡ denoted_program ss
 
--- The bytes that a program's listing denotes for a segment are the segment, none where it has no such segment; and each
--- of its lines names the offset at which its bytes stand in the segment.
+-- The bytes that a program's listing denotes for segment `n` are the bytes of that segment, or none if the program has
+-- no such segment. Each line has the offset of its bytes in the segment.
 abbrev pub ListingDenotesSegments : Type 0
 ListingDenotesSegments = (ss : List Segment) (n : ℕ) → IsProgram ss → FitSlots ss
     → (denoted_bytes n (listing ss) ≡ bytes_of_segment (segment_numbered n ss))

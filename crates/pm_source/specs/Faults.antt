@@ -1,4 +1,4 @@
--- What is wrong in a text, in the order of its lines; and what its lines say.
+-- The faults of a text in the order of its lines, and the statements of the lines.
 use Rattle.std.specs.Prelude.{ℕ, ◌+◌, ◌*◌, ◌%◌, Bool, true, false, not, List, [], ◌∷◌, ◌++◌, length, nat_lt}
 use Rattle.std.specs.Prelude.{◌==◌, ◌||◌, ◌&&◌, if◌then◌else◌, Option, Some, None, is_none, is_some}
 use Rattle.std.specs.List.{list_any}
@@ -18,7 +18,8 @@ use Rattle.pm_source.specs.Line.{Flaw, Line, line_of}
 use Rattle.pm_source.specs.Line.Flaw.{OutOfRange, UnknownType}
 use Rattle.pm_source.specs.Line.Line.{Blank, Wrong, Strange, Says}
 
--- What the lines so far have said: the segments with their ended procedures, and the procedure that has not ended.
+-- The result of the lines read so far: the segments with their complete procedures, and the procedure that has not
+-- ended.
 pub record Reading : Type 0 where
   pub segments : List SourceSegment
   pub current : Option Source
@@ -26,13 +27,13 @@ pub record Reading : Type 0 where
 abbrev pub start : Reading
 start = record { segments = []; current = None }
 
--- the segments with one procedure more in the last
+-- The segments with the procedure `p` appended to the last one.
 abbrev pub with_procedure : Source → List SourceSegment → List SourceSegment
 with_procedure p [] = []
 with_procedure p (s ∷ []) = record s { procedures = s.procedures ++ p ∷ [] } ∷ []
 with_procedure p (s ∷ t ∷ ss) = s ∷ with_procedure p (t ∷ ss)
 
--- how many procedures the last segment has
+-- The number of procedures in the last segment.
 abbrev pub procedure_count : List SourceSegment → ℕ
 procedure_count [] = 0
 procedure_count (s ∷ []) = length s.procedures
@@ -59,7 +60,7 @@ abbrev pub new_procedure : ℕ → ℕ → ℕ → Source
 new_procedure level parameters locals =
     record { level = level; parameters = parameters; locals = locals; code = []; entries = [] }
 
--- what has been said after one statement more
+-- The reading after one more statement.
 abbrev pub after : Reading → Statement → Reading
 after r (Segment number name) = record r { segments = r.segments ++ new_segment number name ∷ [] }
 after r (Begin number level parameters locals) = record r { current = Some (new_procedure level parameters locals) }
@@ -71,8 +72,12 @@ abbrev pub if_open : (Source → Bool) → Option Source → Bool
 if_open f None = false
 if_open f (Some p) = f p
 
--- Whether a statement may stand there: a segment outside a procedure, a procedure in a segment and outside another,
--- code in a procedure without an entry so far, an entry in a procedure, and the end of a procedure after its exit code.
+-- Whether a statement is allowed at this position:
+-- - a segment outside a procedure;
+-- - a procedure in a segment and outside another procedure;
+-- - code in a procedure that has no entries yet;
+-- - an entry in a procedure;
+-- - the end of a procedure after its exit code.
 abbrev pub is_in_place : Reading → Statement → Bool
 is_in_place r (Segment number name) = is_none r.current
 is_in_place r (Begin number level parameters locals) = is_none r.current && not (is_empty r.segments)
@@ -80,19 +85,20 @@ is_in_place r (Code row) = if_open (λ p. is_empty p.entries) r.current
 is_in_place r (Entry line name) = is_some r.current
 is_in_place r End = if_open has_exit r.current
 
--- A slot, a label of the procedure or the exit code again. Every number out of its range is 16, which is no slot's.
+-- Whether a statement defines a slot, a label of the procedure or the exit code again. A slot number outside its range
+-- is 16, which is no slot.
 abbrev pub is_again : Reading → Statement → Bool
 is_again r (Segment number name) = nat_lt number 16 && list_any (λ s. s.number == number) r.segments
 is_again r (Code (Items line (Some label) items)) = if_open (has_label_in label) r.current
 is_again r (Code Exit) = if_open has_exit r.current
 is_again r _ = false
 
--- an odd length, or entries other than the jumps take
+-- Whether a procedure has an odd length, or another number of entries than its jumps use.
 abbrev pub is_uneven : Source → Bool
 is_uneven p = not (code_end 0 p.code % 2 == 0) || not (length p.entries == entries_used p.code)
 
--- A procedure's number that is not the next one, outside a procedure; or at its end an odd length or a wrong count of
--- entries.
+-- Whether a statement has a wrong count. The number of a procedure that begins outside a procedure is not the next one.
+-- Or a procedure ends with an odd length or with a wrong number of entries.
 abbrev pub is_miscounted : Reading → Statement → Bool
 is_miscounted r (Begin number level parameters locals) =
     is_none r.current && not (number == procedure_count r.segments + 1)
@@ -103,7 +109,7 @@ abbrev pub is_end : Statement → Bool
 is_end End = true
 is_end _ = false
 
--- Whether a line ends a procedure, whatever else is wrong in it.
+-- Whether a line ends a procedure, even if the line has other faults.
 abbrev pub ends : Line → Bool
 ends (Wrong end) = end
 ends (Says said flaw) = is_end said
@@ -124,9 +130,11 @@ abbrev pub is_out_of_range : Flaw → Bool
 is_out_of_range OutOfRange = true
 is_out_of_range _ = false
 
--- What is wrong in a line, given what the lines before it said and the lines after it: it is ill-formed or out of
--- place, or begins a procedure that no later line ends; its mnemonic, directive or type word is unknown; it says a
--- slot, a label or the exit code again; a number is wrong.
+-- The faults of line `n`, with the reading `r` before it and the lines `rest` after it, in this order:
+-- - `Syntax`: it is ill-formed or not allowed at this position, or it begins a procedure that no later line ends;
+-- - `Unknown`: its mnemonic, directive or type keyword is unknown;
+-- - `Twice`: it defines a slot, a label or the exit code again;
+-- - `Range`: a number or a count is wrong.
 abbrev pub line_faults : ℕ → Reading → Line → List Line → List AsmFault
 line_faults n r Blank rest = []
 line_faults n r (Wrong end) rest = Syntax n ∷ []
@@ -137,7 +145,7 @@ line_faults n r (Says said flaw) rest =
     ++ (only_if (is_again r said) (Twice n)
     ++ only_if (is_out_of_range flaw || is_miscounted r said) (Range n)))
 
--- a line that has a fault and ends a procedure ends it all the same
+-- A line that ends a procedure ends it even if the line has a fault.
 abbrev pub after_ending : Bool → Reading → Reading
 after_ending true r = closed r.segments r.current
 after_ending false r = r
@@ -147,7 +155,7 @@ after_line r (Says said flaw) = if is_in_place r said then after r said else aft
 after_line r (Wrong end) = after_ending end r
 after_line r _ = r
 
--- The faults of lines that are numbered from n.
+-- The faults of the lines, numbered from `n` on.
 abbrev pub faults_from : ℕ → Reading → List Line → List AsmFault
 faults_from n r [] = []
 faults_from n r (line ∷ rest) = line_faults n r line rest ++ faults_from (n + 1) (after_line r line) rest
@@ -160,19 +168,19 @@ abbrev pub lines_from : ℕ → List (List ℕ) → List Line
 lines_from n [] = []
 lines_from n (text ∷ texts) = line_of n text ∷ lines_from (n + 1) texts
 
--- the lines of a text, numbered from 1
+-- The lines of a text, numbered from 1.
 abbrev pub lines_of : List ℕ → List Line
 lines_of text = lines_from 1 (lines text)
 
--- what the whole text says
+-- The segments of the whole text.
 abbrev pub source_of : List ℕ → List SourceSegment
 source_of text = (after_lines start (lines_of text)).segments
 
--- Labels as places. The code of a procedure looks up its labels by places.
+-- The offset of each label that a procedure defines.
 abbrev pub Places : Type 0
 Places = Name → Option ℕ
 
--- Where a label stands in code that begins at an offset.
+-- The offset of the label `name` in code that begins at offset `at`.
 abbrev pub place_of : ℕ → List Row → Places
 place_of at [] name = None
 place_of at (row ∷ rows) name = if has_label name row then Some at else place_of (end_of at (row_items row)) rows name
@@ -192,7 +200,8 @@ abbrev pub is_far : Places → ℕ → Target Name → Bool
 is_far places next (To name) = is_far_place next (places name)
 is_far places next (Through k) = false
 
--- An unknown label, or a short jump that leads backward or past 127 bytes.
+-- The faults of the labels of an item: an unknown label, or a short jump that leads backward or more than 127 bytes
+-- forward.
 abbrev pub item_faults : Places → ℕ → ℕ → Item Name → List AsmFault
 item_faults places line at (Jump op target) =
     only_if (is_unknown_target places target) (NoLabel line) ++ only_if (is_far places (at + 2) target) (Far line)
@@ -217,11 +226,11 @@ entries_faults places [] = []
 entries_faults places (entry ∷ entries) =
     only_if (is_unknown_label places entry.1) (NoLabel entry.0) ++ entries_faults places entries
 
--- The faults of a procedure's labels, its code beginning at an offset.
+-- The faults of the labels of a procedure whose code begins at offset `at`.
 abbrev pub label_faults : ℕ → Source → List AsmFault
 label_faults at p = code_faults (place_of at p.code) at p.code ++ entries_faults (place_of at p.code) p.entries
 
--- where a procedure ends: behind its code, its entries and ten bytes
+-- The end of a procedure that begins at offset `at`: it follows its code, its entries and ten bytes.
 abbrev pub source_end : ℕ → Source → ℕ
 source_end at p = code_end at p.code + 2 * length p.entries + 10
 
@@ -236,6 +245,6 @@ all_label_faults (s ∷ ss) = label_faults_from 0 s.procedures ++ all_label_faul
 abbrev pub faults_of_lines : List ℕ → List AsmFault
 faults_of_lines text = faults_from 1 start (lines_of text)
 
--- The faults of a text: those of its lines, or else those of its labels.
+-- The faults of a text. If its lines have faults, they are these; otherwise they are those of its labels.
 unfoldable pub faults : List ℕ → List AsmFault
 faults text = if is_empty (faults_of_lines text) then all_label_faults (source_of text) else faults_of_lines text

@@ -1,4 +1,4 @@
--- Programs with their labels, as a text writes them, and the statements that their lines say.
+-- Programs with their labels as a text contains them, and the statements of the lines.
 use Rattle.std.specs.Prelude.{◌≡◌, ℕ, ◌+◌, ◌%◌, Bool, true, false, List, [], ◌∷◌}
 use Rattle.std.specs.Prelude.{◌++◌, length, map, if◌then◌else◌, Option, Some, nat_eq}
 use Rattle.std.specs.List.{AllByRecursion, list_any, IsDistinct}
@@ -10,19 +10,19 @@ use Rattle.pm_code.specs.Program.{end_of, entries_needed}
 abbrev pub Name : Type 0
 Name = List ℕ
 
--- A line of a procedure's code: its number, a label, items, or both; or the place of the exit code.
+-- A line of a procedure's code: its number and a label, items or both; or the position of the exit code.
 pub data Row : Type 0 where
   Items : ℕ → Option Name → List (Item Name) → Row
   Exit : Row
 
--- What a line of a text can say.
+-- The statements of a line.
 pub data Statement : Type 0 where
-  -- a segment's number and name
+  -- The number and the name of a segment.
   Segment : ℕ → Name → Statement
-  -- a procedure's number, level, and sizes of parameters and locals
+  -- The number, the level and the sizes of parameters and locals of a procedure.
   Begin : ℕ → ℕ → ℕ → ℕ → Statement
   Code : Row → Statement
-  -- a jump entry: the line's number and the label
+  -- A jump entry: the number of the line, and the label.
   Entry : ℕ → Name → Statement
   End : Statement
 
@@ -57,7 +57,7 @@ abbrev pub statements : List SourceSegment → List Statement
 statements [] = []
 statements (s ∷ ss) = segment_statements s ++ statements ss
 
--- the labels of code
+-- The labels of code.
 abbrev pub labels_of : List Row → List Name
 labels_of [] = []
 labels_of (Items line label items ∷ rows) = option_to_list label ++ labels_of rows
@@ -75,29 +75,29 @@ abbrev pub is_exit : Row → Bool
 is_exit (Items line label items) = false
 is_exit Exit = true
 
--- how often the exit code stands in code
+-- The number of times that code contains the exit code.
 abbrev pub exits_of : List Row → ℕ
 exits_of [] = 0
 exits_of (row ∷ rows) = if is_exit row then 1 + exits_of rows else exits_of rows
 
--- where code ends that begins at an offset
+-- The end of code that begins at offset `at`.
 abbrev pub code_end : ℕ → List Row → ℕ
 code_end at [] = at
 code_end at (row ∷ rows) = code_end (end_of at (row_items row)) rows
 
--- how many entries the jumps of code take
+-- The number of entries that the jumps of code use.
 abbrev pub entries_used : List Row → ℕ
 entries_used rows = entries_needed (items_of rows)
 
--- What a procedure must be before its labels are looked up: each label once, the exit code once, an even length, and
--- the entries that its jumps take.
+-- A procedure is sound before its labels are looked up: each label is defined once, the exit code is there once, the
+-- length is even, and the number of entries is that which the jumps use.
 pub record IsSource (p : Source) : Type 0 where
   pub labels : IsDistinct bytes_eq (labels_of p.code)
   pub exit : exits_of p.code ≡ 1
   pub even : code_end 0 p.code % 2 ≡ 0
   pub used : length p.entries ≡ entries_used p.code
 
--- The segments' numbers differ.
+-- The segments have different numbers, and their procedures are sound.
 abbrev pub AreSources : List SourceSegment → Type 0
 AreSources ss =
     IsDistinct nat_eq (map (λ s. s.number) ss) × AllByRecursion (λ s. AllByRecursion IsSource s.procedures) ss

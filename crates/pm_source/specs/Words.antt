@@ -1,4 +1,4 @@
--- Words, names and numbers of a text.
+-- Words, names and numbers of a source text.
 use Rattle.std.specs.Prelude.{ℕ, ◌-◌, ◌%◌, Bool, true, false, not, List, [], ◌∷◌, length, reverse}
 use Rattle.std.specs.Prelude.{nat_lt, nat_le, min, ◌==◌, ◌||◌, ◌&&◌, if◌then◌else◌, Option, Some, None}
 use Rattle.std.specs.List.{list_all, onto_first}
@@ -6,7 +6,7 @@ use Rattle.std.specs.Char.{is_ascii_digit, is_ascii_hexdigit, is_ascii_alphabeti
 use Rattle.std.specs.Str.Parse.{digits_value}
 use Rattle.pm_source.specs.declared.number.Numeral.{Numeral}
 
--- spaces and tabs
+-- A space or a tab.
 abbrev pub is_blank : ℕ → Bool
 is_blank c = (c == 32) || (c == 9)
 
@@ -14,16 +14,16 @@ abbrev pub is_empty : {A : Type 0} → List A → Bool
 is_empty [] = true
 is_empty (x ∷ xs) = false
 
--- without the blanks in front
+-- The characters without leading spaces and tabs.
 abbrev pub unindented : List ℕ → List ℕ
 unindented [] = []
 unindented (c ∷ cs) = if is_blank c then unindented cs else c ∷ cs
 
--- without the blanks at both ends
+-- The characters without leading and trailing spaces and tabs.
 abbrev pub trimmed : List ℕ → List ℕ
 trimmed cs = reverse (unindented (reverse (unindented cs)))
 
--- A word and what stands behind it.
+-- A word and the characters after it.
 pub record Cut : Type 0 where
   pub word : List ℕ
   pub rest : List ℕ
@@ -31,21 +31,21 @@ pub record Cut : Type 0 where
 abbrev pub onto_word : ℕ → Cut → Cut
 onto_word c k = record k { word = c ∷ k.word }
 
--- up to the first blank
+-- The characters up to the first space or tab.
 abbrev pub cut_word : List ℕ → Cut
 cut_word [] = record { word = []; rest = [] }
 cut_word (c ∷ cs) = if is_blank c then record { word = []; rest = c ∷ cs } else onto_word c (cut_word cs)
 
--- the first word
+-- The first word.
 unfoldable pub cut : List ℕ → Cut
 cut cs = cut_word (unindented cs)
 
--- whether a word ends where these characters follow
+-- Whether a word ends before these characters.
 abbrev pub ends_word : List ℕ → Bool
 ends_word [] = true
 ends_word (c ∷ cs) = is_blank c
 
--- all words: the longest runs without blanks
+-- All words: the longest runs without spaces and tabs.
 abbrev pub words : List ℕ → List (List ℕ)
 words [] = []
 words (c ∷ cs) = if is_blank c then words cs else if ends_word cs then (c ∷ []) ∷ words cs else onto_first c (words cs)
@@ -56,33 +56,33 @@ begins_name c = is_ascii_alphabetic c || (c == 95)
 abbrev pub continues_name : ℕ → Bool
 continues_name c = is_ascii_alphanumeric c || (c == 95)
 
--- a letter or `_`, then letters, digits and `_`, 32 characters at most
+-- A letter or `_`, then letters, digits and `_`, at most 32 characters.
 abbrev pub is_name : List ℕ → Bool
 is_name [] = false
 is_name (c ∷ cs) = begins_name c && nat_lt (length cs) 32 && list_all continues_name cs
 
--- decimal digits, a number above a million counting as a million, which is out of every range
+-- A number in decimal digits. A magnitude above a million is stored as a million, which is outside every range.
 abbrev pub decimal_number : Bool → List ℕ → Option Numeral
 decimal_number negative digits =
     if is_empty digits || not (list_all is_ascii_digit digits) then None
     else Some (record { negative = negative; magnitude = min 1000000 (digits_value 10 digits) })
 
--- one to four hexadecimal digits
+-- A number in one to four hexadecimal digits.
 abbrev pub hexadecimal_number : List ℕ → Option Numeral
 hexadecimal_number digits =
     if is_empty digits || nat_lt 4 (length digits) || not (list_all is_ascii_hexdigit digits) then None
     else Some (record { negative = false; magnitude = digits_value 16 digits })
 
--- decimal digits, with `-` before them or not, or `$` and hexadecimal digits
+-- A number: decimal digits with an optional `-` before them, or `$` and hexadecimal digits.
 abbrev pub number : List ℕ → Option Numeral
 number [] = None
 number (c ∷ cs) =
     if c == 45 then decimal_number true cs else if c == 36 then hexadecimal_number cs else decimal_number false (c ∷ cs)
 
--- whether a number lies from -below to above
+-- Whether a number is from -`below` to `above`.
 abbrev pub within : ℕ → ℕ → Numeral → Bool
 within below above n = if n.negative then nat_le n.magnitude below else nat_le n.magnitude above
 
--- a number that lies in a range, as one of w values
+-- A number in range, modulo `w`.
 abbrev pub stored : ℕ → Numeral → ℕ
 stored w n = if n.negative then (w - n.magnitude) % w else n.magnitude % w

@@ -1,11 +1,11 @@
-//! What is wrong in a text.
+//! The faults of a source text.
 
 ghost use Rattle.std.specs.Prelude.{◌≡◌};
 ghost use Rattle.pm_source.specs.FaultNumbers.{number_of, place_of};
 
 use thiserror::Error;
 
-/// Why a text is refused. Lines are counted from 1.
+/// The reason why the assembler rejects a text. Lines are counted from 1.
 #[derive(Clone, Copy, Debug, Error)]
 pub enum AsmFault {
     /// 1: a line is ill-formed or in the wrong place, or begins a procedure without an `.END`.
@@ -35,7 +35,7 @@ pub enum AsmFault {
 }
 
 impl AsmFault {
-    /// The fault's number, as the program prints it.
+    /// Returns the number of the fault, as the program prints it.
     pub fn number(self) -> u8
         ensures value { result ≡ number_of self }
     {
@@ -51,7 +51,7 @@ impl AsmFault {
         }
     }
 
-    /// The line that the fault names; of `TooLong` the segment's number. Want of memory names none.
+    /// Returns the line of the fault. For `TooLong` it is the number of the segment, and for `NoMemory` there is none.
     pub fn place(self) -> Option<usize>
         ensures value { result ≡ place_of self }
     {

@@ -1,4 +1,5 @@
-//! The assembler's text: what a line says, what is wrong in a text, and the program that it spells.
+//! The source text of the assembler: the statement of each line, the faults of a text, and the program that a text
+//! defines.
 #![tactic(auto)]
 
 mod fault;

@@ -1,10 +1,10 @@
-//! Numbers of a text.
+//! Numbers in a source text.
 
-/// A number as a text writes it, cut off at a million, which is out of every range.
+/// A number of a source text. A magnitude above a million is stored as a million, which is outside every range.
 #[derive(Clone, Copy)]
 pub struct Numeral {
-    /// There is a `-` before it.
+    /// Whether a `-` precedes the number.
     pub negative: bool,
-    /// Its size without the sign.
+    /// The absolute value.
     pub magnitude: u32,
 }

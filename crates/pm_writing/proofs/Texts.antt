@@ -1,4 +1,4 @@
--- The pieces of a text, one after the other, are the text.
+-- The pieces of a text, joined in order, are the text.
 use Rattle.std.proofs.Common.{◌≡◌, ℕ, zero, suc, ◌+◌, ◌==◌, Bool, true, false, List, [], ◌∷◌, ◌++◌, Option, Some, None, if◌then◌else◌}
 use Rattle.std.proofs.Common.{refl, sym, ap, ◌∙◌, append_assoc, append-nil}
 use Rattle.pm_codefile.specs.declared.table.Attributes.{Attributes}
@@ -80,7 +80,7 @@ slots_listed file n (suc count) =
     ap (λ t. t ++ slots_pieces forms.Listing file (n + 1) count) (slot_listed file n (segment_in file n))
     ∙ ap (λ t. slot_listing n (segment_in file n) ++ t) (slots_listed file (n + 1) count)
 
--- ---- notes: those of two texts, the first of which ends with a line feed, are those of each
+-- ---- notes: the notes of two joined texts, of which the first ends with a line feed, are the notes of each
 
 empty_line : (file : List ℕ) → named_line file [] ≡ []
 unfolding named_line note_on name_called standard_called system_called is_native slot_said
@@ -109,7 +109,7 @@ split file line (c ∷ cs) rest = step (c == 10) (split file [] cs rest) (split 
         ∙ sym (append_assoc (named_line file line) (10 ∷ named_from file [] (cs ++ 10 ∷ [])) (named_from file [] rest))
     step false ended going = going
 
--- the notes of lines, and of a text after them
+-- The notes of lines and a text after them are the notes of each.
 named_joined : (file : List ℕ) (lines : List (List ℕ)) (rest : List ℕ)
     → with_names file (joined lines ++ rest) ≡ with_names file (joined lines) ++ with_names file rest
 unfolding with_names

@@ -12,13 +12,13 @@ use Rattle.pm_notes.specs.Lines.{with_names}
 use Rattle.pm_writing.specs.declared.form.Form.{Form}
 use Rattle.pm_writing.specs.declared.form.Form.TheVariants as forms
 
--- a piece, with notes if they are written
+-- The piece `text` in a form: with notes if the form has notes.
 abbrev pub told : Form → List ℕ → List ℕ → List ℕ
 told forms.Text file text = text
 told forms.Names file text = with_names file text
 told forms.Listing file text = text
 
--- a procedure by its table, without notes
+-- The text of a procedure by its table, without notes.
 abbrev pub raw_table : Form → ℕ → List ℕ → Attributes → List ℕ
 raw_table forms.Text slot segment a = procedure_text segment a
 raw_table forms.Names slot segment a = procedure_text segment a
@@ -27,22 +27,22 @@ raw_table forms.Listing slot segment a = table_listing slot segment a
 abbrev pub table_piece : Form → List ℕ → ℕ → List ℕ → Attributes → List ℕ
 table_piece form file slot segment a = told form file (raw_table form slot segment a)
 
--- a number without a table
+-- The piece of procedure number `number`, which has no table.
 abbrev pub missing_piece : Form → List ℕ → ℕ → List ℕ
 missing_piece form file number = told form file (joined (missing_line number))
 
--- number p of a segment, by its table, if it has one
+-- The piece of procedure number `p` of a segment, by its table if it has one.
 abbrev pub number_piece : Form → List ℕ → ℕ → List ℕ → ℕ → Option Attributes → List ℕ
 number_piece form file slot segment p None = missing_piece form file p
 number_piece form file slot segment p (Some a) = table_piece form file slot segment a
 
--- that many numbers of a segment, from number p on
+-- The pieces of `count` procedure numbers of a segment, from number `p` on.
 abbrev pub pieces : Form → List ℕ → ℕ → List ℕ → ℕ → ℕ → List ℕ
 pieces form file slot segment p zero = []
 pieces form file slot segment p (suc count) =
     number_piece form file slot segment p (attributes_in segment p) ++ pieces form file slot segment (p + 1) count
 
--- what is written before the procedures of the segment of a slot
+-- The text before the procedures of the segment of slot `n`, without notes.
 abbrev pub raw_head : Form → List ℕ → ℕ → List ℕ
 raw_head forms.Text file n = slot_head n (name_of (slot_in file n)) (segment_in file n)
 raw_head forms.Names file n = slot_head n (name_of (slot_in file n)) (segment_in file n)
@@ -51,25 +51,25 @@ raw_head forms.Listing file n = []
 abbrev pub head_piece : Form → List ℕ → ℕ → List ℕ
 head_piece form file n = told form file (raw_head form file n)
 
--- what is written after them
+-- The piece after the procedures of the segment of slot `n`.
 abbrev pub foot_piece : Form → ℕ → List ℕ → List ℕ
 foot_piece forms.Text n segment = []
 foot_piece forms.Names n segment = []
 foot_piece forms.Listing n segment = listed_line n (stored_dictionary segment)
 
--- the segment of slot n, if it has one
+-- The pieces of slot `n`. A slot without a segment has none.
 abbrev pub slot_piece : Form → List ℕ → ℕ → Option (List ℕ) → List ℕ
 slot_piece form file n None = []
 slot_piece form file n (Some segment) = head_piece form file n
     ++ (pieces form file n segment 1 (procedures_in segment) ++ foot_piece form n segment)
 
--- that many slots, from slot n on
+-- The pieces of `count` slots, from slot `n` on.
 abbrev pub slots_pieces : Form → List ℕ → ℕ → ℕ → List ℕ
 slots_pieces form file n zero = []
 slots_pieces form file n (suc count) =
     slot_piece form file n (segment_in file n) ++ slots_pieces form file (n + 1) count
 
--- the text that the pieces are of
+-- The text of which these are the pieces.
 abbrev pub form_text : Form → List ℕ → List ℕ
 form_text forms.Text file = file_text file
 form_text forms.Names file = with_names file (file_text file)

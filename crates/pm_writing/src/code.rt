@@ -1,4 +1,4 @@
-//! What `dis` writes of a code file.
+//! What `dis` prints for a code file.
 
 ghost use Rattle.std.specs.Prelude.{◌≡◌, false};
 ghost use Rattle.pm_writing.specs.Written.{Writes, code_text};
@@ -11,16 +11,16 @@ use pm_jobs::{DisOutput, Fault, Sink};
 use pm_statements::Layout;
 use std::alloc::Global;
 
-/// Writes what `dis` writes of a code file, one procedure after the other. The memory is that of one decoded segment
-/// and the text of one procedure; for statements also that of the procedures of the file. The sink may not have failed
-/// before.
+/// Writes the output of `dis` for a code file to a sink, one procedure after the other. It needs memory for one decoded
+/// segment and the text of one procedure. For statements it also needs memory for the sizes and the cached procedures
+/// of the whole file. No write to the sink may have failed before.
 ///
 /// # Errors
 ///
-/// A prefix of the text has been written then.
+/// A prefix of the output has been written.
 ///
-/// - `NoMemory` if there is no memory.
-/// - `Write` if a write fails or takes no byte.
+/// - `NoMemory` if memory runs out.
+/// - `Write` if a write fails or accepts no byte.
 pub fn write_code<W: Sink>(
     alloc: Global,
     sink: &mut W,

@@ -1,12 +1,12 @@
-//! The three texts that show the bytes of a code file in their order.
+//! The three texts that show the bytes of a code file in order.
 
-/// What is written of each procedure.
+/// The form in which procedures are written.
 #[derive(Clone, Copy)]
 pub(crate) enum Form {
-    /// Its text, which the assembler accepts.
+    /// The text of a procedure. The assembler accepts it.
     Text,
-    /// Its text with notes: names of procedures and kinds of segments.
+    /// The text with notes: the names of procedures and the kinds of segments.
     Names,
-    /// Its bytes with their offsets.
+    /// The bytes with their offsets.
     Listing,
 }

@@ -1,5 +1,5 @@
-//! What `dis` writes of a code file, written to a sink one procedure after the other, so that no more than the text of
-//! one procedure is in memory.
+//! What `dis` prints for a code file. It is written to a sink one procedure after the other, so that at most the text
+//! of one procedure is in memory.
 #![tactic(auto)]
 
 mod code;

@@ -1,4 +1,4 @@
-//! The procedures of a segment, written one after the other.
+//! Writes the procedures of a segment one after the other.
 
 ghost use Rattle.std.specs.Prelude.{◌≡◌, ◌%◌, ◌≤◌, ℕ, List, Some, false, length, IfSome, OnOk};
 ghost use Rattle.pm_codefile.specs.Segments.{attributes_in, procedures_in};
@@ -14,7 +14,7 @@ use pm_disasm::{Decoded, decode_segment};
 use pm_jobs::{Fault, Sink, write_all};
 use std::alloc::Global;
 
-/// A segment that is written, its slot, and how it is written.
+/// A segment to write: its form, its slot and its bytes.
 #[derive(Clone, Copy)]
 pub(crate) struct Part<'a> {
     pub form: Form,
@@ -22,14 +22,14 @@ pub(crate) struct Part<'a> {
     pub segment: &'a [u8],
 }
 
-/// The procedure that was written last. Many words of a dictionary may lead to one table.
+/// The procedure that was written last, cached because several numbers of a dictionary may lead to one table.
 #[derive(Drop)]
 struct Last {
     table: Attributes,
     piece: Vec<u8>,
 }
 
-/// Writes a piece.
+/// Writes a piece to a sink.
 pub(crate) fn write_piece<W: Sink>(sink: &mut W, piece: &[u8]) -> Result<(), Fault>
     requires well { (W.seen sink.old).failed ≡ false }
     ensures writes { Writes (W.seen sink.old) (W.seen sink.new) piece.now result }
@@ -37,7 +37,7 @@ pub(crate) fn write_piece<W: Sink>(sink: &mut W, piece: &[u8]) -> Result<(), Fau
     write_all(sink, piece)
 }
 
-/// The piece of a table, if that was written last.
+/// Returns the cached piece if it is that of `table`.
 fn same<'l>(last: &'l Option<Last>, table: &Attributes) -> Option<&'l [u8]>
     ensures piece { (shows : Attributes → List ℕ) → IfSome last.now (λ l. l.piece.items ≡ shows l.table)
         → IfSome result (λ piece. piece.now ≡ shows table.now) }
@@ -48,7 +48,7 @@ fn same<'l>(last: &'l Option<Last>, table: &Attributes) -> Option<&'l [u8]>
     }
 }
 
-/// Writes a procedure by its table, and keeps its piece.
+/// Writes a procedure by its table and caches its piece.
 fn write_table<'a, W: Sink>(
     alloc: Global,
     sink: &mut W,
@@ -86,7 +86,7 @@ fn write_table<'a, W: Sink>(
     Ok(())
 }
 
-/// Writes what is shown for a number of a segment.
+/// Writes the piece of one procedure number of a segment.
 fn write_number<'a, W: Sink>(
     alloc: Global,
     sink: &mut W,
@@ -116,7 +116,7 @@ fn write_number<'a, W: Sink>(
     }
 }
 
-/// Writes the procedures of a segment.
+/// Writes the procedures of a segment in the order of their numbers.
 pub(crate) fn write_numbers<W: Sink>(
     alloc: Global,
     sink: &mut W,

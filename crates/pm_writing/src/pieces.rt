@@ -1,4 +1,4 @@
-//! The pieces of a text that are written one after the other.
+//! The pieces of a text, which are written one after the other.
 
 ghost use Rattle.std.specs.Prelude.{◌≡◌, ◌<◌, ◌≤◌, ℕ, Some, length, string_bytes, IfOk};
 ghost use Rattle.pm_codefile.specs.Segments.{attributes_in};
@@ -12,7 +12,7 @@ use pm_disasm::{Decoded, decoded_procedure, dictionary_line, procedure_listing, 
 use pm_notes::with_names;
 use std::alloc::{AllocError, Global};
 
-/// The bytes of a piece, with notes if they are to be written.
+/// Returns the bytes of a piece, with notes if the form has notes.
 fn told(alloc: Global, form: Form, file: &CodeFile<'_>, text: String) -> Result<Vec<u8>, AllocError>
     ensures piece { IfOk result (λ piece. piece.items ≡ told form file.now (string_bytes text)) }
 {
@@ -22,7 +22,7 @@ fn told(alloc: Global, form: Form, file: &CodeFile<'_>, text: String) -> Result<
     }
 }
 
-/// The text of a procedure without notes.
+/// Returns the text of a procedure without notes.
 fn raw_table<'a>(
     alloc: Global,
     form: Form,
@@ -42,7 +42,7 @@ fn raw_table<'a>(
     }
 }
 
-/// What is written of a procedure, by its table.
+/// Returns the piece of a procedure, by its table.
 pub(crate) fn table_piece<'a>(
     alloc: Global,
     form: Form,
@@ -61,7 +61,7 @@ pub(crate) fn table_piece<'a>(
     told(alloc, form, file, text)
 }
 
-/// What is written of a number that has no table.
+/// Returns the piece of a procedure number that has no table.
 pub(crate) fn missing_piece(
     alloc: Global,
     form: Form,
@@ -74,7 +74,7 @@ pub(crate) fn missing_piece(
     told(alloc, form, file, text)
 }
 
-/// What is written before the procedures of a segment, without notes.
+/// Returns the text before the procedures of the segment of slot `n`, without notes.
 fn raw_head(alloc: Global, form: Form, file: &CodeFile<'_>, n: u8) -> Result<String, AllocError>
     requires slot { n < 16 }
     ensures text { IfOk result (λ text. string_bytes text ≡ raw_head form file.now n) }
@@ -85,7 +85,7 @@ fn raw_head(alloc: Global, form: Form, file: &CodeFile<'_>, n: u8) -> Result<Str
     }
 }
 
-/// What is written before the procedures of a segment.
+/// Returns the piece before the procedures of the segment of slot `n`.
 pub(crate) fn head_piece(
     alloc: Global,
     form: Form,
@@ -99,7 +99,7 @@ pub(crate) fn head_piece(
     told(alloc, form, file, text)
 }
 
-/// What is written after the procedures of a segment.
+/// Returns the piece after the procedures of the segment of slot `n`.
 pub(crate) fn foot_piece(
     alloc: Global,
     form: Form,

@@ -1,4 +1,4 @@
-//! The segments of a code file, written one after the other.
+//! Writes the segments of a code file one after the other.
 
 ghost use Rattle.std.specs.Prelude.{◌≡◌, ◌<◌, false};
 ghost use Rattle.pm_codefile.specs.Dictionary.{segment_in};
@@ -12,7 +12,7 @@ use pm_codefile::CodeFile;
 use pm_jobs::{Fault, Sink};
 use std::alloc::Global;
 
-/// Writes the segment of slot n, if it has one.
+/// Writes the segment of slot `n`, or nothing if the slot has no segment.
 fn write_slot<W: Sink>(
     alloc: Global,
     sink: &mut W,
@@ -40,7 +40,7 @@ fn write_slot<W: Sink>(
     write_piece(sink, &foot)
 }
 
-/// Writes the segments of a code file by ascending slot.
+/// Writes the segments of a code file in the order of their slots.
 pub(crate) fn write_slots<W: Sink>(
     alloc: Global,
     sink: &mut W,

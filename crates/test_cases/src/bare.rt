@@ -1,4 +1,4 @@
-//! Cases of bare code: the trace that the job writes, and the registers and the stack that the machine has at its end.
+//! Cases of raw p-code: the trace that the job writes, and the registers and the stack of the machine at its end.
 use crate::case::{Came, Case};
 use crate::jobs::do_job;
 use pm_machine::Machine;
@@ -7,16 +7,16 @@ use std::alloc::Global;
 use std::io;
 use test_parts::{digest_text, hex_bytes, steps};
 
-/// The steps that a program may make where the case does not say.
+/// The maximum number of steps if the case has no limit.
 const STEPS: u32 = 100;
 
-/// The words on the stack end below this address.
+/// The end of the stack. Its words are below this address.
 const STACK_END: u16 = 65_504;
 
-/// The most words of the stack that a case shows.
+/// The maximum number of stack words that a case shows.
 const WORDS: u16 = 8;
 
-/// Answers the last line of the trace and its digest.
+/// Adds the answers with the last line of the trace and with its digest.
 pub fn add_trace(alloc: Global, code: &[u8], limit: u32, came: &mut Came) -> io::Result<()> {
     let digits = hex::encode(alloc, code)?;
     let ran = do_job(
@@ -38,7 +38,7 @@ pub fn add_trace(alloc: Global, code: &[u8], limit: u32, came: &mut Came) -> io:
     Ok(())
 }
 
-/// Runs the machine itself, and answers what it is left with.
+/// Runs the machine itself and adds the answers with its final state.
 fn add_end(alloc: Global, code: &[u8], limit: u32, came: &mut Came) -> io::Result<()> {
     let Ok(mut machine) = Machine::raw(alloc, code) else {
         return Ok(());
@@ -47,7 +47,7 @@ fn add_end(alloc: Global, code: &[u8], limit: u32, came: &mut Came) -> io::Resul
     add_state(alloc, &machine, came)
 }
 
-/// Answers the registers and the words from SP upward.
+/// Adds the answers with the registers and with the words from SP up.
 fn add_state(alloc: Global, machine: &Machine, came: &mut Came) -> io::Result<()> {
     let r = machine.registers();
     let (ipc, sp, mp, base, np, ioresult) = (r.ipc, r.sp, r.mp, r.base, r.np, r.ioresult);
@@ -67,7 +67,7 @@ fn add_state(alloc: Global, machine: &Machine, came: &mut Came) -> io::Result<()
     Ok(())
 }
 
-/// What comes of a case.
+/// Returns the result of a case.
 pub fn answers(alloc: Global, case: &Case<'_>) -> io::Result<Came> {
     let mut came = Came::new(alloc);
     let code = hex_bytes(alloc, case.value("code").unwrap_or(""))?;

@@ -1,11 +1,11 @@
-//! Cases of programs on a volume: what a run gives, its trace, and one session of the debugger.
+//! Cases of programs on a volume: the result of a run, its trace, and one session of the debugger.
 use crate::case::{Came, Case};
 use crate::program::{Program, add_image, add_run, limit, work};
 use pm_tool::Saving;
 use std::alloc::Global;
 use std::io;
 
-/// What comes of a case.
+/// Returns the result of a case.
 pub fn answers(alloc: Global, case: &Case<'_>) -> io::Result<Came> {
     let mut came = Came::new(alloc);
     let program = Program {

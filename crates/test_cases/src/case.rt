@@ -1,22 +1,22 @@
-//! One case: its lines `WORD REST`, of which some are given and the others are answers.
+//! One case. Each of its lines is `WORD REST`. Some lines are input, the others are the expected answers.
 use std::alloc::{AllocError, Global};
 
-/// The most bytes that a case shows as they are.
+/// The maximum number of bytes that a case shows unabridged.
 pub const MOST_SHOWN: usize = 64;
 
 /// A line of a case.
 #[derive(Clone, Copy)]
 pub struct Line<'a> {
-    /// All of it.
+    /// The whole line.
     pub text: &'a str,
     /// Its first word.
     pub word: &'a str,
-    /// What stands behind the blank after that.
+    /// The text after the space that follows the first word.
     pub rest: &'a str,
 }
 
 impl<'a> Line<'a> {
-    /// The parts of a line.
+    /// Splits a line into its parts.
     pub fn of(text: &'a str) -> Line<'a> {
         let (word, rest) = text.split_once(' ').unwrap_or((text, ""));
         Line { text, word, rest }
@@ -27,13 +27,13 @@ impl<'a> Line<'a> {
 #[derive(Drop)]
 pub struct Case<'a> {
     pub name: &'a str,
-    /// The line of the file in which it begins, counted from 1.
+    /// The line of the file in which the case begins, counted from 1.
     pub number: usize,
     pub lines: Vec<Line<'a>>,
 }
 
 impl<'a> Case<'a> {
-    /// A case without lines.
+    /// Returns a case without lines.
     pub fn new(alloc: Global, name: &'a str, number: usize) -> Case<'a> {
         Case {
             name,
@@ -42,7 +42,7 @@ impl<'a> Case<'a> {
         }
     }
 
-    /// What stands behind a word in its first line, if the case has one.
+    /// Returns the rest of the first line that begins with `word`, if there is one.
     pub fn value(&self, word: &str) -> Option<&'a str> {
         for line in self.lines.iter() {
             if line.word == word {
@@ -52,23 +52,23 @@ impl<'a> Case<'a> {
         None
     }
 
-    /// Whether a line begins with a word.
+    /// Whether a line begins with `word`.
     pub fn has(&self, word: &str) -> bool {
         self.value(word).is_some()
     }
 }
 
-/// What came of a case.
+/// The result of a case.
 #[derive(Drop)]
 pub struct Came {
     /// The lines of the answers, each with its line feed.
     pub answers: String,
-    /// The trace, the session or the text of which an answer is the digest.
+    /// The trace, the session or the text whose digest is an answer.
     pub shown: String,
 }
 
 impl Came {
-    /// Nothing yet.
+    /// Returns a result without answers.
     pub fn new(alloc: Global) -> Came {
         Came {
             answers: String::new(alloc),
@@ -76,7 +76,7 @@ impl Came {
         }
     }
 
-    /// One more answer.
+    /// Adds an answer line.
     pub fn answer(&mut self, word: &str, rest: &str) -> Result<(), AllocError> {
         self.answers.push_str(word)?;
         if !rest.is_empty() {

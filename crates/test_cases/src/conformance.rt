@@ -1,14 +1,14 @@
-//! The cases of examples/conformance/bare.txt: a name, lines of the bytes in hexadecimal, and the trace.
+//! The cases of examples/conformance/bare.txt: a name, lines with the bytes in hexadecimal, and the trace.
 use crate::bare::add_trace;
 use crate::case::{Came, Case};
 use std::alloc::Global;
 use std::io;
 use test_parts::hex_bytes;
 
-/// The steps that a program may make.
+/// The maximum number of steps.
 const STEPS: u32 = 10_000;
 
-/// What comes of a case.
+/// Returns the result of a case.
 pub fn answers(alloc: Global, case: &Case<'_>) -> io::Result<Came> {
     let mut code = Vec::new(alloc);
     for line in case.lines.iter() {

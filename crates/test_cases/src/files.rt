@@ -1,16 +1,16 @@
-//! The commands on volumes, as a line of a case spells them.
+//! The commands on volumes, as the lines of a case contain them.
 use crate::case::Line;
 use pm_filer::FileCommand;
 use std::alloc::Global;
 use std::io;
 use test_parts::{add_escaped, byte, hex_bytes, name, number, unreadable};
 
-/// Two words with a blank between them.
+/// Splits a text at its first space.
 pub fn two(text: &str) -> io::Result<(&str, &str)> {
     text.split_once(' ').ok_or_else(unreadable)
 }
 
-/// So many bytes, each one more than the one before, modulo 251.
+/// Returns bytes of which each is one more than the one before, modulo 251: `COUNT FIRST`.
 fn ramp(alloc: Global, rest: &str) -> io::Result<Vec<u8>> {
     let (count, first) = two(rest)?;
     let first = number(first)?;
@@ -21,7 +21,8 @@ fn ramp(alloc: Global, rest: &str) -> io::Result<Vec<u8>> {
     Ok(bytes)
 }
 
-/// The text of pieces with blanks between them: escaped, or `N*PIECE`, one N times.
+/// Returns the text of pieces that are separated by spaces. A piece is escaped text, or `N*PIECE` for N times the
+/// piece.
 fn text(alloc: Global, rest: &str) -> io::Result<Vec<u8>> {
     let mut bytes = Vec::new(alloc);
     for piece in rest.split(' ') {
@@ -37,7 +38,7 @@ fn text(alloc: Global, rest: &str) -> io::Result<Vec<u8>> {
     Ok(bytes)
 }
 
-/// The bytes that are put.
+/// Returns the bytes of a content.
 fn content(alloc: Global, spelled: &str, program: &[u8]) -> io::Result<Vec<u8>> {
     let line = Line::of(spelled);
     match line.word {
@@ -49,12 +50,12 @@ fn content(alloc: Global, spelled: &str, program: &[u8]) -> io::Result<Vec<u8>> 
     }
 }
 
-/// The words of the kinds 0 to 8.
+/// The keywords of the kinds 0 to 8.
 const KINDS: [&str; 9] = [
     "none", "badb", "code", "text", "info", "data", "graf", "foto", "secd",
 ];
 
-/// The kind that a word or a number names.
+/// Returns the kind of a keyword or a number.
 fn kind(spelled: &str) -> io::Result<u8> {
     for (word, kind) in KINDS.iter().zip(0..9) {
         if *word == spelled {
@@ -64,20 +65,20 @@ fn kind(spelled: &str) -> io::Result<u8> {
     byte(spelled)
 }
 
-/// The command of a date.
+/// Returns the command that sets a date: `YEAR MONTH DAY`.
 fn date(rest: &str) -> io::Result<FileCommand> {
     let (year, day) = two(rest)?;
     let (month, day) = two(day)?;
     Ok(FileCommand::Date(byte(year)?, byte(month)?, byte(day)?))
 }
 
-/// The command of another kind.
+/// Returns the command that changes the kind of a file: `NAME KIND`.
 fn kinded(alloc: Global, rest: &str) -> io::Result<FileCommand> {
     let (file, spelled) = two(rest)?;
     Ok(FileCommand::Kind(name(alloc, file)?, kind(spelled)?))
 }
 
-/// The command of a word on the file of this name, or `zero`.
+/// Returns the command `word` on the file with this name. For `zero`, the name is that of the volume.
 fn named(word: &str, name: String) -> io::Result<FileCommand> {
     match word {
         "get" => Ok(FileCommand::Get(name)),
@@ -88,7 +89,7 @@ fn named(word: &str, name: String) -> io::Result<FileCommand> {
     }
 }
 
-/// The command of another name: `OLD NEW`.
+/// Returns the command that renames a file: `OLD NEW`.
 fn change(alloc: Global, rest: &str) -> io::Result<FileCommand> {
     let (old, new) = two(rest)?;
     let old = name(alloc, old)?;
@@ -96,7 +97,7 @@ fn change(alloc: Global, rest: &str) -> io::Result<FileCommand> {
     Ok(FileCommand::Change(old, new))
 }
 
-/// The command of a line that has no content.
+/// Returns the command of a line without content.
 fn plain(alloc: Global, line: Line<'_>) -> io::Result<FileCommand> {
     match line.word {
         "list" => Ok(FileCommand::List),
@@ -110,7 +111,7 @@ fn plain(alloc: Global, line: Line<'_>) -> io::Result<FileCommand> {
     }
 }
 
-/// The command of bytes that are put, `NAME KIND CONTENT`, and these bytes.
+/// Returns the command that puts a file, `NAME KIND CONTENT`, and the bytes of the file.
 fn put(alloc: Global, rest: &str, program: &[u8]) -> io::Result<(FileCommand, Vec<u8>)> {
     let (file, rest) = two(rest)?;
     let (spelled, rest) = two(rest)?;
@@ -120,7 +121,7 @@ fn put(alloc: Global, rest: &str, program: &[u8]) -> io::Result<(FileCommand, Ve
     Ok((FileCommand::Put(name, kind, Vec::new(alloc)), bytes))
 }
 
-/// The command of a text that is put, `NAME CONTENT`, and its bytes.
+/// Returns the command that puts a text, `NAME CONTENT`, and the bytes of the text.
 fn put_text(alloc: Global, rest: &str, program: &[u8]) -> io::Result<(FileCommand, Vec<u8>)> {
     let (file, rest) = two(rest)?;
     let name = name(alloc, file)?;
@@ -128,7 +129,7 @@ fn put_text(alloc: Global, rest: &str, program: &[u8]) -> io::Result<(FileComman
     Ok((FileCommand::PutText(name, Vec::new(alloc)), bytes))
 }
 
-/// The command of a line, and the input that stands for its file. `program` is what the content of that name is.
+/// Returns the command of a line, and the input that replaces its file. The content `program` is the bytes `program`.
 pub fn command(
     alloc: Global,
     line: Line<'_>,
@@ -143,7 +144,7 @@ pub fn command(
     Ok((command, Vec::new(alloc)))
 }
 
-/// The command of this word on the file of a slot, `N` or `N NEW`.
+/// Returns the command `word` on the file of a slot: `N` or `N NEW`.
 fn on_slot(alloc: Global, word: &str, rest: &str) -> io::Result<FileCommand> {
     let (slot, new) = rest.split_once(' ').unwrap_or((rest, ""));
     let slot = test_parts::word(slot)?;

@@ -1,17 +1,17 @@
-//! Jobs over streams in memory.
+//! Jobs with streams in memory.
 use pm_tool::{Exit, Job, Outcome, Reader, Writer, run};
 use std::alloc::Global;
 use std::io;
 use std::io::ErrorKind;
 
-/// What a job came to, and what it wrote.
+/// The outcome of a job and the bytes that it wrote.
 #[derive(Drop)]
 pub struct Ran {
     pub outcome: Outcome,
     pub written: Vec<u8>,
 }
 
-/// Does a job.
+/// Runs a job.
 pub fn do_job(alloc: Global, job: Job, input: &[u8]) -> Ran {
     let mut written = Vec::new(alloc);
     let mut rest = input;
@@ -22,17 +22,17 @@ pub fn do_job(alloc: Global, job: Job, input: &[u8]) -> Ran {
 }
 
 impl Ran {
-    /// Whether the input was refused.
+    /// Whether the job refused its input.
     pub fn is_refused(&self) -> bool {
         self.outcome.exit == Exit::Refused
     }
 
-    /// What it wrote, as a text.
+    /// Returns the output as text.
     pub fn text(&self, alloc: Global) -> io::Result<String> {
         Ok(String::from_utf8_lossy(alloc, &self.written)?)
     }
 
-    /// The image that is to be kept; an error where there is none.
+    /// Returns the image of the outcome, or an error if there is none.
     pub fn into_image(self) -> io::Result<Vec<u8>> {
         let Ran { outcome, .. } = self;
         let Outcome { image, .. } = outcome;

@@ -1,5 +1,6 @@
-//! Cases whose answers no part of this program made, beside what it answers: a program of the gate. It prints for each
-//! file of data/ how many cases agree, and of the first that does not its name, what was expected and what came.
+//! A test program of CI. It replays cases whose answers were made without any part of this program. It prints for each
+//! file of data/ how many cases agree. For the first case that does not agree it prints the name, the expected answers
+//! and the actual ones.
 #![tactic(auto)]
 
 mod bare;
@@ -21,7 +22,7 @@ use report::{Kind, replay};
 use std::{fs, io};
 use unseen::rows;
 
-/// The files, and what their cases are. The planted ones are wrong on purpose, but for the first of each.
+/// The files and the kinds of their cases. The planted cases are wrong on purpose, except the first one of each file.
 const FILES: [(&str, Kind); 15] = [
     ("bare.cases", Kind::Bare),
     ("boots.cases", Kind::Boots),

@@ -10,38 +10,38 @@ use test_parts::{
     add_escaped, byte, bytes_text, digest_text, hex_bytes, name, steps, unreadable, word,
 };
 
-/// The steps that a program may make, the blocks of its volume and the kind of its file, code, where the case does not
-/// say.
+/// The values if the case has none: the maximum number of steps, the blocks of the volume, and the kind of the file,
+/// which is code.
 const STEPS: u64 = 200;
 
 const BLOCKS: u16 = 83;
 
 const CODE: u8 = 2;
 
-/// The units of the disks, in their order.
+/// The units of the disks, in order.
 pub const UNITS: [&str; 6] = ["4", "5", "9", "10", "11", "12"];
 
-/// The images of the disks in that order.
+/// The images of the disks in the order of `UNITS`.
 pub type Images = [Option<Vec<u8>>; 6];
 
-/// A program, and how it is started: the file of the name that the case says, or `P`.
+/// A program to start. The name of its file is that of the case, or `P`.
 #[derive(Drop)]
 pub struct Program {
-    /// The image of unit 4, which has its file.
+    /// The image of unit 4, which contains the file.
     pub work: Vec<u8>,
-    /// The most steps that it makes.
+    /// The maximum number of steps.
     pub limit: u64,
-    /// The file whose slot 0 stands in, if there is one.
+    /// The file whose slot 0 is the system segment, if there is one.
     pub system: Option<Vec<u8>>,
 }
 
-/// A volume without files.
+/// Returns a volume without files.
 fn volume(alloc: Global, name: &str, blocks: u16) -> io::Result<Vec<u8>> {
     let name = String::from_str(alloc, name)?;
     do_job(alloc, Job::New { name, blocks }, b"").into_image()
 }
 
-/// The volume of a case, which has its code file under the name `P`, with the names of its slots where `named`.
+/// Returns the volume of a case. It contains the code file as `P`. If `named` is true, the slots have their names.
 pub fn work(alloc: Global, case: &Case<'_>, named: bool) -> io::Result<Vec<u8>> {
     let blocks = match case.value("blocks") {
         Some(blocks) => word(blocks)?,
@@ -58,7 +58,7 @@ pub fn work(alloc: Global, case: &Case<'_>, named: bool) -> io::Result<Vec<u8>> 
     do_job(alloc, Job::Files { image, command }, &file).into_image()
 }
 
-/// The steps that the program of a case may make.
+/// Returns the maximum number of steps of a case.
 pub fn limit(case: &Case<'_>) -> io::Result<u64> {
     match case.value("limit") {
         Some(limit) => Ok(u64::from(steps(limit)?)),
@@ -66,7 +66,7 @@ pub fn limit(case: &Case<'_>) -> io::Result<u64> {
     }
 }
 
-/// The place of a blank disk in that order, and its image: `UNIT BLOCKS`.
+/// Returns the index in `UNITS` of a blank disk, and its image: `UNIT BLOCKS`.
 fn blank_disk(alloc: Global, rest: &str) -> io::Result<(usize, Vec<u8>)> {
     let (unit, blocks) = rest.split_once(' ').ok_or_else(unreadable)?;
     let place = UNITS.iter().position(|known| *known == unit);
@@ -74,7 +74,7 @@ fn blank_disk(alloc: Global, rest: &str) -> io::Result<(usize, Vec<u8>)> {
     Ok((place, volume(alloc, "V", word(blocks)?)?))
 }
 
-/// The disks of a case: a copy of the volume with the program on unit 4, and blank ones.
+/// Returns the disks of a case: a copy of the volume with the program on unit 4, and the blank disks.
 pub fn disks(alloc: Global, case: &Case<'_>, work: &[u8]) -> io::Result<Images> {
     let mut disks = [Some(work.to_vec(alloc)?), None, None, None, None, None];
     for line in case.lines.iter() {
@@ -86,7 +86,7 @@ pub fn disks(alloc: Global, case: &Case<'_>, work: &[u8]) -> io::Result<Images> 
     Ok(disks)
 }
 
-/// What a job takes to start a program.
+/// The arguments of a job that starts a program.
 #[derive(Drop)]
 struct Start {
     disks: Images,
@@ -94,12 +94,12 @@ struct Start {
     system: Option<Vec<u8>>,
 }
 
-/// The keys of a case.
+/// Returns the keys of a case.
 fn keys(alloc: Global, case: &Case<'_>) -> io::Result<Vec<u8>> {
     hex_bytes(alloc, case.value("keys").unwrap_or(""))
 }
 
-/// The lines that the debugger gets.
+/// Returns the command lines for the debugger.
 fn typed(alloc: Global, case: &Case<'_>) -> io::Result<Vec<u8>> {
     let mut typed = Vec::new(alloc);
     for line in case.lines.iter() {
@@ -112,7 +112,7 @@ fn typed(alloc: Global, case: &Case<'_>) -> io::Result<Vec<u8>> {
 }
 
 impl Program {
-    /// The file whose slot 0 stands in.
+    /// Returns a copy of the file whose slot 0 is the system segment.
     fn system(&self, alloc: Global) -> io::Result<Option<Vec<u8>>> {
         match &self.system {
             Some(file) => Ok(Some(file.to_vec(alloc)?)),
@@ -120,7 +120,7 @@ impl Program {
         }
     }
 
-    /// How it is started.
+    /// Returns the arguments that start the program.
     fn start(&self, alloc: Global, case: &Case<'_>) -> io::Result<Start> {
         let name = name(alloc, case.value("name").unwrap_or("P"))?;
         let system = self.system(alloc)?;
@@ -132,7 +132,7 @@ impl Program {
         })
     }
 
-    /// What a run of it comes to.
+    /// Runs the program.
     pub fn run(&self, alloc: Global, case: &Case<'_>, saving: Saving) -> io::Result<Ran> {
         let keys = keys(alloc, case)?;
         let Start {
@@ -150,7 +150,7 @@ impl Program {
         Ok(do_job(alloc, job, &keys))
     }
 
-    /// Its trace.
+    /// Returns the trace of the program.
     pub fn trace(&self, alloc: Global, case: &Case<'_>, selection: Selection) -> io::Result<Ran> {
         let keys = keys(alloc, case)?;
         let Start {
@@ -168,7 +168,7 @@ impl Program {
         Ok(do_job(alloc, job, &keys))
     }
 
-    /// What the debugger answers to the lines of the case.
+    /// Returns the debugger's answers to the lines of the case.
     pub fn debug(&self, alloc: Global, case: &Case<'_>) -> io::Result<Ran> {
         let lines = typed(alloc, case)?;
         let Start {
@@ -185,7 +185,7 @@ impl Program {
         Ok(do_job(alloc, job, &lines))
     }
 
-    /// Answers the digest of its trace and what the debugger answers, each where the case asks for it.
+    /// Adds the digest of the trace and the answers of the debugger, each if the case contains it.
     pub fn add_shown(&self, alloc: Global, case: &Case<'_>, came: &mut Came) -> io::Result<()> {
         if case.has("trace") {
             let ran = self.trace(alloc, case, Selection::ALL)?;
@@ -207,7 +207,7 @@ impl Program {
     }
 }
 
-/// Answers bytes, if there are any.
+/// Adds an answer with bytes, if there are any.
 fn add_bytes(alloc: Global, word: &str, bytes: &[u8], came: &mut Came) -> io::Result<()> {
     if !bytes.is_empty() {
         let text = bytes_text(alloc, bytes, MOST_SHOWN)?;
@@ -216,14 +216,14 @@ fn add_bytes(alloc: Global, word: &str, bytes: &[u8], came: &mut Came) -> io::Re
     Ok(())
 }
 
-/// Answers what a run came to, and what it wrote and printed.
+/// Adds the answers with the outcome of a run and with its output on the console and the printer.
 pub fn add_run(alloc: Global, ran: &Ran, came: &mut Came) -> io::Result<()> {
     came.answer("run", ran.outcome.text())?;
     add_bytes(alloc, "console", &ran.written, came)?;
     add_bytes(alloc, "printer", &ran.outcome.printer, came)
 }
 
-/// Answers an image that is kept and is not the same as before, with this word.
+/// Adds an answer with an image that is to be saved, if it differs from the image before.
 pub fn add_image(
     alloc: Global,
     word: &str,

@@ -1,4 +1,4 @@
-//! The replay of a file: each case beside its answers, and what is said of those that differ.
+//! The replay of a file: each case with its answers, and the report on a case that differs.
 use crate::case::{Came, Case, Line};
 use crate::texts::{has_text, is_text};
 use crate::{bare, boots, conformance, session, shows, systems, texts};
@@ -7,7 +7,7 @@ use std::io;
 use std::io::ErrorKind;
 use test_parts::Report;
 
-/// What the cases of a file are.
+/// The kind of the cases of a file.
 #[derive(Clone, Copy)]
 pub enum Kind {
     Bare,
@@ -21,7 +21,7 @@ pub enum Kind {
 }
 
 impl Kind {
-    /// What stands before the name of a case.
+    /// Returns the prefix of the line that names a case.
     fn head(self) -> &'static str {
         match self {
             Kind::Conformance => "; ",
@@ -29,7 +29,8 @@ impl Kind {
         }
     }
 
-    /// Whether a line of a case is given, and no answer. A text comes to segments, and a code file is given by them.
+    /// Whether a line of a case is input rather than an answer. Segments are answers for a text, and input for a code
+    /// file.
     fn is_given(self, case: &Case<'_>, word: &str) -> bool {
         match self {
             Kind::Bare => matches!(word, "code" | "limit"),
@@ -58,7 +59,7 @@ impl Kind {
         }
     }
 
-    /// What comes of a case.
+    /// Returns the result of a case.
     fn answers(self, alloc: Global, case: &Case<'_>) -> io::Result<Came> {
         match self {
             Kind::Bare => bare::answers(alloc, case),
@@ -73,15 +74,15 @@ impl Kind {
     }
 }
 
-/// The most lines of a text that a case of any bytes has as they are.
+/// The maximum number of lines of a text that an image case contains unabridged.
 const LINES_OF_IMAGE: usize = 16;
 
-/// The most lines that are shown of what was expected, of what came, and of a trace.
+/// The maximum number of lines that are printed of the expected answers, of the actual ones and of a trace.
 const LINES: usize = 8;
 
 const TRACE: usize = 40;
 
-/// What is expected: the lines of the answers, each with its line feed.
+/// Returns the expected answers, each with its line feed.
 fn expected(alloc: Global, kind: Kind, case: &Case<'_>) -> Result<String, AllocError> {
     let mut text = String::new(alloc);
     for line in case.lines.iter() {
@@ -93,7 +94,7 @@ fn expected(alloc: Global, kind: Kind, case: &Case<'_>) -> Result<String, AllocE
     Ok(text)
 }
 
-/// How many lines two texts begin with alike.
+/// Returns the number of leading lines that are equal in two texts.
 fn alike(one: &str, other: &str) -> usize {
     let mut count: usize = 0;
     for (line, beside) in one.lines().zip(other.lines()) {
@@ -105,7 +106,7 @@ fn alike(one: &str, other: &str) -> usize {
     count
 }
 
-/// The last line that is given before an answer of this number.
+/// Returns the last input line before answer number `answer`.
 fn given_before<'a>(kind: Kind, case: &Case<'a>, answer: usize) -> &'a str {
     let mut given = "";
     let mut answers: usize = 0;
@@ -122,7 +123,7 @@ fn given_before<'a>(kind: Kind, case: &Case<'a>, answer: usize) -> &'a str {
     given
 }
 
-/// Adds some lines of a text, with what they are before each.
+/// Adds up to `most` lines of a text, each after the label `what`.
 fn add_lines(
     text: &mut String,
     what: &str,
@@ -138,7 +139,7 @@ fn add_lines(
     Ok(())
 }
 
-/// What is said of a case that does not agree.
+/// Returns the report on a case that does not agree.
 fn told(
     alloc: Global,
     kind: Kind,
@@ -161,7 +162,7 @@ fn told(
     Ok(text)
 }
 
-/// Replays a case, and counts it.
+/// Replays a case and counts it.
 fn add(report: &mut Report, alloc: Global, kind: Kind, case: &Case<'_>) -> io::Result<()> {
     let wanted = expected(alloc, kind, case)?;
     let came = match kind.answers(alloc, case) {

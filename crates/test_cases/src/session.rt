@@ -1,4 +1,4 @@
-//! Cases of images: a session of commands and damage on one, which may be of any bytes.
+//! Cases of images: a session of commands and changes on one image, which may contain any bytes.
 use crate::case::{Came, Case, Line, MOST_SHOWN};
 use crate::code_file::damage;
 use crate::files::{command, two};
@@ -8,14 +8,14 @@ use std::alloc::Global;
 use std::io;
 use test_parts::{digest_text, hex_bytes, measured, name, number, set_byte, unreadable, word};
 
-/// An image, the one that is remembered, and the volume that was saved last.
+/// An image, the remembered image (`kept`), and the volume that was salvaged last (`saved`).
 #[derive(Drop)]
 pub struct Session {
     alloc: Global,
     pub image: Vec<u8>,
     kept: Vec<u8>,
     saved: Vec<u8>,
-    /// The most lines of a text that are answered as they are.
+    /// The maximum number of lines of a text that are answered unabridged.
     most: usize,
     /// The bytes of the content `program`.
     program: Vec<u8>,
@@ -23,7 +23,7 @@ pub struct Session {
 }
 
 impl Session {
-    /// One without an image, that answers so many lines of a text as they are.
+    /// Returns a session without an image. Texts of up to `most` lines are answered unabridged.
     pub fn new(alloc: Global, most: usize, program: Vec<u8>) -> Session {
         Session {
             alloc,
@@ -36,7 +36,7 @@ impl Session {
         }
     }
 
-    /// Answers what a command came to that changes the image.
+    /// Adds the result of a command that changes the image.
     fn add(&mut self, ran: Ran) -> io::Result<()> {
         if ran.is_refused() {
             self.came.answer("<", ran.outcome.text())?;
@@ -46,7 +46,7 @@ impl Session {
         Ok(())
     }
 
-    /// Answers the digest of the image that a job made, and gives the image.
+    /// Adds the digest of the image that a job made, and returns the image.
     fn made(&mut self, ran: Ran) -> io::Result<Vec<u8>> {
         let image = ran.into_image()?;
         let digest = digest_text(self.alloc, &image)?;
@@ -54,7 +54,7 @@ impl Session {
         Ok(image)
     }
 
-    /// Answers the bytes of a file.
+    /// Adds the bytes of a file.
     fn add_file(&mut self, ran: &Ran) -> io::Result<()> {
         let bytes = ran.written.as_slice();
         let line = if ran.is_refused() {
@@ -72,8 +72,8 @@ impl Session {
         Ok(())
     }
 
-    /// Answers what is told of the image, where the lines are many their number and digest; and why it is refused, if
-    /// it is.
+    /// Adds the output about the image, and the refusal if there is one. If there are more lines than `most`, it adds
+    /// their number and digest instead.
     fn add_told(&mut self, ran: &Ran) -> io::Result<()> {
         let text = ran.text(self.alloc)?;
         let count = text.as_str().lines().count();
@@ -92,7 +92,7 @@ impl Session {
         Ok(())
     }
 
-    /// Does the command of a line.
+    /// Runs the command of a line.
     fn command(&mut self, line: Line<'_>, image: Vec<u8>) -> io::Result<()> {
         let (command, input) = command(self.alloc, line, &self.program)?;
         let ran = do_job(self.alloc, Job::Files { image, command }, &input);
@@ -111,7 +111,7 @@ impl Session {
         self.add(do_job(self.alloc, Job::New { name, blocks }, b""))
     }
 
-    /// Answers what is saved of the image, and remembers the volume.
+    /// Adds the output of a salvage, and stores the salvaged volume.
     fn salvage(&mut self, image: Vec<u8>, second: bool) -> io::Result<()> {
         let ran = do_job(self.alloc, Job::Salvage { image, second }, b"");
         self.add_told(&ran)?;
@@ -122,7 +122,7 @@ impl Session {
         Ok(())
     }
 
-    /// Answers the bytes at a place of the image, as many as the line has.
+    /// Adds the bytes from an offset of the image on, as many as the line contains.
     fn add_place(&mut self, rest: &str) -> io::Result<()> {
         let (place, bytes) = two(rest)?;
         let count = match bytes.split_once(' ') {
@@ -141,7 +141,7 @@ impl Session {
         Ok(())
     }
 
-    /// Writes bytes from a place of the image on.
+    /// Writes bytes from an offset of the image on.
     fn write(&mut self, place: usize, bytes: &[u8]) -> io::Result<()> {
         for (at, byte) in bytes.iter().enumerate() {
             set_byte(&mut self.image, place.saturating_add(at), *byte)?;
@@ -149,7 +149,7 @@ impl Session {
         Ok(())
     }
 
-    /// Copies bytes of the image to another place of it: `FROM N TO`.
+    /// Copies bytes of the image to another offset: `FROM N TO`.
     fn copy(&mut self, rest: &str) -> io::Result<()> {
         let (from, rest) = two(rest)?;
         let (count, to) = two(rest)?;
@@ -160,7 +160,7 @@ impl Session {
         self.write(number(to)?, &part)
     }
 
-    /// Writes bytes: `PLACE BYTES`.
+    /// Writes bytes: `PLACE BYTES`. The place is an offset.
     fn put(&mut self, rest: &str) -> io::Result<()> {
         let (place, spelled) = two(rest)?;
         let place = number(place)?;
@@ -168,13 +168,13 @@ impl Session {
         self.write(place, &bytes)
     }
 
-    /// Makes the image as long as a word says, with zeros at its end.
+    /// Sets the length of the image. Added bytes are zeros.
     fn resize(&mut self, rest: &str) -> io::Result<()> {
         self.image.resize(number(rest)?, 0)?;
         Ok(())
     }
 
-    /// Does one line: those that change the image without an answer first.
+    /// Executes one line. Lines that change the image without an answer come first.
     pub fn line(&mut self, line: Line<'_>) -> io::Result<()> {
         let rest = line.rest;
         match line.word {
@@ -205,7 +205,7 @@ impl Session {
         }
     }
 
-    /// Does the job of a line on the image.
+    /// Runs the job of a line on the image.
     fn job(&mut self, line: Line<'_>) -> io::Result<()> {
         let image = self.image.to_vec(self.alloc)?;
         match (line.word, line.rest) {
@@ -218,7 +218,7 @@ impl Session {
     }
 }
 
-/// What comes of a case, in which so many lines of a text stand as they are.
+/// Returns the result of a case. Texts of up to `most` lines are unabridged.
 pub fn answers(alloc: Global, case: &Case<'_>, most: usize) -> io::Result<Came> {
     let mut session = Session::new(alloc, most, Vec::new(alloc));
     for line in case.lines.iter() {

@@ -1,5 +1,5 @@
-//! Cases of the jobs that show and tell: traces of which lines are selected, texts and lists of code files and of texts
-//! of the assembler, and sessions of the debugger.
+//! Cases of the jobs that print: traces and the selection of their lines, texts and listings of code files and of
+//! source texts, and sessions of the debugger.
 use crate::case::{Came, Case, Line};
 use crate::code_file::code_file;
 use crate::jobs::{Ran, do_job};
@@ -10,12 +10,12 @@ use std::alloc::Global;
 use std::io;
 use test_parts::{byte, hex_bytes, measured, steps, unreadable};
 
-/// The most lines that a case shows, and the most bytes of each.
+/// The maximum number of lines that a case shows, and the maximum number of bytes of each.
 const LINES: usize = 24;
 
 const LONGEST: usize = 400;
 
-/// A word that has a value behind it.
+/// An option that has a value after it.
 #[derive(Clone, Copy)]
 enum Valued {
     Limit,
@@ -25,7 +25,7 @@ enum Valued {
 }
 
 impl Valued {
-    /// The word that a text is.
+    /// Returns the option with this name.
     fn of(word: &str) -> io::Result<Valued> {
         match word {
             "--limit" => Ok(Valued::Limit),
@@ -37,7 +37,7 @@ impl Valued {
     }
 }
 
-/// What the words behind `raw` and `trace` say.
+/// The options of `raw` and `trace`.
 #[derive(Clone, Copy)]
 struct Words {
     limit: u64,
@@ -45,7 +45,7 @@ struct Words {
 }
 
 impl Words {
-    /// Takes in a word that stands alone; false where it has a value behind it.
+    /// Reads an option without a value. Returns false if the option has a value.
     fn takes(&mut self, word: &str) -> bool {
         match word {
             "--calls" => self.selection.calls = true,
@@ -56,7 +56,7 @@ impl Words {
         true
     }
 
-    /// Takes in a word with its value.
+    /// Reads an option with its value.
     fn takes_value(&mut self, word: Valued, value: &str) -> io::Result<()> {
         match (word, self.selection.code) {
             (Valued::Limit, _) => self.limit = u64::from(steps(value)?),
@@ -74,7 +74,7 @@ impl Words {
         Ok(())
     }
 
-    /// Those of a text, with a blank between two.
+    /// Reads the options of a text, separated by spaces.
     fn of(text: &str) -> io::Result<Words> {
         let mut words = Words {
             limit: 0,
@@ -96,7 +96,7 @@ impl Words {
     }
 }
 
-/// The program of a case, which has a volume of its own, with so many steps.
+/// Returns the program of a case, with its own volume and this maximum number of steps.
 fn program(alloc: Global, case: &Case<'_>, limit: u64) -> io::Result<Program> {
     Ok(Program {
         work: work(alloc, case, true)?,
@@ -105,7 +105,7 @@ fn program(alloc: Global, case: &Case<'_>, limit: u64) -> io::Result<Program> {
     })
 }
 
-/// The trace of bare code.
+/// Returns the trace of raw p-code.
 fn raw(alloc: Global, case: &Case<'_>, rest: &str) -> io::Result<Ran> {
     let words = Words::of(rest)?;
     let limit = u32::try_from(words.limit).map_err(|_| unreadable())?;
@@ -115,7 +115,7 @@ fn raw(alloc: Global, case: &Case<'_>, rest: &str) -> io::Result<Ran> {
     Ok(do_job(alloc, Job::Raw { limit, selection }, digits.as_bytes()))
 }
 
-/// The job of words that have no values.
+/// Returns the job of a line without values.
 fn plain_job(words: &str) -> io::Result<Job> {
     match words {
         "asm --list" => Ok(Job::Asm(AsmOutput::Listing)),
@@ -129,13 +129,13 @@ fn plain_job(words: &str) -> io::Result<Job> {
     }
 }
 
-/// The trace of a program.
+/// Returns the trace of a program.
 fn trace(alloc: Global, case: &Case<'_>, rest: &str) -> io::Result<Ran> {
     let words = Words::of(rest)?;
     program(alloc, case, words.limit)?.trace(alloc, case, words.selection)
 }
 
-/// What the job of a line comes to.
+/// Runs the job of a line.
 fn ran_of(alloc: Global, case: &Case<'_>, line: Line<'_>) -> io::Result<Ran> {
     let input = match line.word {
         "raw" => return raw(alloc, case, line.rest),
@@ -146,7 +146,7 @@ fn ran_of(alloc: Global, case: &Case<'_>, line: Line<'_>) -> io::Result<Ran> {
     Ok(do_job(alloc, plain_job(line.text)?, &input))
 }
 
-/// Answers what a job wrote, and its message if there is one.
+/// Adds the output of a job, and its message if there is one.
 fn add_ran(alloc: Global, ran: &Ran, came: &mut Came) -> io::Result<()> {
     let text = ran.text(alloc)?;
     if text.as_str().lines().count() > LINES
@@ -163,7 +163,7 @@ fn add_ran(alloc: Global, ran: &Ran, came: &mut Came) -> io::Result<()> {
     add_message(ran, came)
 }
 
-/// Answers the message of a job, if there is one.
+/// Adds the message of a job, if there is one.
 fn add_message(ran: &Ran, came: &mut Came) -> io::Result<()> {
     if !ran.outcome.text().is_empty() {
         came.answer("!", ran.outcome.text())?;
@@ -171,7 +171,7 @@ fn add_message(ran: &Ran, came: &mut Came) -> io::Result<()> {
     Ok(())
 }
 
-/// Answers the session of the debugger: a long line by its length and digest.
+/// Adds the session of the debugger. A long line is replaced by its length and digest.
 fn add_session(alloc: Global, case: &Case<'_>, came: &mut Came) -> io::Result<()> {
     let ran = program(alloc, case, 0)?.debug(alloc, case)?;
     let text = ran.text(alloc)?;
@@ -186,7 +186,7 @@ fn add_session(alloc: Global, case: &Case<'_>, came: &mut Came) -> io::Result<()
     add_message(&ran, came)
 }
 
-/// What comes of a case.
+/// Returns the result of a case.
 pub fn answers(alloc: Global, case: &Case<'_>) -> io::Result<Came> {
     let mut came = Came::new(alloc);
     for line in case.lines.iter() {

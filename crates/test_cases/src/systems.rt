@@ -1,4 +1,4 @@
-//! Cases of programs for whose slot 0 a segment stands in, and of images that are kept.
+//! Cases of programs with a system segment in slot 0, and of images that are saved.
 use crate::case::{Came, Case, Line};
 use crate::jobs::Ran;
 use crate::program::{Program, add_image, add_run, disks, limit};
@@ -8,7 +8,7 @@ use std::alloc::Global;
 use std::io;
 use test_parts::hex_bytes;
 
-/// The image of unit 4, as the lines `on` of the case make it.
+/// Returns the image of unit 4, as the lines `on` of the case make it.
 fn work(alloc: Global, case: &Case<'_>) -> io::Result<Vec<u8>> {
     let file = hex_bytes(alloc, case.value("program").unwrap_or(""))?;
     let mut session = Session::new(alloc, usize::MAX, file);
@@ -20,7 +20,7 @@ fn work(alloc: Global, case: &Case<'_>) -> io::Result<Vec<u8>> {
     Ok(session.image)
 }
 
-/// Answers the images that a run leaves, where they are not the same.
+/// Adds the images that a run leaves, if they changed.
 fn add_images(
     alloc: Global,
     case: &Case<'_>,
@@ -44,7 +44,7 @@ fn add_images(
     Ok(())
 }
 
-/// What comes of a case.
+/// Returns the result of a case.
 pub fn answers(alloc: Global, case: &Case<'_>) -> io::Result<Came> {
     let mut came = Came::new(alloc);
     let system = match case.value("system") {

@@ -1,4 +1,5 @@
-//! Cases of texts: what the assembler makes of a text, and the disassembler of a code file.
+//! Cases of texts: the code file that the assembler makes of a text, and the text that the disassembler makes of a code
+//! file.
 use crate::case::{Came, Case, Line};
 use crate::code_file::code_file;
 use crate::jobs::do_job;
@@ -17,7 +18,7 @@ pub fn has_text(case: &Case<'_>) -> bool {
     case.lines.first().is_some_and(|line| is_text(line.word))
 }
 
-/// The most bytes of a segment that a case shows.
+/// The maximum number of bytes of a segment that a case shows.
 const LONGEST: usize = 300;
 
 /// Adds a line of a text.
@@ -35,7 +36,7 @@ fn add_line(text: &mut Vec<u8>, line: Line<'_>) -> io::Result<()> {
     Ok(())
 }
 
-/// The text of a case.
+/// Returns the text of a case.
 pub fn text(alloc: Global, case: &Case<'_>) -> io::Result<Vec<u8>> {
     let mut text = Vec::new(alloc);
     for line in case.lines.iter() {
@@ -46,7 +47,7 @@ pub fn text(alloc: Global, case: &Case<'_>) -> io::Result<Vec<u8>> {
     Ok(text)
 }
 
-/// The word at a place, 0 behind the end.
+/// Returns the word at an offset in bytes, or 0 after the end.
 fn word_at(bytes: &[u8], place: usize) -> u16 {
     match bytes.get(place..) {
         Some([low, high, ..]) => u16::from(*low) + 256 * u16::from(*high),
@@ -54,7 +55,7 @@ fn word_at(bytes: &[u8], place: usize) -> u16 {
     }
 }
 
-/// Answers the short segments of a code file.
+/// Adds the short segments of a code file.
 fn add_segments(alloc: Global, file: &[u8], came: &mut Came) -> io::Result<()> {
     for slot in 0..16 {
         let first = 512 * usize::from(word_at(file, 4 * slot));
@@ -71,14 +72,14 @@ fn add_segments(alloc: Global, file: &[u8], came: &mut Came) -> io::Result<()> {
     Ok(())
 }
 
-/// Answers the length and the digest of bytes.
+/// Adds the length and the digest of bytes.
 fn add_measured(alloc: Global, word: &str, bytes: &[u8], came: &mut Came) -> io::Result<()> {
     let text = measured(alloc, bytes)?;
     came.answer(word, text.as_str())?;
     Ok(())
 }
 
-/// Answers what the disassembler shows of a code file, with its lines where the case has some.
+/// Adds the output of the disassembler for a code file. It adds the lines if the case contains lines.
 fn add_shown(alloc: Global, case: &Case<'_>, file: &[u8], came: &mut Came) -> io::Result<()> {
     let ran = do_job(alloc, Job::Dis(DisOutput::Text), file);
     if ran.is_refused() {
@@ -95,7 +96,7 @@ fn add_shown(alloc: Global, case: &Case<'_>, file: &[u8], came: &mut Came) -> io
     Ok(())
 }
 
-/// Answers what the assembler makes of a text, and what is shown of it then.
+/// Adds the output of the assembler for a text, and of the disassembler for its code file.
 fn add_assembled(alloc: Global, case: &Case<'_>, came: &mut Came) -> io::Result<()> {
     let text = text(alloc, case)?;
     let made = do_job(alloc, Job::Asm(AsmOutput::File), &text);
@@ -110,7 +111,7 @@ fn add_assembled(alloc: Global, case: &Case<'_>, came: &mut Came) -> io::Result<
     add_shown(alloc, case, &made.written, came)
 }
 
-/// What comes of a case.
+/// Returns the result of a case.
 pub fn answers(alloc: Global, case: &Case<'_>) -> io::Result<Came> {
     let mut came = Came::new(alloc);
     if has_text(case) {

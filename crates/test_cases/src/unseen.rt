@@ -1,4 +1,4 @@
-//! What no job shows, and so no case.
+//! Behavior that no job shows, so that no case can check it.
 ghost use Rattle.std.specs.Prelude.{◌≡◌, ◌++◌, ◌∷◌, [], OnOk};
 
 use pm_codefile::CodeFile;
@@ -12,7 +12,7 @@ const ENDS: &[u8] = &[0xd6];
 
 const HALTS: &[u8] = &[0x00, 0x86];
 
-/// A key waits behind the bytes that wait, whatever the machine has come to, and nothing else of its state changes.
+/// Presses a key. It is added to the end of the console input in any status, and nothing else of the state changes.
 fn key_waits(machine: &mut Machine, byte: u8) -> Result<(), AllocError>
     ensures waits { OnOk result (machine.new.state ≡ record machine.old.state {
       devices =
@@ -22,7 +22,7 @@ fn key_waits(machine: &mut Machine, byte: u8) -> Result<(), AllocError>
     machine.key(byte)
 }
 
-/// What a machine on this code comes to in at most two steps, and a key behind them.
+/// Returns the status of a machine with this code after at most two steps and a key.
 fn status_with_key(alloc: Global, code: &[u8]) -> io::Result<Option<Status>> {
     let Ok(mut machine) = Machine::raw(alloc, code) else {
         return Ok(None);
@@ -32,7 +32,7 @@ fn status_with_key(alloc: Global, code: &[u8]) -> io::Result<Option<Status>> {
     Ok(Some(machine.status()))
 }
 
-/// The kind of slot 1 of a file of empty slots, whose byte 194 is 5: the kinds are words from 192 on.
+/// Returns the kind of slot 1 of a file of empty slots whose byte 194 is 5. The kinds are words from offset 192 on.
 fn kind_of_slot(alloc: Global) -> io::Result<Option<u16>> {
     let mut file = vec![in alloc; 0; 512]?;
     file[194] = 5;
@@ -42,8 +42,8 @@ fn kind_of_slot(alloc: Global) -> io::Result<Option<u16>> {
     Ok(file.slot(1).map(|slot| slot.kind))
 }
 
-/// Rows for what no job does or shows: a key to a machine that has ended or halted, the number of the error of code
-/// that cannot be loaded from its disk, which needs a disk that is taken out, and the kind of a slot.
+/// Returns test rows for behavior that no job shows: a key to a machine that has ended or halted; the number of the
+/// error of code that cannot be loaded from its disk, because the disk was removed; and the kind of a slot.
 pub fn rows(alloc: Global) -> io::Result<String> {
     let ended = status_with_key(alloc, ENDS)?;
     let halted = status_with_key(alloc, HALTS)?;

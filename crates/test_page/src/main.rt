@@ -1,6 +1,6 @@
-//! The tables of docs/INSTRUCTIONS.md, docs/PROCEDURES.md and examples/system/README.md beside the program's: a program
-//! of the gate, whose input is these pages, one behind another. It prints each row that does not say what the program
-//! has, and the number behind the last that has a row.
+//! A test program of CI. It compares the tables of docs/INSTRUCTIONS.md, docs/PROCEDURES.md and
+//! examples/system/README.md with the program. Its input is these pages, one after the other. It prints each table row
+//! that differs from the program, and the number after the last one that has a table row.
 #![tactic(auto)]
 
 mod page;

@@ -6,14 +6,14 @@ use crate::row::{Row, Table};
 use std::alloc::{AllocError, Global};
 use std::marker::Model;
 
-/// How far the page with a table is read.
+/// The state of reading a page with a table.
 #[derive(Drop)]
 pub struct Page {
     table: Table,
-    // The lines are those of the page, and of its section with the table, as far as that goes.
+    // Whether the lines are those of the page, and of its section with the table.
     on_page: bool,
     in_section: bool,
-    // The number that comes next.
+    // The next number.
     next: u16,
 }
 
@@ -22,14 +22,14 @@ impl Model for Page {
 
     ghost view = { λ p. p.next };
 
-    // A byte has no other.
+    // A number is a byte, so that the next one is at most 256.
     ghost invariant = { λ p. record {
       numbers : p.next ≤ 256;
     } };
 }
 
 impl Page {
-    /// Nothing is read.
+    /// Returns the state before the first line.
     pub fn new(table: Table) -> Page {
         Page {
             table,
@@ -39,14 +39,14 @@ impl Page {
         }
     }
 
-    /// The number behind the last one that had its row, in order from the first on.
+    /// Returns the number after the last one that had its table row, in order from the first number on.
     pub fn next(&self) -> u16
         ensures next { result ≤ 256 }
     {
         self.next
     }
 
-    // Looks whether a line begins the page or the section with the table, or another one, or ends the table.
+    // Updates the state if a line begins the page or the section with the table, begins another one, or ends the table.
     fn look(&mut self, line: &str) {
         if line.starts_with("# ") {
             self.on_page = line == self.table.page();
@@ -58,8 +58,7 @@ impl Page {
         }
     }
 
-    /// Reads a line of any page. False for a row of the table that comes out of order, or does not say what the program
-    /// has.
+    /// Reads a line of any page. Returns false for a table row that is out of order or differs from the program.
     pub fn line(&mut self, alloc: Global, line: &str) -> Result<bool, AllocError> {
         self.look(line);
         if !self.in_section {

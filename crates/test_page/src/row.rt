@@ -1,4 +1,4 @@
-//! The rows of a page's table, beside what the program has.
+//! The rows of a page's table, compared with the program.
 
 use pm_notes::{standard_name, system_name};
 use pm_opcode::row_at;
@@ -7,16 +7,16 @@ use std::alloc::{AllocError, Global};
 /// A table of a page.
 #[derive(Clone, Copy, Drop)]
 pub enum Table {
-    /// Of the opcodes.
+    /// The opcodes.
     Opcodes,
-    /// Of the standard procedures, by their numbers.
+    /// The standard procedures, by their numbers.
     Standard,
-    /// Of the system's procedures, by their numbers.
+    /// The procedures of the system, by their numbers.
     System,
 }
 
 impl Table {
-    /// The line that begins the page.
+    /// Returns the line that begins the page.
     pub fn page(self) -> &'static str {
         match self {
             Table::Opcodes => "# Instructions",
@@ -25,7 +25,7 @@ impl Table {
         }
     }
 
-    /// The line that begins the section with the table.
+    /// Returns the line that begins the section with the table.
     pub fn section(self) -> &'static str {
         match self {
             Table::Opcodes | Table::Standard => "## The table",
@@ -33,7 +33,7 @@ impl Table {
         }
     }
 
-    /// The first number: no procedure has number 0.
+    /// Returns the first number. No procedure of the system has the number 0.
     pub fn first(self) -> u8 {
         match self {
             Table::Opcodes | Table::Standard => 0,
@@ -42,7 +42,7 @@ impl Table {
     }
 }
 
-/// A row: its numbers from the first to the last, and the cells behind them.
+/// A table row: its first and last number, and the cells after them.
 #[derive(Clone, Copy)]
 pub struct Row<'a> {
     pub first: u8,
@@ -52,7 +52,7 @@ pub struct Row<'a> {
     fourth: &'a str,
 }
 
-// The numbers of a cell: one, two, a run of them or all from one on.
+// The numbers of a cell: one, two, a range, or all from one on.
 fn numbers(cell: &str) -> Option<(u8, u8)> {
     if let Some(first) = cell.strip_suffix(" on") {
         return Some((first.parse().ok()?, 255));
@@ -66,7 +66,7 @@ fn numbers(cell: &str) -> Option<(u8, u8)> {
 }
 
 impl<'a> Row<'a> {
-    /// The row that a line is, if its first cell has numbers.
+    /// Returns the table row of a line, if the first cell has numbers.
     pub fn of(line: &'a str) -> Option<Row<'a>> {
         let mut cells = line.strip_prefix("| ")?.split('|');
         let (first, last) = numbers(cells.next()?.trim())?;
@@ -82,7 +82,7 @@ impl<'a> Row<'a> {
         })
     }
 
-    // Whether the name and the form are what the table has for an opcode.
+    // Whether the name and the form are those of an opcode.
     fn is_opcode(&self, alloc: Global, op: u8) -> Result<bool, AllocError> {
         let row = row_at(op);
         let name = self.third.split(' ').next().unwrap_or("");
@@ -90,7 +90,7 @@ impl<'a> Row<'a> {
         Ok(name == row.mnemonic && form.as_str() == self.fourth)
     }
 
-    // Whether the opcodes stand in hexadecimal beside their number.
+    // Whether the second cell has the opcodes in hexadecimal.
     fn has_hex(&self, alloc: Global) -> Result<bool, AllocError> {
         let (first, last) = (self.first, self.last);
         let hex = if first == last {
@@ -101,7 +101,7 @@ impl<'a> Row<'a> {
         Ok(hex.as_str() == self.second)
     }
 
-    // Whether each opcode has the name and the form.
+    // Whether each opcode has this name and form.
     fn are_opcodes(&self, alloc: Global) -> Result<bool, AllocError> {
         for op in self.first..=self.last {
             if !self.is_opcode(alloc, op)? {
@@ -111,7 +111,7 @@ impl<'a> Row<'a> {
         self.has_hex(alloc)
     }
 
-    // Whether each standard procedure has its name, and none that the machine has not.
+    // Whether each standard procedure has its name, and exactly those without a name have error 11.
     fn are_standard(&self) -> bool {
         let mut names = self.second.split(", ");
         for number in self.first..=self.last {
@@ -127,7 +127,7 @@ impl<'a> Row<'a> {
         true
     }
 
-    // Whether each of the system's procedures from 2 to 29 has its name, and no other one has.
+    // Whether each procedure of the system from 2 to 29 has its name, and no other number has one.
     fn are_of_system(&self) -> bool {
         let mut names = self.second.split(", ");
         for number in self.first..=self.last {
@@ -143,7 +143,7 @@ impl<'a> Row<'a> {
         true
     }
 
-    /// Whether what the row says is what the program has.
+    /// Whether the table row agrees with the program.
     pub fn is_so(&self, alloc: Global, table: Table) -> Result<bool, AllocError> {
         match table {
             Table::Opcodes => self.are_opcodes(alloc),

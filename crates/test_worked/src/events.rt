@@ -1,4 +1,4 @@
-//! What is done with a machine.
+//! Actions on a machine.
 use crate::scene::{asked, mount_blank, with_refusal};
 use crate::spelled::words;
 use pm_machine::{Machine, Stop};
@@ -6,10 +6,10 @@ use std::alloc::{AllocError, Global};
 use std::io;
 use test_parts::{byte, hex_bytes, steps, unreadable, word};
 
-/// The most steps of a run that does not say how many go.
+/// The maximum number of steps of a run that does not state its limit.
 const STEPS: u64 = 1_000_000;
 
-/// What a step comes to.
+/// Returns the text of the result of a step.
 pub fn outcome(alloc: Global, stop: Stop) -> Result<String, AllocError> {
     match stop {
         Stop::Went => String::from_str(alloc, "went"),
@@ -22,7 +22,7 @@ pub fn outcome(alloc: Global, stop: Stop) -> Result<String, AllocError> {
     }
 }
 
-/// One step. Where it waits or fails all is as it was.
+/// Executes one step. If it waits or fails, the state must be unchanged.
 fn step(alloc: Global, machine: &mut Machine) -> io::Result<String> {
     let (registers, steps) = (machine.registers(), machine.steps());
     let (console, printer) = (machine.console().len(), machine.printer().len());
@@ -40,7 +40,7 @@ fn step(alloc: Global, machine: &mut Machine) -> io::Result<String> {
     Ok(format!(in alloc; "step {text}")?)
 }
 
-/// A run: `COUNT OUTCOME`. It has that limit where all steps went.
+/// Runs the machine: `COUNT OUTCOME`. If the outcome is `went`, the count is the limit.
 fn run(alloc: Global, machine: &mut Machine, rest: &str) -> io::Result<String> {
     let (count, wanted) = rest.split_once(' ').ok_or_else(unreadable)?;
     let limit = match wanted {
@@ -52,7 +52,7 @@ fn run(alloc: Global, machine: &mut Machine, rest: &str) -> io::Result<String> {
     Ok(format!(in alloc; "run {made} {text}")?)
 }
 
-/// Writes words from an address on: `A W ..`; whether all are written.
+/// Writes words from an address on: `A W ..`. Returns whether all were written.
 fn poke(alloc: Global, machine: &mut Machine, rest: &str) -> io::Result<bool> {
     let (address, text) = rest.split_once(' ').ok_or_else(unreadable)?;
     let mut address = word(address)?;
@@ -71,7 +71,7 @@ fn disk(alloc: Global, machine: &mut Machine, line: &str, rest: &str) -> io::Res
     with_refusal(alloc, asked(line), refusal)
 }
 
-/// Takes a disk away: `UNIT BLOCKS`, or `UNIT none`.
+/// Removes a disk: `UNIT BLOCKS`, or `UNIT none`.
 fn eject(alloc: Global, machine: &mut Machine, rest: &str) -> io::Result<String> {
     let (unit, _) = rest.split_once(' ').ok_or_else(unreadable)?;
     match machine.eject(byte(unit)?) {
@@ -91,7 +91,7 @@ fn keys(alloc: Global, machine: &mut Machine, line: &str, rest: &str) -> io::Res
     Ok(String::from_str(alloc, line)?)
 }
 
-/// Writes words, and says so.
+/// Writes words and returns the line, with `refused` if one was not written.
 fn pokes(alloc: Global, machine: &mut Machine, line: &str, rest: &str) -> io::Result<String> {
     let all = poke(alloc, machine, asked(rest))?;
     let mut answer = String::from_str(alloc, asked(line))?;
@@ -101,12 +101,12 @@ fn pokes(alloc: Global, machine: &mut Machine, line: &str, rest: &str) -> io::Re
     Ok(answer)
 }
 
-/// Whether a line with this word does something with a machine, and is no view.
+/// Whether a line with this word is an action on a machine, not a view.
 pub fn is_event(word: &str) -> bool {
     matches!(word, "step" | "run" | "disk" | "eject" | "key" | "poke")
 }
 
-/// Does what a line says that is no view: what it comes to.
+/// Executes the action of a line and returns the line with the actual result.
 pub fn on_machine(alloc: Global, machine: &mut Machine, line: &str) -> io::Result<String> {
     let (word, rest) = line.split_once(' ').unwrap_or((line, ""));
     match word {

@@ -1,7 +1,7 @@
-//! Worked rows, written by hand from the rules of docs/, beside what the machine does: a program of the gate. It prints
-//! for each file of data/ how many agree, and of the first that does not its line, what was expected and what came.
-//! The head of data/integers.rows says how rows are written (`INN 8B | 1 8 3 | 1`), that of data/machine.rows how
-//! scenes are, which an empty line ends.
+//! A test program of CI. It compares worked examples, written manually from the rules of docs/, with the machine. It
+//! prints for each file of data/ how many agree. For the first one that does not agree it prints the line, the expected
+//! result and the actual one. The head of data/integers.rows states how test rows are written (`INN 8B | 1 8 3 | 1`).
+//! The head of data/machine.rows states how scenes are written; an empty line ends a scene.
 #![tactic(auto)]
 
 mod code_file;
@@ -18,7 +18,7 @@ mod views;
 use report::replay;
 use std::{fs, io};
 
-/// The files. The rows of the last one are wrong on purpose, but for the first of each kind.
+/// The files. The test rows of the last file are wrong on purpose, except the first one of each kind.
 const FILES: [&str; 8] = [
     "operands.rows",
     "integers.rows",

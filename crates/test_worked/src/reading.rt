@@ -1,17 +1,17 @@
-//! Rows of one instruction as it is read: `read PLACE HEX | OPCODE A B C LONG START COUNT LEN`, or the fault.
+//! Test rows of one instruction that is decoded: `read PLACE HEX | OPCODE A B C LONG START COUNT LEN`, or the fault.
 use pm_opcode::{Decode, Instr, decode, encode};
 use std::alloc::{AllocError, Global};
 use std::io;
 use test_parts::{hex_bytes, hex_text, number, unreadable};
 
-/// The fields of an instruction.
+/// Returns the fields of an instruction.
 fn fields(alloc: Global, i: &Instr) -> Result<String, AllocError> {
     let (op, a, b, c) = (i.op, i.a, i.b, i.c);
     let (long, start, count, len) = (u8::from(i.long), i.start, i.count, i.len);
     format!(in alloc; "{op} {a} {b} {c} {long} {start} {count} {len}")
 }
 
-/// The name of a fault.
+/// Returns the name of a fault.
 fn fault(fault: Decode) -> &'static str {
     match fault {
         Decode::Truncated => "truncated",
@@ -20,7 +20,8 @@ fn fault(fault: Decode) -> &'static str {
     }
 }
 
-/// What came where a row does not agree. What was read has to be written again as the bytes from the place on.
+/// Returns the actual result if a test row does not agree. A decoded instruction must be encoded as the same bytes
+/// again.
 pub fn differing(alloc: Global, line: &str) -> io::Result<Option<String>> {
     let (given, wanted) = line.split_once('|').ok_or_else(unreadable)?;
     let given = given.strip_prefix("read ").ok_or_else(unreadable)?;

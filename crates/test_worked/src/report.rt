@@ -1,4 +1,4 @@
-//! The replay of a file: each row and each scene, and what is said of the first that does not agree.
+//! The replay of a file: each test row and each scene, and the report on the first one that does not agree.
 use crate::scene::Scene;
 use crate::{reading, row};
 use std::alloc::Global;
@@ -6,16 +6,16 @@ use std::io;
 use std::io::ErrorKind;
 use test_parts::Report;
 
-/// How far a file is replayed.
+/// The state of the replay of a file.
 #[derive(Drop)]
 struct FileRun {
     alloc: Global,
     report: Report,
-    /// The scene that goes on.
+    /// The current scene.
     scene: Scene,
 }
 
-/// What came where it is not what a line says; a line that cannot be read agrees with nothing.
+/// Returns the actual result if it is not that of the line. A line that cannot be read never agrees.
 fn differing(alloc: Global, came: io::Result<Option<String>>) -> io::Result<Option<String>> {
     match came {
         Err(error) if error.kind() == ErrorKind::InvalidData => Ok(Some(String::from_str(
@@ -27,7 +27,7 @@ fn differing(alloc: Global, came: io::Result<Option<String>>) -> io::Result<Opti
 }
 
 impl FileRun {
-    /// Counts a line that does not agree: where it stands, what was expected, and what came.
+    /// Counts a line that does not agree, with its number, the expected result and the actual one.
     fn differs(&mut self, number: usize, line: &str, came: &str) -> io::Result<()> {
         let told = format!(in self.alloc;
             "  line {number}\n  expected: {line}\n  came:     {came}\n"
@@ -36,7 +36,7 @@ impl FileRun {
         Ok(())
     }
 
-    /// Counts a row.
+    /// Counts a test row.
     fn add(
         &mut self,
         number: usize,
@@ -50,7 +50,7 @@ impl FileRun {
         Ok(())
     }
 
-    /// Does a line of a scene, if all lines of it before agree.
+    /// Executes a line of a scene if all its lines before agree.
     fn go_on(&mut self, number: usize, line: &str) -> io::Result<()> {
         if self.scene.fails {
             return Ok(());
@@ -72,7 +72,7 @@ impl FileRun {
         self.scene.end();
     }
 
-    /// Does a line of the file.
+    /// Reads a line of the file.
     fn line(&mut self, number: usize, whole: &str) -> io::Result<()> {
         let (line, _) = whole.split_once('#').unwrap_or((whole, ""));
         let line = line.trim();

@@ -1,4 +1,4 @@
-//! Rows of one instruction: `MNEMONIC HEX | STACK ; MORE | STACK ; MORE`, stacks with their top first.
+//! Test rows of one instruction: `MNEMONIC HEX | STACK ; MORE | STACK ; MORE`. The first word of a stack is its top.
 use crate::events::outcome;
 use crate::sides::Side;
 use crate::start::machine;
@@ -9,13 +9,13 @@ use std::alloc::{AllocError, Global};
 use std::io;
 use test_parts::{hex_bytes, hex_text, unreadable};
 
-/// The most words of the stack that are shown.
+/// The maximum number of stack words that are printed.
 const WORDS: u16 = 8;
 
-/// Where the stack ends.
+/// The end of the stack.
 const STACK_END: u16 = 65504;
 
-/// Adds the words from SP upward.
+/// Adds the words from SP up.
 fn add_stack(alloc: Global, machine: &Machine, text: &mut String) -> Result<(), AllocError> {
     let sp = machine.registers().sp;
     for place in 0..WORDS {
@@ -30,7 +30,7 @@ fn add_stack(alloc: Global, machine: &Machine, text: &mut String) -> Result<(), 
     Ok(())
 }
 
-/// Adds the first byte in which two memories differ.
+/// Adds the first byte that differs in two memories.
 fn add_byte(
     alloc: Global,
     there: &Memory,
@@ -46,7 +46,7 @@ fn add_byte(
     Ok(())
 }
 
-/// Adds what was written where it is not what was to be.
+/// Adds the output if it is not the expected output.
 fn add_output(
     alloc: Global,
     what: &str,
@@ -61,7 +61,7 @@ fn add_output(
     Ok(())
 }
 
-/// What a machine came to: the outcome, the stack, and what differs.
+/// Returns the actual result: the outcome, the stack, and the differences.
 fn told(
     alloc: Global,
     machine: &Machine,
@@ -93,7 +93,7 @@ fn told(
     Ok(text)
 }
 
-/// Whether a machine is as wanted.
+/// Whether the machine is as expected.
 fn agrees(machine: &Machine, wanted: &Side) -> bool {
     machine.registers() == wanted.registers
         && machine.memory().bytes() == wanted.memory.bytes()
@@ -101,7 +101,7 @@ fn agrees(machine: &Machine, wanted: &Side) -> bool {
         && machine.printer() == wanted.printer.as_slice()
 }
 
-/// The bytes of an instruction behind its mnemonic, which is that of the table; `-` is none.
+/// Returns the bytes of an instruction. The mnemonic before them must be that of the table; `-` means none.
 fn code(alloc: Global, text: &str) -> io::Result<Vec<u8>> {
     let (name, digits) = text.split_once(' ').ok_or_else(unreadable)?;
     let code = hex_bytes(alloc, digits)?;
@@ -114,7 +114,7 @@ fn code(alloc: Global, text: &str) -> io::Result<Vec<u8>> {
     }
 }
 
-/// What came where a row does not agree.
+/// Returns the actual result if a test row does not agree.
 pub fn differing(alloc: Global, line: &str) -> io::Result<Option<String>> {
     let (instruction, sides) = line.split_once('|').ok_or_else(unreadable)?;
     let (before, after) = sides.split_once('|').ok_or_else(unreadable)?;

@@ -1,5 +1,5 @@
-//! Scenes: a machine on bare code or on a volume, and lines that are done one after the other. Each line says itself
-//! again where it agrees.
+//! Scenes: a machine on raw p-code or on a volume, and lines that are executed one after the other. The result of a
+//! line that agrees is the line itself.
 use crate::code_file::volume;
 use crate::events::{is_event, on_machine};
 use crate::views::view;
@@ -12,19 +12,19 @@ use test_parts::{Segment, byte, hex_bytes, number, unreadable};
 /// A scene.
 #[derive(Drop)]
 pub struct Scene {
-    /// It has begun.
+    /// Whether it has begun.
     pub goes: bool,
-    /// One of its lines did not agree.
+    /// Whether one of its lines did not agree.
     pub fails: bool,
     machine: Option<Machine>,
-    /// The bare code of the last scene that has some.
+    /// The raw p-code of the last scene that has some.
     code: Vec<u8>,
     segments: Vec<Segment>,
     kind: u8,
     clock: u32,
 }
 
-/// Puts a blank volume on a unit; none where it went there, else the fault's number.
+/// Mounts a blank volume on a unit. Returns the number of the fault if the mount is refused.
 pub fn mount_blank(
     alloc: Global,
     machine: &mut Machine,
@@ -35,7 +35,7 @@ pub fn mount_blank(
     Ok(mount(machine, unit, volume))
 }
 
-/// Puts a volume on a unit; none where it went there, else the fault's number.
+/// Mounts a volume on a unit. Returns the number of the fault if the mount is refused.
 pub fn mount(machine: &mut Machine, unit: u8, volume: Volume) -> Option<u8> {
     match machine.mount(unit, volume) {
         Ok(()) => None,
@@ -43,7 +43,7 @@ pub fn mount(machine: &mut Machine, unit: u8, volume: Volume) -> Option<u8> {
     }
 }
 
-/// A line, and behind it the number of its refusal, if there is one.
+/// Returns a line with the number of its refusal after it, if there is one.
 pub fn with_refusal(alloc: Global, line: &str, refusal: Option<u8>) -> io::Result<String> {
     let mut text = String::from_str(alloc, line)?;
     if let Some(number) = refusal {
@@ -53,14 +53,14 @@ pub fn with_refusal(alloc: Global, line: &str, refusal: Option<u8>) -> io::Resul
     Ok(text)
 }
 
-/// A line without what stands behind `refused`.
+/// Returns a line without ` refused` and the text after it.
 pub fn asked(line: &str) -> &str {
     let (asked, _) = line.split_once(" refused").unwrap_or((line, ""));
     asked
 }
 
 impl Scene {
-    /// No scene yet.
+    /// Returns a scene that has not begun.
     pub fn new(alloc: Global) -> Scene {
         Scene {
             goes: false,
@@ -73,7 +73,7 @@ impl Scene {
         }
     }
 
-    /// Ends the scene; its code is kept for `again`.
+    /// Ends the scene. Its raw p-code remains for `again`.
     pub fn end(&mut self) {
         self.goes = false;
         self.fails = false;
@@ -83,14 +83,14 @@ impl Scene {
         self.clock = 0;
     }
 
-    /// Begins on the bare code.
+    /// Starts a machine on the raw p-code.
     fn begin(&mut self, alloc: Global) -> io::Result<()> {
         let machine = Machine::raw(alloc, &self.code).map_err(|_| unreadable())?;
         self.machine = Some(machine);
         Ok(())
     }
 
-    /// Gives a slot its code: `N HEX`.
+    /// Sets the code of a slot: `N HEX`.
     fn add_segment(&mut self, alloc: Global, rest: &str) -> io::Result<()> {
         let (slot, digits) = rest.split_once(' ').ok_or_else(unreadable)?;
         let slot = number(slot)?;
@@ -105,8 +105,7 @@ impl Scene {
         Ok(())
     }
 
-    /// Boots from the volume on unit 4: `UNIT NAME`; the fault's number and that of an execution error where it is
-    /// refused.
+    /// Boots a machine from a volume on unit 4: `UNIT NAME`. Returns the fault if the boot is refused.
     fn boot(&mut self, alloc: Global, rest: &str) -> io::Result<Option<BootFault>> {
         let (unit, name) = asked(rest).split_once(' ').ok_or_else(unreadable)?;
         let unit = byte(unit)?;
@@ -129,7 +128,7 @@ impl Scene {
         Ok(mount(machine, unit, volume))
     }
 
-    /// Does a line that says how the scene goes on, and is answered by itself.
+    /// Executes a line that prepares the scene. Its result is always the line itself.
     fn prepare(&mut self, alloc: Global, word: &str, rest: &str) -> io::Result<()> {
         match word {
             "code" => {
@@ -149,7 +148,7 @@ impl Scene {
         }
     }
 
-    /// Does a line, and says it as it comes out.
+    /// Executes a line and returns it with the actual result.
     fn answer(&mut self, alloc: Global, line: &str) -> io::Result<String> {
         let (word, rest) = line.split_once(' ').unwrap_or((line, ""));
         match word {
@@ -176,7 +175,7 @@ impl Scene {
         }
     }
 
-    /// What came where a line does not agree.
+    /// Returns the actual result if a line does not agree.
     pub fn differing(&mut self, alloc: Global, line: &str) -> io::Result<Option<String>> {
         let answer = self.answer(alloc, line)?;
         if answer.as_str() == line {

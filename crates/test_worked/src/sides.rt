@@ -1,4 +1,4 @@
-//! The two sides of a row: what is given, and what is wanted.
+//! The two sides of a test row: the input and the expected result.
 use crate::spelled::words;
 use pm_machine::Registers;
 use pm_words::Memory;
@@ -6,10 +6,10 @@ use std::alloc::Global;
 use std::io;
 use test_parts::{byte, hex_bytes, unreadable, word};
 
-/// Where the stack ends.
+/// The end of the stack.
 const STACK_END: u16 = 65504;
 
-/// The registers of a row but for SP, IPC and what it names itself.
+/// The registers of a test row, except SP, IPC and the registers that the row sets itself.
 const REGISTERS: Registers = Registers {
     sp: STACK_END,
     ipc: 1024,
@@ -21,18 +21,18 @@ const REGISTERS: Registers = Registers {
     ioresult: 0,
 };
 
-/// A machine before an instruction, or behind it.
+/// The state of a machine before or after an instruction.
 #[derive(Drop)]
 pub struct Side {
     pub registers: Registers,
     pub memory: Box<Memory>,
-    /// The addresses of the words of the memory that were written, which was zero before.
+    /// The addresses of the memory words that were written. All other words are zero.
     pub written: Vec<u16>,
-    /// What a step comes to.
+    /// The result of a step.
     pub outcome: String,
-    /// The bytes that wait before it.
+    /// The bytes in the console input before the step.
     pub keys: Vec<u8>,
-    /// Blank disks: the unit, and the blocks.
+    /// Blank disks: the unit and the number of blocks.
     pub disks: Vec<(u8, u16)>,
     pub console: Vec<u8>,
     pub printer: Vec<u8>,
@@ -52,14 +52,14 @@ impl Side {
         })
     }
 
-    /// The state before the instruction, which stands at IPC.
+    /// Returns the state before the instruction at IPC.
     pub fn given(alloc: Global, code: &[u8], text: &str) -> io::Result<Side> {
         let mut side = Side::new(alloc)?;
         side.give(alloc, code, text)?;
         Ok(side)
     }
 
-    /// Puts what a row gives.
+    /// Applies the input of a test row.
     fn give(&mut self, alloc: Global, code: &[u8], text: &str) -> io::Result<()> {
         let mut pieces = text.split(';');
         let stack = words(alloc, pieces.next().unwrap_or("").trim())?;
@@ -71,7 +71,8 @@ impl Side {
         self.write(place, code)
     }
 
-    /// The state behind an instruction of so many bytes, or the same one behind an error and where it waits.
+    /// Returns the expected state after an instruction of `length` bytes. After an error or a wait it is the state
+    /// before, changed only by the pieces of the test row.
     pub fn wanted(alloc: Global, before: &Side, length: u16, text: &str) -> io::Result<Side> {
         let mut side = Side::new(alloc)?;
         side.registers = before.registers;
@@ -80,7 +81,7 @@ impl Side {
         Ok(side)
     }
 
-    /// Puts what a row expects of an instruction of this length.
+    /// Applies the expected result of an instruction of `length` bytes.
     fn want(&mut self, alloc: Global, length: u16, text: &str) -> io::Result<()> {
         let mut pieces = text.split(';');
         let first = pieces.next().unwrap_or("").trim();
@@ -96,7 +97,7 @@ impl Side {
         Ok(())
     }
 
-    /// Writes the words of the stack, the top first, which ends at 65,504.
+    /// Pushes the words of a stack. The first word is the top, and the stack ends at 65,504.
     fn push_all(&mut self, stack: &[u16]) -> io::Result<()> {
         if stack.len() > 32752 {
             return Err(unreadable());
@@ -112,7 +113,7 @@ impl Side {
         Ok(())
     }
 
-    /// Writes bytes.
+    /// Writes bytes to memory.
     fn write(&mut self, address: u16, bytes: &[u8]) -> io::Result<()> {
         if !self.memory.write(address, bytes) {
             return Err(unreadable());
@@ -125,7 +126,7 @@ impl Side {
         Ok(())
     }
 
-    /// Puts what a piece names: `A: HEX`, bytes of the memory; a register; bytes of the console.
+    /// Applies a piece: `A: HEX` for bytes of memory, a register, or bytes of the console or of another stream.
     fn put(&mut self, alloc: Global, piece: &str) -> io::Result<()> {
         if let Some((address, digits)) = piece.split_once(':') {
             let bytes = hex_bytes(alloc, digits.trim())?;
@@ -143,7 +144,7 @@ impl Side {
         Ok(())
     }
 
-    /// Puts a register.
+    /// Sets a register.
     fn put_register(&mut self, name: &str, word: u16) -> io::Result<()> {
         match name {
             "np" => self.registers.np = word,
@@ -158,7 +159,7 @@ impl Side {
         Ok(())
     }
 
-    /// Puts the keys, or the bytes of a stream.
+    /// Sets the keys or the bytes of a stream.
     fn put_bytes(&mut self, name: &str, bytes: Vec<u8>) {
         match name {
             "keys" => self.keys = bytes,

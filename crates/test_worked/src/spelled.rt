@@ -1,9 +1,9 @@
-//! How a row spells words.
+//! The words of a test row.
 use std::alloc::Global;
 use std::io;
 use test_parts::{number, unreadable, word};
 
-/// Words with blanks between them; `N*W` is a word N times.
+/// Returns words that are separated by spaces. `N*W` is N times the word W.
 pub fn words(alloc: Global, text: &str) -> io::Result<Vec<u16>> {
     let mut words = Vec::new(alloc);
     for piece in text.split(' ') {
@@ -15,7 +15,7 @@ pub fn words(alloc: Global, text: &str) -> io::Result<Vec<u16>> {
     Ok(words)
 }
 
-/// Adds a word so many times, which are no more than memory has words.
+/// Adds a word `count` times. The count is at most 32,768, the number of words of memory.
 fn add_times(words: &mut Vec<u16>, count: usize, word: u16) -> io::Result<()> {
     if count > 32768 {
         return Err(unreadable());

@@ -1,4 +1,4 @@
-//! A machine in the state before a row, which it comes to by calls that anyone can make: pokes, and six steps.
+//! A machine in the state before a test row. It reaches this state only by public calls: pokes and six steps.
 use crate::scene::mount_blank;
 use crate::sides::Side;
 use pm_machine::{Machine, Stop};
@@ -6,22 +6,22 @@ use std::alloc::Global;
 use std::io;
 use test_parts::unreadable;
 
-/// RNP 0, from the frame of the system, whose dynamic link and IPC are written over.
+/// RNP 0 in the frame of the system. The dynamic link and the IPC of this frame are overwritten.
 const RETURN: &[u8] = &[0xAD, 0x00];
 
-/// Where that stands.
+/// The address of this code.
 const RETURNS: u16 = 1024;
 
-/// The second frame: the word below it is BASE.
+/// The address of the second frame. The word below it is BASE.
 const FRAME: u16 = 5000;
 
-/// The word of which RELEASE makes NP.
+/// The address of the word that RELEASE loads into NP.
 const MARKED: u16 = 5100;
 
-/// Where the code stands that the first return goes to.
+/// The address of the code to which the first return leads.
 const CODE: u16 = 1000;
 
-/// The first word of LDCI of the unit whose UNITCLEAR comes to this IORESULT: 1, 0 or 3.
+/// Returns the first word of an LDCI of a unit for which UNITCLEAR results in this IORESULT: unit 1, 0 or 3.
 fn load_unit(ioresult: u16) -> io::Result<u16> {
     match ioresult {
         0 => Ok(0x01C7),
@@ -58,10 +58,10 @@ fn put_code(machine: &mut Machine, side: &Side) -> io::Result<()> {
     Ok(())
 }
 
-/// The words that are written on the way: the frames, the code, and one below the end of the stack.
+/// The words that are overwritten on the way: the frames, the code, and words below the end of the stack.
 const WRITTEN: [(u16, u16); 4] = [(CODE, 6), (RETURNS, 1), (FRAME - 2, 52), (65492, 6)];
 
-/// Makes the memory that of the row, which is zero where the row writes nothing.
+/// Sets the memory to that of the test row. Words that the row does not write are zero.
 fn put_memory(machine: &mut Machine, side: &Side) {
     for (first, count) in WRITTEN {
         for n in 0..count {
@@ -73,7 +73,7 @@ fn put_memory(machine: &mut Machine, side: &Side) {
     }
 }
 
-/// Brings a machine that has begun into the state.
+/// Brings a new machine into the state.
 fn put_state(alloc: Global, machine: &mut Machine, side: &Side) -> io::Result<()> {
     put_code(machine, side)?;
     if machine.run(6)? != (6, Stop::Went) || machine.registers() != side.registers {
@@ -89,7 +89,7 @@ fn put_state(alloc: Global, machine: &mut Machine, side: &Side) -> io::Result<()
     Ok(())
 }
 
-/// The machine.
+/// Returns the machine in the state before a test row.
 pub fn machine(alloc: Global, side: &Side) -> io::Result<Machine> {
     let mut machine = Machine::raw(alloc, RETURN).map_err(|_| unreadable())?;
     put_state(alloc, &mut machine, side)?;

@@ -1,10 +1,10 @@
-//! What a machine shows.
+//! Views of a machine.
 use pm_machine::Machine;
 use std::alloc::{AllocError, Global};
 use std::io;
 use test_parts::{byte, hex_text, number, unreadable, word};
 
-/// Numbers with blanks between them.
+/// Returns numbers with spaces between them.
 fn numbers(alloc: Global, numbers: &[u16]) -> Result<String, AllocError> {
     let mut text = String::new(alloc);
     for number in numbers {
@@ -17,7 +17,7 @@ fn numbers(alloc: Global, numbers: &[u16]) -> Result<String, AllocError> {
     Ok(text)
 }
 
-/// How many words a text has.
+/// Returns the number of words in a text.
 fn count(text: &str) -> usize {
     if text.is_empty() {
         return 0;
@@ -25,7 +25,7 @@ fn count(text: &str) -> usize {
     text.split(' ').count()
 }
 
-/// The first registers of IPC, SP, MP, BASE, NP and IORESULT, so many as are asked for.
+/// Returns the first of the registers IPC, SP, MP, BASE, NP and IORESULT, as many as the view contains.
 fn registers(alloc: Global, machine: &Machine, rest: &str) -> io::Result<String> {
     let r = machine.registers();
     let all = [r.ipc, r.sp, r.mp, r.base, r.np, r.ioresult];
@@ -33,7 +33,7 @@ fn registers(alloc: Global, machine: &Machine, rest: &str) -> io::Result<String>
     Ok(numbers(alloc, some)?)
 }
 
-/// So many words from an address on.
+/// Returns `count` words from an address on.
 fn words(
     alloc: Global,
     machine: &Machine,
@@ -51,7 +51,7 @@ fn words(
     Ok(words)
 }
 
-/// The words from an address on, as many as are asked for: `A W ..`.
+/// Returns the words from an address on, as many as the view contains: `A W ..`.
 fn words_at(alloc: Global, machine: &Machine, rest: &str) -> io::Result<String> {
     let (address, asked) = rest.split_once(' ').ok_or_else(unreadable)?;
     let there = words(alloc, machine, word(address)?, count(asked))?;
@@ -59,7 +59,7 @@ fn words_at(alloc: Global, machine: &Machine, rest: &str) -> io::Result<String> 
     Ok(format!(in alloc; "{address} {text}")?)
 }
 
-/// The bytes from an address on, as many as are asked for: `A HEX`.
+/// Returns the bytes from an address on, as many as the view contains: `A HEX`.
 fn bytes_at(alloc: Global, machine: &Machine, rest: &str) -> io::Result<String> {
     let (address, asked) = rest.split_once(' ').ok_or_else(unreadable)?;
     let begin = number(address)?;
@@ -73,8 +73,8 @@ fn bytes_at(alloc: Global, machine: &Machine, rest: &str) -> io::Result<String> 
     Ok(format!(in alloc; "{address} {text}")?)
 }
 
-/// Where the segment of a slot stands, for how many calls, and how many times it is kept: `N A CALLS KEEPS`, or
-/// `N none`.
+/// Returns the address of the segment of a slot, the number of its calls, and the number of its keeps: `N A CALLS
+/// KEEPS`, or `N none`.
 fn place(alloc: Global, machine: &Machine, rest: &str) -> io::Result<String> {
     let (slot, _) = rest.split_once(' ').ok_or_else(unreadable)?;
     let n = byte(slot)?;
@@ -88,7 +88,7 @@ fn place(alloc: Global, machine: &Machine, rest: &str) -> io::Result<String> {
     }
 }
 
-/// What a view shows, behind its word.
+/// Returns the content of a view, without its first word.
 fn shown(alloc: Global, machine: &Machine, word: &str, rest: &str) -> io::Result<String> {
     let r = machine.registers();
     let one = match word {
@@ -101,7 +101,7 @@ fn shown(alloc: Global, machine: &Machine, word: &str, rest: &str) -> io::Result
     Ok(numbers(alloc, &[one])?)
 }
 
-/// What a view shows that is not of one register.
+/// Returns the content of a view that is not a single register.
 fn many(alloc: Global, machine: &Machine, word: &str, rest: &str) -> io::Result<String> {
     let r = machine.registers();
     match word {
@@ -120,7 +120,7 @@ fn many(alloc: Global, machine: &Machine, word: &str, rest: &str) -> io::Result<
     }
 }
 
-/// A view as it shows the machine.
+/// Returns a view of the machine, with its first word.
 pub fn view(alloc: Global, machine: &Machine, word: &str, rest: &str) -> io::Result<String> {
     let text = shown(alloc, machine, word, rest)?;
     let mut line = String::from_str(alloc, word)?;

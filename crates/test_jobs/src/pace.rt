@@ -51,8 +51,8 @@ fn makes(
     Ok(())
 }
 
-/// A run executes its first step by itself, to see what the console reads or writes. It executes all others by one call
-/// of the fast path.
+/// A run executes its first step by itself, to see what it adds to the console output. It executes all others by one
+/// call of the fast path.
 #[test]
 fn runs_go_quickly(rt: HostRuntime) -> Result<(), BootFault> {
     let saving = Saving::Nothing;

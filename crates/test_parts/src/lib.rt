@@ -1,8 +1,8 @@
-//! Tests of facts that no row and no output shows: opcodes, calls and returns, volumes, code files; steps on the fast
-//! execution path; large memory use; and two machines with the same program.
+//! Tests of facts that no table row and no output shows: opcodes, calls and returns, volumes, code files; steps on the
+//! fast execution path; large memory use; and two machines with the same program.
 //!
-//! It also has functions that other test crates use: programs; how rows and cases spell numbers and bytes; the code file
-//! that they give a machine; and the report of how many cases agree.
+//! It also has functions that other test crates use: programs; how test rows and cases spell numbers and bytes; the
+//! code file that they pass to a machine; and the report of how many cases agree.
 #![tactic(auto)]
 
 pub mod any_bytes;

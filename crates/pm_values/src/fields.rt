@@ -51,7 +51,7 @@ pub fn store_byte(memory: &mut Memory, sp: u16, np: u16) -> Result<u16, ExecErro
 ///
 /// # Errors
 ///
-/// Nothing changes:
+/// Nothing changes. Checked in this order:
 /// - `InvalidMemory`: the stack has too few words.
 /// - `InvalidIndex`: the index is negative, `per_word` is 0, or the bits are not a field of a word.
 /// - `StackOverflow`: SP would be below NP.

@@ -11,8 +11,8 @@ use Rattle.pm_calls.specs.Places.{Parts}
 use Rattle.pm_calls.specs.Tables.{self_relative}
 use Rattle.pm_words.specs.declared.layout.TheConstants.{SYSTEM_FRAME}
 
--- Whether the procedure whose segment has its highest word at `s`, and whose table is at `j`, is the requested one: the
--- low bytes of these two words are the requested numbers. Both words are always read.
+-- Whether the procedure whose segment has its highest word at `s`, and whose table is at `j`, is the requested one. The
+-- low bytes of these two words must be the requested numbers. Both words are always read.
 abbrev pub is_wanted : List ℕ → Wanted → ℕ → ℕ → Result Bool ExecError
 is_wanted m p s j = do
   segment ← load m s

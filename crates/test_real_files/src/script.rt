@@ -65,9 +65,13 @@ the circle: |kind c
 a link to a folder: |replace d
 ";
 
-/// The path of the temporary file has, in turn: a file that another program has open; a link to that file, to nothing,
-/// to the image, in a circle and to a folder; a second hard link to that file. Each is removed, and the file of the
-/// other program is unchanged.
+/// The path of the temporary file has one of these, in turn:
+///
+/// - a file that another program has open;
+/// - a link to the file `theirs`, to nothing, to the image, in a circle, or to a folder;
+/// - a second hard link to the file `theirs`.
+///
+/// Each is removed, and the file `theirs` is unchanged.
 const TAKEN_AWAY: &str = "\
 |make a old 600||make a.pmach-new theirs 666||open a.pmach-new
 their file stands there: |replace a

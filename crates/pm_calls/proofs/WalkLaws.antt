@@ -39,7 +39,7 @@ stops m p a i = not (goes_on (met m p (frame_up m a i)))
 pub stops-not : (m : List ℕ) (p : Wanted) (a n : ℕ) → Passes m p a n → (i : ℕ) → i < n → stops m p a i ≡ false
 stops-not m p a n h i l = rw (h i l) refl
 
--- The walk stops at the first frame whose caller is the wanted procedure.
+-- The walk stops at the first frame whose caller is the requested procedure.
 pub walked-there : (m : List ℕ) (p : Wanted) (a k : ℕ) → k < 32768 → Passes m p a k → met m p (frame_up m a k) ≡ Ok true
     → walked m p a ≡ Ok (with_exits m a (k + 1))
 unfolding walked last_frame

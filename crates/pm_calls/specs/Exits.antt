@@ -1,5 +1,5 @@
 -- EXIT: leaving a procedure that is given by its numbers. The running procedure, and each of its callers up to the
--- wanted one, continues at the exit address in its own table. So they return one after the other.
+-- requested one, continues at the exit address in its own table. So they return one after the other.
 use Rattle.std.specs.Prelude.{ℕ, zero, suc, ◌+◌, ◌%◌, Bool, false, not, ◌&&◌, ◌||◌, List}
 use Rattle.std.specs.Prelude.{Option, Some, None, Result, Ok, Err, if◌then◌else◌, ◌==◌}
 use Rattle.pm_words.specs.declared.error.ExecError.{ExecError}
@@ -11,8 +11,8 @@ use Rattle.pm_calls.specs.Places.{Parts}
 use Rattle.pm_calls.specs.Tables.{self_relative}
 use Rattle.pm_words.specs.declared.layout.TheConstants.{SYSTEM_FRAME}
 
--- Whether the procedure whose segment has its highest word at `s`, and whose table is at `j`, is the wanted one: the
--- low bytes of these two words are the wanted numbers. Both words are always read.
+-- Whether the procedure whose segment has its highest word at `s`, and whose table is at `j`, is the requested one. The
+-- low bytes of these two words must be the requested numbers. Both words are always read.
 abbrev pub is_wanted : List ℕ → Wanted → ℕ → ℕ → Result Bool ExecError
 is_wanted m p s j = do
   segment ← load m s
@@ -27,7 +27,7 @@ exit_code m j = self_relative m (minus j 4)
 abbrev pub control : List ℕ → ℕ → ℕ → ℕ
 control m f n = word_at m ((f + n) % 65536)
 
--- The check of EXIT at the frame `f`: whether the caller that the frame saves is the wanted procedure. If `f` is the
+-- The check of EXIT at the frame `f`: whether the caller that the frame saves is the requested procedure. If `f` is the
 -- system's frame, or its caller's frame is, no procedure is left to search.
 unfoldable pub met : List ℕ → Wanted → ℕ → Result Bool ExecError
 met m p f = do
@@ -73,11 +73,11 @@ with_exits m a zero = m
 with_exits m a (suc i) =
     let f = frame_up m a i in with_word (with_exits m a i) ((f + 8) % 65536) (exit_code m (control m f 4))
 
--- The memory after a walk from the frame at `a` to the wanted procedure.
+-- The memory after a walk from the frame at `a` to the requested procedure.
 unfoldable pub walked : List ℕ → Wanted → ℕ → Result (List ℕ) ExecError
 walked m p a = last_frame m p a >>= λ k. Ok (with_exits m a (k + 1))
 
--- The memory after EXIT, which walks only if the running procedure is not the wanted one.
+-- The memory after EXIT, which walks only if the running procedure is not the requested one.
 abbrev pub walked_unless : Bool → List ℕ → Wanted → ℕ → Result (List ℕ) ExecError
 walked_unless here m p a = if here then Ok m else walked m p a
 

@@ -88,8 +88,8 @@ FindsAgain c (Cgp p) = Unit {0}
 FindsAgain c (Cbp p) = Unit {0}
 FindsAgain c (Cip p) = Unit {0}
 
--- A return immediately after its call restores the entries of all slots: a segment that was loaded for the call is not
--- loaded any more, and any other has its old count.
+-- A return immediately after its call restores the entries of all slots. A segment that was loaded for the call is then
+-- not loaded any more, and any other has its old count.
 abbrev pub ReturnGivesPlacesBack : Type 0
 ReturnGivesPlacesBack =
     (c d e : Parts) (call : Call) (code : Option (List ℕ)) (words : ℕ) (base : Bool) →
@@ -97,7 +97,7 @@ ReturnGivesPlacesBack =
     called c call code ≡ Ok d → returned d words base ≡ Ok e → e.places ≡ c.places
 
 -- If the cached values agree with a memory in which no watched word was written, each word from which one was read is
--- watched: the word at each base except the last, and the seven words of each table.
+-- watched. These are the word at each base except the last, and the seven words of each table.
 abbrev pub KeptWordsAreWatched : Type 0
 KeptWordsAreWatched =
     (memory : Contents) (frames : Standing) (mp : ℕ) → Agrees memory frames mp → memory.touched ≡ false

@@ -52,8 +52,8 @@ in_set_row m sp np = do
 abbrev pub with_length : List ℕ → List ℕ
 with_length ws = length ws ∷ ws
 
--- Replaces two sets by another one. Its number of words is `count` of theirs, and `test` determines whether a number is
--- in it, from whether the number is in the lower set and in the upper one.
+-- Replaces two sets by another one. Its number of words is `count` of theirs. `test` determines whether a number is in
+-- it, from whether the number is in the lower set and in the upper one.
 abbrev pub two_sets_row : (ℕ → ℕ → ℕ) → (Bool → Bool → Bool) → StackRow
 two_sets_row count test m sp np = do
   t ← pop_set m sp

@@ -18,9 +18,14 @@ use std::cmp::Ordering;
 ///
 /// # Errors
 ///
-/// Nothing changes. `Unimplemented` is checked first:
-/// - `Unimplemented`: the operands are reals; or sets, and the relation is less or greater; or words, and the relation
-///   is not equality or inequality.
+/// Nothing changes.
+///
+/// `Unimplemented` is checked first, in each of these cases:
+/// - The operands are reals.
+/// - The operands are sets, and the relation is less or greater.
+/// - The operands are words, and the relation is not equality or inequality.
+///
+/// Other errors:
 /// - `InvalidMemory`: the stack has too few words, an operand extends after the end of memory, or words begin at an odd
 ///   address.
 /// - `InvalidIndex`: a set has more than 255 words.

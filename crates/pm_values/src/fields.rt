@@ -44,14 +44,14 @@ pub fn store_byte(memory: &mut Memory, sp: u16, np: u16) -> Result<u16, ExecErro
     Ok(base.above)
 }
 
-/// `IXP`: pops an index in fields and a base address, and pushes the location of this field: the address of its word,
-/// its width, and its lowest bit, which is on top. Returns the new SP.
+/// `IXP`: pops an index in fields and a base address, and pushes the location of this field. The location is the
+/// address of its word, its width, and its lowest bit, which is on top. Returns the new SP.
 ///
 /// The array packs `per_word` fields of `width` bits into each word, the first field in the lowest bits.
 ///
 /// # Errors
 ///
-/// Nothing changes:
+/// Nothing changes. Checked in this order:
 /// - `InvalidMemory`: the stack has too few words.
 /// - `InvalidIndex`: the index is negative, `per_word` is 0, or the bits are not a field of a word.
 /// - `StackOverflow`: SP would be below NP.
@@ -106,8 +106,8 @@ pub fn load_field(memory: &mut Memory, sp: u16, np: u16) -> Result<u16, ExecErro
     )
 }
 
-/// `STP`: pops a value and the location of a field (its lowest bit, its width and the address of its word), and writes
-/// the low bits of the value to the field. Returns the new SP.
+/// `STP`: pops a value and the location of a field, and writes the low bits of the value to the field. The location is
+/// the lowest bit, the width and the address of the word. Returns the new SP.
 ///
 /// # Errors
 ///

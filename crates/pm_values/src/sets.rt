@@ -52,9 +52,10 @@ pub struct StackSet {
 ///
 /// # Errors
 ///
-/// Nothing changes:
-/// - `InvalidMemory`: the stack has too few words.
+/// Nothing changes. Checked in this order:
+/// - `InvalidMemory`: the stack does not have the count of the set.
 /// - `InvalidIndex`: the set has more than 255 words.
+/// - `InvalidMemory`: the stack does not have all words of the set, or does not have the value.
 #[tactic(auto, unfolding(crate::specs::Sets::in_set_row), using(pm_words::proofs::WatchLaws::stays))]
 pub fn in_set(memory: &mut Memory, sp: u16, np: u16) -> Result<u16, ExecError>
     ensures row { Changes result memory.old memory.new (in_set_row memory.old.words sp np) }
@@ -70,9 +71,10 @@ pub fn in_set(memory: &mut Memory, sp: u16, np: u16) -> Result<u16, ExecError>
 ///
 /// # Errors
 ///
-/// Nothing changes. Checked for the set on top first, then for the other one:
-/// - `InvalidMemory`: the stack has too few words.
+/// Nothing changes. Checked in this order for the set on top, and then for the other one:
+/// - `InvalidMemory`: the stack does not have the count of the set.
 /// - `InvalidIndex`: the set has more than 255 words.
+/// - `InvalidMemory`: the stack does not have all words of the set.
 ///
 /// `StackOverflow` is checked last: SP would be below NP.
 #[tactic(auto, unfolding(crate::specs::Sets::intersect_row), using(pm_words::proofs::WatchLaws::stays))]
@@ -160,9 +162,10 @@ pub fn subrange(memory: &mut Memory, sp: u16, np: u16) -> Result<u16, ExecError>
 ///
 /// # Errors
 ///
-/// Nothing changes:
-/// - `InvalidMemory`: the stack has too few words.
+/// Nothing changes. Checked in this order:
+/// - `InvalidMemory`: the stack does not have the count of the set.
 /// - `InvalidIndex`: the set has more than 255 words.
+/// - `InvalidMemory`: the stack does not have all words of the set.
 /// - `StackOverflow`: SP would be below NP.
 #[tactic(auto, unfolding(crate::specs::Sets::adjust_row), using(pm_words::proofs::WatchLaws::stays))]
 pub fn adjust(memory: &mut Memory, sp: u16, np: u16, words: u8) -> Result<u16, ExecError>
@@ -191,7 +194,7 @@ fn combine(
         (two_sets_row (count_of combination) (test_of combination) memory.old.words sp np) }
     ensures stack { IsStack sp np → IfOk result (λ sp. IsStack sp np) }
 {
-    let _ = memory.bytes(); // for its first clause
+    let _ = memory.bytes(); // its clause states that the words are a memory
     let upper = find_set(memory, sp)?;
     let lower = find_set(memory, upper.above)?;
     if combined_count(
@@ -229,7 +232,7 @@ fn combine_in_place(
         (is_member (words_at memory.old.words upper.address upper.count) e)))) }
     ensures stack { IsStack lower.above np → IfOk result (λ sp. IsStack sp np) }
 {
-    let _ = memory.bytes(); // for its first clause
+    let _ = memory.bytes(); // its clause states that the words are a memory
     if u32::from(lower.address) < u32::from(np) + 2 {
         return Err(ExecError::StackOverflow);
     }
@@ -252,7 +255,7 @@ fn write_combined(memory: &mut Memory, combination: Combination, lower: SetPlace
         (is_member (words_at memory.old.words upper.address upper.count) e))) }
     ensures watch { WatchStays memory.old memory.new }
 {
-    let _ = memory.bytes(); // for its first clause
+    let _ = memory.bytes(); // its clause states that the words are a memory
     for i in 0..lower.count {
         let place = usize::from(i);
         let (low, high) = (
@@ -299,7 +302,7 @@ fn set_word(memory: &Memory, set: SetPlace, index: usize) -> u16
     requires inside { set.address + 2 * set.count ≤ STACK_END }
     ensures word { result ≡ slice_index (words_at memory.now.words set.address set.count) index }
 {
-    let _ = memory.bytes(); // for its first clause
+    let _ = memory.bytes(); // its clause states that the words are a memory
     if index >= usize::from(set.count) {
         return 0;
     }
@@ -310,8 +313,10 @@ fn set_word(memory: &Memory, set: SetPlace, index: usize) -> u16
 ///
 /// # Errors
 ///
-/// - `InvalidMemory`: the stack has too few words.
+/// Checked in this order:
+/// - `InvalidMemory`: the stack does not have the count of the set.
 /// - `InvalidIndex`: the set has more than 255 words.
+/// - `InvalidMemory`: the stack does not have all words of the set.
 pub fn take_set(memory: &Memory, sp: u16) -> Result<StackSet, ExecError>
     ensures set { MatchResult result
         (λ s. pop_set memory.now.words sp ≡ Ok (record { members = s.words.items; above = s.above }))

@@ -18,7 +18,7 @@ pub fn push_words(memory: &mut Memory, sp: u16, np: u16, words: &[u16]) -> Resul
     ensures row { Changes result memory.old memory.new (push_words memory.old.words sp np words.now) }
     ensures stack { IsStack sp np → IfOk result (λ sp. IsStack sp np) }
 {
-    let _ = memory.bytes(); // for its first clause
+    let _ = memory.bytes(); // its clause states that the words are a memory
     let size = 2 * words.len() as u16;
     if u32::from(sp) < u32::from(np) + u32::from(size) {
         return Err(ExecError::StackOverflow);

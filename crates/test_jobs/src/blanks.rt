@@ -1,11 +1,11 @@
-//! A source of blanks.
+//! A reader of space characters.
 use std::io;
 use std::io::Read;
 
-/// So many blanks.
+/// A reader that returns `left` space characters and then ends.
 #[derive(Drop)]
 pub struct Blanks {
-    /// How many are still to be read.
+    /// The number of space characters that are still unread.
     pub left: usize,
 }
 

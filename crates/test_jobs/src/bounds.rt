@@ -1,11 +1,11 @@
-//! The most input that a job takes.
+//! The largest input of a job.
 use crate::blanks::Blanks;
 use crate::streams::raw;
 use pm_tool::{Reader, Writer, run};
 use std::alloc::Global;
 use std::process::Abort;
 
-/// Bare code whose text is so many blanks, and which is not run.
+/// Runs raw p-code whose source text is `count` space characters, with a limit of 0 steps.
 fn reads_blanks(rt: &impl Abort, alloc: Global, count: usize, told: (u8, &str, &str)) {
     let (status, message, text) = told;
     let mut written = Vec::new(alloc);
@@ -17,7 +17,7 @@ fn reads_blanks(rt: &impl Abort, alloc: Global, count: usize, told: (u8, &str, &
     assert_eq!(rt; written.as_slice(), text.as_bytes());
 }
 
-/// 16,777,216 bytes are the most, and one more is a read fault.
+/// An input of 16,777,216 bytes is read. One byte more is a read fault.
 #[test]
 fn input(rt: HostRuntime) {
     reads_blanks(&rt, rt.alloc(), 16_777_216, (6, "", "limit 0\n"));

@@ -1,5 +1,5 @@
-//! Each call of a stream fails in turn, once: the job is broken off there, with what it had written before that call,
-//! and calls no stream any more. What takes memory ends the test where there is none, as in `left`.
+//! Each call of a stream fails in turn, once. The job then stops, has written exactly what it wrote before that call,
+//! and calls no stream again. A helper that runs out of memory ends the test.
 ghost use Rattle.std.specs.Prelude.{◌≡◌, length, sum};
 
 use crate::streams::raw;
@@ -10,7 +10,7 @@ use pm_volume::Volume;
 use std::alloc::Global;
 use std::process::Abort;
 
-/// The program that leaves a segment by EXIT from another one.
+/// The trace of the program that leaves a segment by EXIT from another one.
 const EXITS_TRACE: &str = "\
 00000000 65456 65442 65444 65444 01024 65492 CLP 2
 00000001 65470 65430 65430 65444 01024 65444 CXP 2, 1
@@ -25,7 +25,7 @@ const EXITS_TRACE: &str = "\
 ended 10
 ";
 
-/// A session on the same program.
+/// The commands of a debugger session on the same program.
 pub(crate) const COMMANDS: &str = "\
 break 2 2 0
 go 100
@@ -62,7 +62,7 @@ pub(crate) enum Tried {
     Session,
 }
 
-/// A volume with the program `P` of the segments 1 and 2, as disk of unit 4.
+/// Returns the image of a volume whose code file `P` has segments 1 and 2 of these lengths in bytes.
 pub(crate) fn image(rt: &impl Abort, alloc: Global, lengths: [u16; 2], segments: &[u8]) -> Vec<u8>
     requires joined { sum lengths ≡ length segments.now }
 {
@@ -75,7 +75,7 @@ pub(crate) fn image(rt: &impl Abort, alloc: Global, lengths: [u16; 2], segments:
 }
 
 impl Tried {
-    /// The image that its job has on unit 4. Bare code has none.
+    /// Returns the image of unit 4. It is empty for raw p-code, which has no disk.
     pub(crate) fn image(self, rt: &impl Abort, alloc: Global) -> Vec<u8> {
         match self {
             Tried::Addition => Vec::new(alloc),
@@ -87,7 +87,7 @@ impl Tried {
         }
     }
 
-    /// Its job, with this image on unit 4.
+    /// Returns the job, with `image` on unit 4.
     pub(crate) fn job(self, rt: &impl Abort, alloc: Global, image: &[u8]) -> Job {
         let limit = 100;
         let name = String::from_str(alloc, "P").expect(rt, "memory");
@@ -127,7 +127,7 @@ impl Tried {
         }
     }
 
-    /// The message and the output where no call fails. The status is 0 then.
+    /// Returns the message and the output of the job if no call fails. Its status is then 0.
     fn told(self) -> (&'static str, &'static str) {
         match self {
             Tried::Addition => ("", ADDITION_TRACE),
@@ -170,7 +170,7 @@ impl Recorded {
         assert!(rt; self.outcome.printer.is_empty());
     }
 
-    /// The call of this number has failed, and no stream was called behind it.
+    /// Asserts that call `number` failed and that no stream was called after it.
     fn is_broken_off(&self, rt: &impl Abort, good: &Recorded, number: usize, call: Call) {
         match call.kind {
             Kind::Read => self.is(rt, 4, "read fault", (true, false)),
@@ -182,7 +182,7 @@ impl Recorded {
     }
 }
 
-/// Where no call fails there are so many. Then each of them fails.
+/// Asserts that the job makes `calls` calls if none fails, and that it stops at each of them that fails.
 fn each_fails(
     rt: &impl Abort,
     alloc: Global,
@@ -208,7 +208,7 @@ fn each_fails(
     }
 }
 
-/// The input is read to its end, and then the trace is written.
+/// The input is read to its end before the trace is written.
 #[test]
 fn addition(rt: HostRuntime) {
     each_fails(&rt, rt.alloc(), Tried::Addition, (1, true), 13 + 210);
@@ -222,14 +222,14 @@ fn letters(rt: HostRuntime) {
     each_fails(&rt, rt.alloc(), Tried::Letters, (usize::MAX, true), 1);
 }
 
-/// Three bytes are read, and each is shown.
+/// Three bytes are read, and each is written to the console.
 #[test]
 fn echo(rt: HostRuntime) {
     each_fails(&rt, rt.alloc(), Tried::Echo, (1, false), 3 + 3);
     each_fails(&rt, rt.alloc(), Tried::Echo, (usize::MAX, true), 3 + 3);
 }
 
-/// A run without output calls no stream. Its trace is one page, of which a write takes 16 bytes at most, or all.
+/// A run without output calls no stream. Its trace is one page, and one write moves at most 16 bytes or the whole page.
 #[test]
 fn exits(rt: HostRuntime) {
     each_fails(&rt, rt.alloc(), Tried::Exits, (usize::MAX, false), 0);
@@ -237,7 +237,7 @@ fn exits(rt: HostRuntime) {
     each_fails(&rt, rt.alloc(), Tried::ExitsTraced, (usize::MAX, false), 1);
 }
 
-/// Each byte of the commands is read by a call of its own, and each answer is written by one, or 16 bytes at a time.
+/// Each byte of the commands is read by a call of its own. Each answer is written by one call, or in parts of 16 bytes.
 #[test]
 fn session(rt: HostRuntime) {
     each_fails(&rt, rt.alloc(), Tried::Session, (16, true), 98 + 11);

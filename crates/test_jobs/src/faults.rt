@@ -5,7 +5,7 @@ use pm_tool::{Outcome, Reader, Sink, Source, Writer, run};
 use std::alloc::Global;
 use std::process::Abort;
 
-/// What a run of the addition came to, whether its input failed and whether its output did, and what it wrote.
+/// The result of a run of the addition: its outcome, whether its input and its output failed, and what it wrote.
 #[derive(Drop)]
 struct Ran {
     outcome: Outcome,
@@ -24,7 +24,7 @@ impl Ran {
     }
 }
 
-/// A run whose input fails after so many reads.
+/// Runs the addition with an input that fails after `good` reads.
 fn read_run(alloc: Global, good: usize) -> Ran {
     let mut written = Vec::new(alloc);
     let mut source = Reader::new(ShortReader {
@@ -40,7 +40,7 @@ fn read_run(alloc: Global, good: usize) -> Ran {
     }
 }
 
-/// A run whose output takes so many bytes.
+/// Runs the addition with an output that accepts `good` bytes.
 fn write_run(alloc: Global, good: usize, full: Full) -> Ran {
     let mut writer = ShortWriter {
         bytes: Vec::new(alloc),
@@ -63,7 +63,7 @@ fn fails_to_read(rt: &impl Abort, alloc: Global, good: usize) {
     ran.has_written(rt, b"");
 }
 
-/// There is a read for each byte of the input and one that finds its end.
+/// One read is made for each byte of the input, and one finds its end.
 #[test]
 fn each_read_fails(rt: HostRuntime) {
     for good in 0..=ADDITION.len() {
@@ -84,7 +84,7 @@ fn fails_to_write(rt: &impl Abort, alloc: Global, good: usize, full: Full) {
     ran.has_written(rt, ADDITION_TRACE.as_bytes().get(..good).unwrap_or(&[]));
 }
 
-/// There is a write for each byte of the trace.
+/// One write is made for each byte of the trace.
 #[test]
 fn each_write_fails(rt: HostRuntime) {
     for good in 0..ADDITION_TRACE.len() {

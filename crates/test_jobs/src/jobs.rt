@@ -1,9 +1,9 @@
-//! A job, run over streams in memory, and what is asserted of it.
+//! Runs jobs over streams in memory, and asserts their results.
 use pm_tool::{Job, Outcome, Reader, Writer, run};
 use std::alloc::Global;
 use std::process::Abort;
 
-/// What a job came to, what it wrote, and how much of the input it left.
+/// The outcome of a job, the bytes that it wrote, and the number of input bytes that it left unread.
 #[derive(Drop)]
 pub(crate) struct Ran {
     pub(crate) outcome: Outcome,
@@ -11,7 +11,7 @@ pub(crate) struct Ran {
     pub(crate) left: usize,
 }
 
-/// Runs a job.
+/// Runs a job on these input bytes.
 pub(crate) fn job_run(alloc: Global, job: Job, input: &[u8]) -> Ran {
     let mut written = Vec::new(alloc);
     let mut rest = input;
@@ -26,7 +26,7 @@ pub(crate) fn job_run(alloc: Global, job: Job, input: &[u8]) -> Ran {
     }
 }
 
-/// What is asserted of a job: its status and message, what it writes, and how much of the input it leaves.
+/// The expected status, message, output, and number of unread input bytes of a job.
 pub(crate) type Told<'a> = (u8, &'a str, &'a str, usize);
 
 impl Ran {
@@ -38,7 +38,7 @@ impl Ran {
         assert_eq!(rt; self.written.as_slice(), written.as_bytes());
     }
 
-    /// No image is kept, and nothing is printed.
+    /// Asserts that the job saves no image and prints nothing.
     fn keeps_nothing(&self, rt: &impl Abort) {
         assert!(rt; self.outcome.image.is_none());
         assert!(rt; self.outcome.printer.is_empty());
@@ -52,7 +52,7 @@ impl Ran {
         self.keeps_nothing(rt);
     }
 
-    /// The image that is kept.
+    /// Returns the saved image.
     pub(crate) fn into_image(self) -> Option<Vec<u8>> {
         let Ran { outcome, .. } = self;
         let Outcome { image, .. } = outcome;
@@ -60,7 +60,7 @@ impl Ran {
     }
 }
 
-/// The job comes to this.
+/// Asserts that the job has this result.
 pub(crate) fn tells(rt: &impl Abort, alloc: Global, job: Job, input: &[u8], told: Told<'_>) {
     job_run(alloc, job, input).is(rt, told);
 }

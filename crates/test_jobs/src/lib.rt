@@ -1,5 +1,9 @@
-//! Tests of jobs, for facts that no command line and no clause shows: streams of which one call fails, when output is
-//! written, how much of its input a job reads, and the largest input.
+//! Tests of jobs, for facts that no command line and no clause shows:
+//!
+//! - streams of which one call fails;
+//! - when output is written;
+//! - how much of its input a job reads;
+//! - the largest input.
 #![tactic(auto)]
 
 pub mod blanks;

@@ -1,13 +1,13 @@
-//! Runs and traces are made the quick way.
+//! Runs and traces use the fast execution path.
 use pm_machine::{BootFault, Machine};
 use pm_tool::{Ending, Pace, Quick, Reader, Saving, Selection, Show, Writer, drive};
 use std::alloc::Global;
 use std::process::Abort;
 
-/// A loop that goes on for ever and writes nothing.
+/// An endless loop without output.
 const WHILE: [u8; 10] = [0x01, 0x02, 0x82, 0xAB, 0x01, 0x00, 0xA1, 0xFE, 0x08, 0x00];
 
-/// The machine's quick way, with how often it was asked and how many steps it made.
+/// The machine's fast execution path, which counts its calls (`asked`) and its steps (`made`).
 #[derive(Drop)]
 struct Counting {
     asked: u64,
@@ -23,7 +23,7 @@ impl Pace for Counting {
     }
 }
 
-/// Of 1,000 steps of the loop so many are made the quick way, asked for so often.
+/// Asserts that 1,000 steps of the loop call the fast path `asked` times and execute `made` steps on it.
 fn makes(
     rt: &impl Abort,
     alloc: Global,
@@ -51,20 +51,21 @@ fn makes(
     Ok(())
 }
 
-/// A run makes its first step by itself, to see what the console gets, and all others with one question.
+/// A run executes its first step by itself, to see what it adds to the console output. It executes all others by one
+/// call of the fast path.
 #[test]
 fn runs_go_quickly(rt: HostRuntime) -> Result<(), BootFault> {
     let saving = Saving::Nothing;
     makes(&rt, rt.alloc(), Show::Console { saving }, 1, 999)
 }
 
-/// Each step of a trace is asked for.
+/// A trace calls the fast path once for each step.
 #[test]
 fn traces_go_quickly(rt: HostRuntime) -> Result<(), BootFault> {
     makes(&rt, rt.alloc(), Show::Trace(Selection::ALL), 1000, 1000)
 }
 
-/// The pace of the program is the machine's quick way.
+/// `Quick` uses the machine's fast path.
 #[test]
 fn quick_is_quick(rt: HostRuntime) -> Result<(), BootFault> {
     let mut machine = Machine::raw(rt.alloc(), &WHILE)?;

@@ -1,4 +1,4 @@
-//! A source and a sink that write down each call of either, of which one fails, and no other.
+//! A source and a sink that record each call. At most one of these calls fails.
 ghost use Rattle.std.specs.Io.{ReadsAtMost, WritesAtMost};
 
 use pm_tool::{Job, Outcome, Reader, Sink, Source, Writer, run};
@@ -7,32 +7,32 @@ use std::cell::RefCell;
 use std::io;
 use std::io::{ErrorKind, Read, Write};
 
-/// What was called.
+/// The kind of a call.
 #[derive(Clone, Copy, Debug, PartialEq, Eq)]
 pub enum Kind {
     /// A read.
     Read,
-    /// A write that was offered so many bytes.
+    /// A write that was offered this number of bytes.
     Write(usize),
 }
 
-/// A call, and how many bytes had been written before it.
+/// A call, and the number of bytes that were written before it.
 #[derive(Clone, Copy, Debug, PartialEq, Eq)]
 pub struct Call {
-    /// Which one.
+    /// Its kind.
     pub kind: Kind,
-    /// The bytes before it.
+    /// The number of bytes that were written before it.
     pub before: usize,
 }
 
-/// How the streams do what they are called for.
+/// How the streams respond to calls.
 #[derive(Clone, Copy)]
 pub struct Manner {
     /// The most bytes that one call moves.
     pub most: usize,
-    /// The number of the call that fails, of the source or of the sink, from 0 on. Calls behind it go on well.
+    /// The number of the call that fails, counted from 0 over source and sink. Calls after it succeed.
     pub fails_at: Option<usize>,
-    /// Whether a write that fails takes no byte. Else it answers an error, as a read does.
+    /// Whether the failing write accepts no byte. Otherwise it returns an error, as a failing read does.
     pub takes_nothing: bool,
 }
 
@@ -49,7 +49,7 @@ fn failure() -> io::Error {
 }
 
 impl Record {
-    /// Writes a call down. Whether it is the one that fails.
+    /// Records a call. Returns whether it is the one that fails.
     fn fails(&mut self, kind: Kind) -> io::Result<bool> {
         let number = self.calls.len();
         let before = self.written.len();
@@ -57,7 +57,7 @@ impl Record {
         Ok(self.manner.fails_at == Some(number))
     }
 
-    /// Some bytes of the front of `rest` go to the front of `buf`: how many.
+    /// Copies bytes from the start of `rest` to the start of `buf`. Returns their number.
     fn give(&mut self, rest: &[u8], buf: &mut [u8]) -> io::Result<usize>
         ensures bound { ReadsAtMost result buf.new }
     {
@@ -69,7 +69,7 @@ impl Record {
         Ok(count)
     }
 
-    /// Some bytes of the front of `buf` are written: how many.
+    /// Writes bytes from the start of `buf`. Returns their number.
     fn take(&mut self, buf: &[u8]) -> io::Result<usize>
         ensures bound { WritesAtMost result buf.now }
     {
@@ -86,7 +86,7 @@ impl Record {
     }
 }
 
-/// What is read from.
+/// The stream that a job reads.
 #[derive(Drop)]
 struct Given<'a> {
     kept: &'a RefCell<Record>,
@@ -104,7 +104,7 @@ impl Read for Given<'_> {
     }
 }
 
-/// What is written to.
+/// The stream that a job writes.
 #[derive(Drop)]
 struct Taken<'a> {
     kept: &'a RefCell<Record>,
@@ -123,20 +123,20 @@ impl Write for Taken<'_> {
     }
 }
 
-/// What a job came to, and what its streams were called for.
+/// The outcome of a job, and the calls of its streams.
 #[derive(Drop)]
 pub struct Recorded {
-    /// The status, the message, and what is kept.
+    /// The status, the message, the saved image and the printer output.
     pub outcome: Outcome,
     /// Whether the source failed, and whether the sink did.
     pub failed: (bool, bool),
-    /// The calls of both.
+    /// The calls of source and sink, in order.
     pub calls: Vec<Call>,
-    /// The bytes that the sink took.
+    /// The bytes that the sink accepted.
     pub written: Vec<u8>,
 }
 
-/// Runs a job.
+/// Runs a job on these input bytes, and records the calls of its streams.
 pub fn recorded_run(alloc: Global, job: Job, input: &[u8], manner: Manner) -> Recorded {
     let kept = RefCell::new(Record {
         manner,

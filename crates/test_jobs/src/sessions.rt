@@ -1,11 +1,11 @@
-//! Sessions of the debugger over streams that fail at each of their calls in turn.
+//! Debugger sessions over streams that fail at each of their calls in turn.
 use crate::broken::{ANSWERS, COMMANDS, Tried};
 use crate::streams::{Full, ShortReader, ShortWriter};
 use pm_tool::{Reader, Writer, run};
 use std::alloc::Global;
 use std::process::Abort;
 
-/// After so many reads a read fails.
+/// Asserts the result of a session whose read fails after `good` reads.
 fn read_fails(rt: &impl Abort, alloc: Global, good: usize) {
     let job = Tried::Session.job(rt, alloc, &Tried::Session.image(rt, alloc));
     let mut written = Vec::new(alloc);
@@ -20,7 +20,7 @@ fn read_fails(rt: &impl Abort, alloc: Global, good: usize) {
     assert!(rt; ANSWERS.as_bytes().starts_with(&written));
 }
 
-/// There is a read for each byte up to the line feed of `quit`, and no other.
+/// One read is made for each byte up to the line feed of `quit`, and no other.
 #[test]
 fn each_read_fails(rt: HostRuntime) {
     for good in 0..COMMANDS.len() {
@@ -28,7 +28,7 @@ fn each_read_fails(rt: HostRuntime) {
     }
 }
 
-/// After so many bytes a write fails.
+/// Asserts the result of a session whose write fails after `good` bytes.
 fn write_fails(rt: &impl Abort, alloc: Global, good: usize, full: Full) {
     let job = Tried::Session.job(rt, alloc, &Tried::Session.image(rt, alloc));
     let mut written = ShortWriter {

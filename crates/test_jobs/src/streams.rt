@@ -3,7 +3,7 @@ use pm_tool::{Job, Selection};
 use std::io;
 use std::io::{ErrorKind, Read, Write};
 
-/// Gives its bytes one at a time, but for one error: at the read after the first `good`. Reads behind it go on well.
+/// Returns its bytes one at a time. The read after the first `good` reads fails, and later reads succeed.
 #[derive(Drop)]
 pub(crate) struct ShortReader<'a> {
     pub(crate) bytes: &'a [u8],
@@ -29,15 +29,14 @@ impl Read for ShortReader<'_> {
     }
 }
 
-/// What a writer does when it can take no more.
+/// How the failing write of a writer fails.
 #[derive(Clone, Copy)]
 pub(crate) enum Full {
     Errs,
     TakesNothing,
 }
 
-/// Takes one byte at each write, but for one: at the write after the first `good` it takes none. Writes behind it go on
-/// well.
+/// Accepts one byte at each write. The write after the first `good` writes accepts none, and later writes succeed.
 #[derive(Drop)]
 pub(crate) struct ShortWriter {
     pub(crate) bytes: Vec<u8>,
@@ -67,7 +66,7 @@ impl Write for ShortWriter {
     }
 }
 
-/// The job that runs bare code for so many steps and traces each.
+/// Returns the job that runs raw p-code for at most `limit` steps and traces each step.
 pub(crate) fn raw(limit: u32) -> Job {
     let selection = Selection::ALL;
     Job::Raw { limit, selection }

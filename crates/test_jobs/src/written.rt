@@ -1,4 +1,4 @@
-//! What is written when. No clause can say it, since a sink knows no steps.
+//! When output is written. No clause can state it, because a sink has no information about steps.
 use crate::broken::{COMMANDS, Tried, image};
 use crate::streams::raw;
 use crate::recorder::{Call, Kind, Manner, Recorded, recorded_run};
@@ -19,15 +19,15 @@ const FIRST: [u8; 20] = [
     0x01, 0xD0, 0x01, 0x42, 0x00, 0x01, 0x00, 0x00, 0x9E, 0x06,
 ];
 
-/// Writes C, reads a byte of unit 2, which shows none, and ends, with what stands behind the code of a segment of 556
-/// bytes.
+/// Writes C, reads a byte of unit 2, which does not echo it, and ends. The attribute table and the dictionary of a
+/// segment of 556 bytes follow the code.
 const LAST: [u8; 36] = [
     0x01, 0xD0, 0x01, 0x43, 0x00, 0x01, 0x00, 0x00, 0x9E, 0x06, // the read
     0x02, 0xC7, 0xD0, 0x07, 0x00, 0x01, 0x00, 0x00, 0x9E, 0x05, 0xC1, 0x00, 0x00, 0x00, 0x00, 0x00,
     0x06, 0x00, 0x24, 0x02, 0x01, 0x00, 0x02, 0x00, 0x01, 0x01,
 ];
 
-/// A program that writes A, B and, 500 steps later, C; and then reads a byte.
+/// Returns the job of a program that writes A and B, writes C 500 steps later, and then reads a byte.
 fn three_letters(rt: &impl Abort, alloc: Global) -> Job {
     let mut segment = [0xD7; 556];
     segment[..20].copy_from_slice(&FIRST);
@@ -43,7 +43,7 @@ fn three_letters(rt: &impl Abort, alloc: Global) -> Job {
     }
 }
 
-/// A letter is written by the step that shows it, and so before what is shown next, however soon, and before a read.
+/// A letter is written during the step that outputs it, before the next letter and before any read.
 #[test]
 fn letters_are_written_at_once(rt: HostRuntime) {
     let ran = recorded_run(rt.alloc(), three_letters(&rt, rt.alloc()), b"x", WELL);
@@ -62,13 +62,13 @@ fn letters_are_written_at_once(rt: HostRuntime) {
     assert_eq!(rt; ran.calls.as_slice(), calls.as_slice());
 }
 
-/// The bytes of a line of the trace of a jump to itself.
+/// The number of bytes of a trace line of a jump to itself.
 const LINE: usize = 52;
 
-/// The bytes at which a page is full.
+/// The number of bytes at which a page is full.
 const PAGE: usize = 65_536;
 
-/// A page and a line, and no more, is the most that is kept before it is written; and no write is of less than a page.
+/// Asserts that a write has at least a page and less than a page and a line.
 fn is_page(rt: &impl Abort, call: &Call) {
     let Kind::Write(offered) = call.kind else {
         assert!(rt; call.before == 0, "a read behind a write");
@@ -80,7 +80,7 @@ fn is_page(rt: &impl Abort, call: &Call) {
     );
 }
 
-/// 3,000 steps are two pages of 1,261 lines, and the rest with the last line.
+/// 3,000 steps are two pages of 1,261 lines, and a rest that includes the last line.
 #[test]
 fn traces_are_written_in_pages(rt: HostRuntime) {
     let ran = recorded_run(rt.alloc(), raw(3000), b"B9 FE 02 00", WELL);
@@ -98,12 +98,12 @@ fn traces_are_written_in_pages(rt: HostRuntime) {
     }
 }
 
-/// How many lines end in these bytes.
+/// Returns the number of line feeds in these bytes.
 fn lines(bytes: Option<&[u8]>) -> Option<usize> {
     Some(bytes?.iter().filter(|byte| **byte == b'\n').count())
 }
 
-/// Before each byte of the commands is read, each line before it is answered.
+/// Asserts that each complete command line is answered before the next byte is read.
 fn answers_before_it_reads(rt: &impl Abort, ran: &Recorded) {
     let reads = ran.calls.iter().filter(|call| call.kind == Kind::Read);
     for (number, read) in reads.enumerate() {

@@ -1,14 +1,14 @@
-//! Code of any bytes.
+//! Pseudo-random code.
 ghost use Rattle.std.specs.Prelude.{◌≡◌, ◌%◌, ◌*◌, ◌+◌};
 
-/// The number behind this one.
+/// Returns the pseudo-random number that follows `number`.
 fn next(number: u16) -> u16
     ensures value { result ≡ (number * 25173 + 13849) % 65536 }
 {
     number.wrapping_mul(25173).wrapping_add(13849)
 }
 
-/// Bytes that look like nothing in particular, from a number on.
+/// Returns 64 pseudo-random bytes, the high bytes of the numbers that follow `seed`.
 pub fn generated(seed: u16) -> [u8; 64] {
     let mut number = seed;
     let mut bytes = [0; 64];

@@ -6,7 +6,8 @@ use pm_volume::Volume;
 use std::alloc::Global;
 use std::test::Fail;
 
-/// A volume with a code file `P` of this kind, whose slots 1, 2 and 3 have these lengths.
+/// Returns a volume with a code file `P` of this kind. Its slots 1, 2 and 3 have these lengths in bytes, and `segments`
+/// has their code.
 pub fn volume(alloc: Global, kind: u8, lengths: [u16; 3], segments: &[u8]) -> Result<Volume, Fail>
     requires joined { sum lengths ≡ length segments.now }
 {
@@ -18,7 +19,7 @@ pub fn volume(alloc: Global, kind: u8, lengths: [u16; 3], segments: &[u8]) -> Re
     Ok(volume)
 }
 
-/// The machine that a volume on unit 4 boots with its file `P`.
+/// Returns the machine that boots the file `P` of `volume` on unit 4.
 pub fn boots(alloc: Global, volume: Volume) -> Result<Machine, BootFault> {
     let volumes = [Some(volume), None, None, None, None, None];
     match Machine::boot(alloc, volumes, 4, "P", 0) {

@@ -1,4 +1,4 @@
-//! A code file that is written and read, and the text of one procedure of a segment.
+//! Writes and reads a code file, and disassembles one procedure of a segment.
 use crate::one_segment::{NO_NAME, SEGMENT, example};
 use crate::programs::SEGMENTS;
 use pm_codefile::{Attributes, CodeFile, Slot, attributes, procedures};
@@ -37,7 +37,7 @@ fn written_file_is_read(rt: HostRuntime) -> Result<(), Fail> {
     Ok(())
 }
 
-/// Whether these bytes stand at a place.
+/// Whether the bytes `wanted` are at offset `place` of `bytes`.
 fn has(bytes: &[u8], place: usize, wanted: &[u8]) -> bool {
     match bytes.get(place..) {
         Some(rest) => rest.starts_with(wanted),
@@ -45,8 +45,9 @@ fn has(bytes: &[u8], place: usize, wanted: &[u8]) -> bool {
     }
 }
 
-/// Sixteen segments of 65,534 bytes, the most that a slot can have: ones in the slots 0 to 7, twos in the others. Each
-/// takes 128 blocks, with two zeros behind it, so that of slot n begins at block 1 + 128 n.
+/// Sixteen segments of 65,534 bytes, the greatest length that a slot can have. Their bytes are 1 in slots 0 to 7, and 2
+/// in the others. Each segment takes 128 blocks, with two zeros at the end. The segment of slot n begins at block 1 +
+/// 128 n.
 #[test]
 fn largest_file_is_written(rt: HostRuntime) -> Result<(), Fail> {
     let mut segments = vec![in rt.alloc(); 1; 524_272]?;
@@ -69,7 +70,7 @@ fn largest_file_is_written(rt: HostRuntime) -> Result<(), Fail> {
     Ok(())
 }
 
-/// The procedure of a segment by itself.
+/// Disassembles only one procedure of a segment.
 #[test]
 fn one_procedure(rt: HostRuntime) -> Result<(), Fail> {
     let alloc = rt.alloc();

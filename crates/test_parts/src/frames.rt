@@ -1,11 +1,11 @@
-//! Calls and returns one by one: what is kept of links and tables, and which words are watched.
+//! Single calls and returns: which links and tables are cached, and which words are watched.
 use pm_calls::{Frames, Registers, ValidRegisters};
 use pm_families::Call;
 use pm_words::{ExecError, Memory};
 use std::alloc::Global;
 use std::process::Abort;
 
-// A segment at 2000 with one procedure, whose table stands at 1900.
+// Puts a segment at 2000 with one procedure, whose attribute table is at 1900.
 fn put_segment(memory: &mut Memory) {
     memory.set_word(2000, 256 + 1);
     memory.set_word(1998, 98);
@@ -31,7 +31,7 @@ fn registers() -> ValidRegisters {
 // The code of a segment with one procedure.
 const CODE: [u8; 16] = [0, 0, 0, 0, 0, 0, 0, 0, 0, 0, 1, 0, 2, 0, 3, 1];
 
-// What calls read and write.
+// The memory, frames and registers that calls read and write.
 #[derive(Drop)]
 struct Parts {
     memory: Box<Memory>,
@@ -64,7 +64,7 @@ impl Parts {
             .expect(rt, "a call");
     }
 
-    // A call of procedure 1 of a slot, whose code is lent.
+    // Calls procedure 1 of a slot. Its code is lent.
     fn call_slot(&mut self, rt: &impl Abort, slot: u8) {
         self.frames
             .call(
@@ -81,14 +81,14 @@ impl Parts {
         self.call_slot(rt, 3);
     }
 
-    // Keeps slot 3, whose code is lent.
+    // Keeps slot 3. Its code is lent.
     fn keep_segment(&mut self, rt: &impl Abort) {
         self.frames
             .keep(&mut self.memory, &mut self.registers, 3, Some(&CODE))
             .expect(rt, "a segment");
     }
 
-    // A return by RBP or by RNP.
+    // Returns by RBP if `base` is true, otherwise by RNP.
     fn ret(&mut self, rt: &impl Abort, base: bool) {
         self.frames
             .ret(&mut self.memory, &mut self.registers, 0, base)
@@ -108,7 +108,7 @@ impl Parts {
         assert!(rt; self.frames.kept().len() == count);
     }
 
-    // No word that is watched was written.
+    // Asserts that no watched word was written.
     fn is_untouched(&self, rt: &impl Abort) {
         assert!(rt; !self.memory.touched());
     }
@@ -157,7 +157,7 @@ fn calls_and_returns_keep_what_is_kept(rt: HostRuntime) {
     }
 }
 
-// 50 calls, and the returns from them.
+// Makes 50 calls, and the returns from them.
 fn descends(rt: &impl Abort, parts: &mut Parts) {
     for depth in 0..50 {
         parts.call(rt);
@@ -183,8 +183,8 @@ fn a_deep_descent_keeps_all_bases(rt: HostRuntime) {
     }
 }
 
-// Of 130 calls the last 128 frames are kept; the words of the others are given back, so that the same calls again
-// write no watched word.
+// After 130 calls, the last 128 frames are cached. The words of the others are no longer watched, so that the same
+// calls write no watched word when they are made again.
 #[test]
 fn the_129th_base_gives_its_word_back(rt: HostRuntime) {
     let mut parts = Parts::new(&rt, rt.alloc());
@@ -202,8 +202,8 @@ fn the_129th_base_gives_its_word_back(rt: HostRuntime) {
     }
 }
 
-// Segment 3 calls segment 4, which calls segment 3: its tables stay over the return from the inner call, since the
-// outer one still runs, and go with that.
+// Segment 3 calls segment 4, which calls segment 3. The tables of segment 3 remain cached after the return from the
+// inner call, because the outer call still runs. They are dropped when the outer call returns.
 #[test]
 fn tables_of_a_called_segment_stay_over_an_inner_return(rt: HostRuntime) {
     let mut parts = Parts::new(&rt, rt.alloc());
@@ -254,7 +254,7 @@ fn calls_of_a_segment_that_stays_touch_nothing(rt: HostRuntime) {
     }
 }
 
-// A kept segment keeps its table too, and given up it leaves no word watched.
+// The table of a kept segment remains cached too. After the segment is released, none of its words is watched.
 #[test]
 fn calls_of_a_kept_segment_keep_its_table(rt: HostRuntime) {
     let mut parts = Parts::new(&rt, rt.alloc());
@@ -302,7 +302,7 @@ fn exit_touches_nothing(rt: HostRuntime) {
 #[test]
 fn sixteen_tables_are_kept(rt: HostRuntime) {
     let mut memory = Memory::new(rt.alloc()).expect(&rt, "memory");
-    // seventeen procedures, whose tables stand at 1900, 1888, ..
+    // seventeen procedures, whose attribute tables are at 1900, 1888, ..
     memory.set_word(2000, 17 * 256 + 1);
     for p in 1..18_u16 {
         let table = 1912 - 12 * p;
@@ -316,7 +316,7 @@ fn sixteen_tables_are_kept(rt: HostRuntime) {
     assert!(rt; frames.kept().len() == 16);
     assert!(rt; frames.kept()[0].procedure == 17);
     assert!(rt; frames.kept()[15].procedure == 2);
-    // the table of the first was dropped, and its words with it
+    // the table of the first was dropped, and its words are no longer watched
     memory.set_word(1900, 5);
     assert!(rt; !memory.touched());
     memory.set_word(1888, 5);

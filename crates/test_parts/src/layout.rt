@@ -1,4 +1,4 @@
-//! Code files in the canonical layout, whatever the lengths of their segments.
+//! Code files in the canonical layout, for segments of any length.
 ghost use Rattle.std.specs.Prelude.{◌≡◌, ◌%◌, ◌<◌, ◌++◌, OnErr, OnOk, length, set};
 
 use crate::spelled::unreadable;
@@ -7,7 +7,7 @@ use std::io;
 
 const BLOCK: usize = 512;
 
-/// Where the names of the slots begin, of 8 bytes each, and where they end.
+/// The offset of the names of the slots, which have 8 bytes each.
 const NAMES: usize = 64;
 
 const NAMES_END: usize = 192;
@@ -19,7 +19,11 @@ pub struct Segment {
     pub bytes: Vec<u8>,
 }
 
-/// Sets a byte, if it is there.
+/// Sets the byte at `place`.
+///
+/// # Errors
+///
+/// `InvalidData`: `place` is not below the number of bytes. Nothing changes.
 pub fn set_byte(bytes: &mut Vec<u8>, place: usize, value: u8) -> io::Result<()>
     ensures there { OnOk result (place < length bytes.old.items) }
     ensures set { OnOk result (bytes.new.items ≡ set bytes.old.items place value) }
@@ -38,7 +42,7 @@ fn set_word(bytes: &mut Vec<u8>, place: usize, word: usize) -> io::Result<()> {
     set_byte(bytes, place.saturating_add(1), (word / 256 % 256) as u8)
 }
 
-// Adds zeros up to the end of a block.
+// Appends zeros up to the end of a block.
 fn fill_block(file: &mut Vec<u8>) -> io::Result<()> {
     let used = file.len() % BLOCK;
     if used > 0 {
@@ -49,8 +53,14 @@ fn fill_block(file: &mut Vec<u8>) -> io::Result<()> {
     Ok(())
 }
 
-/// A block of the dictionary, with blank names, and each segment from the next block on, in the order in which they are
-/// given. Lengths may be odd and above a word, of which the dictionary has what fits.
+/// Returns a code file: a dictionary block, in which all names are spaces, and then the segments in the given order.
+/// Each segment begins at a block. Its length in bytes may be odd or above 65,535. The dictionary has the low 16 bits
+/// of the length.
+///
+/// # Errors
+///
+/// - `InvalidData`: the entry of a slot is not in the file that was written so far.
+/// - `OutOfMemory`: the file cannot be allocated.
 pub fn code_file(alloc: Global, segments: &[Segment]) -> io::Result<Vec<u8>> {
     let mut file = vec![in alloc; 0; BLOCK]?;
     file[NAMES..NAMES_END].fill(b' ');
@@ -65,7 +75,8 @@ pub fn code_file(alloc: Global, segments: &[Segment]) -> io::Result<Vec<u8>> {
     Ok(file)
 }
 
-/// Gives a slot its name, of which the first 8 bytes count.
+/// Sets the name of a slot to the first 8 bytes of `name`. If `name` is shorter, the other bytes of the slot's name are
+/// unchanged.
 pub fn set_name(file: &mut Vec<u8>, slot: usize, name: &[u8]) -> io::Result<()> {
     let begin = slot.saturating_mul(8).saturating_add(NAMES);
     for (at, value) in name.iter().enumerate().take(8) {

@@ -1,5 +1,5 @@
-//! Steps that go the quick way: each opcode that has one goes it, and so does a whole program. No contract says so,
-//! since a machine that makes none of its steps so makes the same steps.
+//! Steps on the fast execution path: each opcode that has a fast path uses it, and so does a whole program. No contract
+//! states this, because a machine that never uses the fast path executes the same steps.
 use crate::booted::volume;
 use crate::codes::{CALLS, KEEPS, TOP};
 use crate::tested::Tested;
@@ -8,7 +8,8 @@ use std::alloc::Global;
 use std::process::Abort;
 use std::test::Fail;
 
-/// Each program ends at an XIT, which is no quick step, after so many quick ones.
+/// Programs with the number of steps that they execute on the fast path. Each ends at an `XIT`, which is not such a
+/// step.
 const PROGRAMS: [(&[u8], u64); 26] = [
     // arithmetic, logic and comparisons of integers, LDCN and LDCI
     (
@@ -28,7 +29,7 @@ const PROGRAMS: [(&[u8], u64); 26] = [
         ],
         32,
     ),
-    // SIND 0 to 7, each at 1,024
+    // SIND 0 to 7, each at address 1,024
     (
         &[
             0xC7, 0x00, 0x04, 0xF8, 0xC7, 0x00, 0x04, 0xF9, 0xC7, 0x00, 0x04, 0xFA, 0xC7, 0x00,
@@ -62,7 +63,7 @@ const PROGRAMS: [(&[u8], u64); 26] = [
         &[0xA5, 0x01, 0x00, 0x41, 0xBF, 0xA5, 0x01, 0x00, 0xBE, 0xD6],
         7,
     ),
-    // FJP that is not taken and that is, UJP, EFJ, NFJ
+    // FJP, not taken and taken; UJP, EFJ, NFJ
     (
         &[
             0x01, 0xA1, 0x00, 0x00, 0xA1, 0x00, 0xB9, 0x00, 0x01, 0x02, 0xD3, 0x00, 0x01, 0x01,
@@ -107,7 +108,7 @@ const PROGRAMS: [(&[u8], u64); 26] = [
         ],
         17,
     ),
-    // XJP at an odd address by its table, out of its bounds, and at an even address
+    // XJP at an odd address by its table, XJP out of its bounds, and XJP at an even address
     (
         &[
             0x01, 0xAC, 0x00, 0x00, 0x01, 0x00, 0xB9, 0x00, 0xFC, 0xFF, 0xFE, 0xFF, 0x05, 0xAC,
@@ -182,7 +183,7 @@ const PROGRAMS: [(&[u8], u64); 26] = [
         ],
         15,
     ),
-    // IND, IXA, LAO, LDO, SRO, LLA, LDL and STL of 127; LDA, LOD and STR of 127, as many links up
+    // IND, IXA, LAO, LDO, SRO, LLA, LDL and STL of 127; LDA, LOD and STR of 127, 127 links up
     (
         &[
             0xA5, 0x01, 0xA3, 0x7F, 0x01, 0xA4, 0x7F, 0xA5, 0x7F, 0xA9, 0x7F, 0xAB, 0x7F, 0xC6,
@@ -191,7 +192,7 @@ const PROGRAMS: [(&[u8], u64); 26] = [
         ],
         13,
     ),
-    // MOV of 127 words, LDM and STM of 255, EQU of 127 bytes and of 127 words: at 2,048 and 2,304
+    // MOV of 127 words, LDM and STM of 255, EQU of 127 bytes and of 127 words, at addresses 2,048 and 2,304
     (
         &[
             0xC7, 0x00, 0x08, 0xC7, 0x00, 0x09, 0xA8, 0x7F, 0xC7, 0x00, 0x09, 0xC7, 0x00, 0x08,
@@ -200,7 +201,7 @@ const PROGRAMS: [(&[u8], u64); 26] = [
         ],
         13,
     ),
-    // a string of 255 characters, by STB of its length at 2,048: SAS to 2,304, EQU, IXS
+    // a string of 255 characters at address 2,048, whose length is stored by STB; SAS to 2,304, EQU, IXS
     (
         &[
             0xC7, 0x00, 0x08, 0x00, 0xC7, 0xFF, 0x00, 0xBF, 0xC7, 0x00, 0x09, 0xC7, 0x00, 0x08,
@@ -220,7 +221,7 @@ const PROGRAMS: [(&[u8], u64); 26] = [
     ),
 ];
 
-/// All steps of the program but its last one are quick, and so many.
+/// Asserts that the program executes `count` steps on the fast path, and ends with the next step.
 fn goes_quickly(rt: &impl Abort, alloc: Global, code: &[u8], count: u64) {
     let mut machine = Tested::raw(rt, alloc, code);
     machine.makes_quick(rt, 1000, count);
@@ -236,11 +237,11 @@ fn opcodes_go_quickly(rt: HostRuntime) {
     }
 }
 
-/// What stands behind the code of a segment of 64 bytes with one procedure, without parameters and variables, that is
-/// entered at its first byte.
+/// The last 14 bytes of a segment of 64 bytes: the attribute table of its one procedure, and the dictionary. The
+/// procedure has no parameters and no variables, and is entered at the first byte of the segment.
 const TABLE: [u8; 14] = [0, 0, 0, 0, 6, 0, 56, 0, 1, 0, 2, 0, 1, 1];
 
-/// A segment of 64 bytes whose procedure has this code, of at most 50 bytes.
+/// Returns a segment of 64 bytes whose procedure has this code, of at most 50 bytes.
 fn segment_of(code: &[u8]) -> [u8; 64] {
     let mut segment = [0xD7; 64];
     for (place, byte) in segment.iter_mut().zip(code) {
@@ -250,7 +251,7 @@ fn segment_of(code: &[u8]) -> [u8; 64] {
     segment
 }
 
-/// The same programs as segments of a code file, which stand high in memory.
+/// The same programs as segments of a code file, which are at high addresses.
 #[test]
 fn booted_opcodes_go_quickly(rt: HostRuntime) -> Result<(), Fail> {
     for (code, count) in &PROGRAMS {
@@ -272,7 +273,8 @@ fn constants_go_quickly(rt: HostRuntime) {
     goes_quickly(&rt, rt.alloc(), &code, 128);
 }
 
-/// A jump forward by 127, to the same jump by the jump table, from the place 128 bytes below its end.
+/// Asserts that two jumps use the fast path: one forward by 127 bytes, and then one by the jump table entry 128 bytes
+/// below the end of the table.
 fn jumps_far(rt: &impl Abort, alloc: Global, opcode: u8, word: u8) {
     let mut code = [0xD6; 300];
     code[..4].copy_from_slice(&[0x00, word, opcode, 0x7F]);
@@ -281,7 +283,7 @@ fn jumps_far(rt: &impl Abort, alloc: Global, opcode: u8, word: u8) {
     goes_quickly(rt, alloc, &code, 6);
 }
 
-/// FJP, UJP, EFJ and NFJ, which are taken.
+/// FJP, UJP, EFJ and NFJ, each taken.
 #[test]
 fn far_jumps_go_quickly(rt: HostRuntime) {
     for (opcode, word) in [(0xA1, 0), (0xB9, 0), (0xD3, 1), (0xD4, 0)] {
@@ -306,8 +308,8 @@ fn long_literals_go_quickly(rt: HostRuntime) {
     goes_quickly(&rt, rt.alloc(), &code, 2);
 }
 
-/// CLP, then a call of procedure 2 by each kind of call within a segment, and RNP; the return to the system is not
-/// quick.
+/// CLP, then a call of procedure 2 by each kind of call within a segment, and RNP. The return to the system does not
+/// use the fast path.
 #[test]
 fn calls_go_quickly(rt: HostRuntime) {
     for opcode in [0xCE, 0xCF, 0xAE] {
@@ -339,7 +341,7 @@ fn base_calls_go_quickly(rt: HostRuntime) {
     machine.steps_to(&rt, Stop::Ended);
 }
 
-/// RNP and RBP of several words, out of a procedure 2 with 600 bytes of variables.
+/// RNP and RBP of several words, from a procedure 2 with 600 bytes of variables.
 #[test]
 fn returns_of_words_go_quickly(rt: HostRuntime) {
     for (call, back, level, sp) in [(0xCE, 0xAD, 2, 65480), (0xC2, 0xC1, 0, 65478)] {
@@ -361,7 +363,7 @@ fn returns_of_words_go_quickly(rt: HostRuntime) {
     }
 }
 
-/// Calls of procedure 255, whose word of the dictionary stands at 548, by each kind of call within a segment.
+/// Calls of procedure 255, whose dictionary word is at address 548, by each kind of call within a segment.
 #[test]
 fn calls_of_procedure_255_go_quickly(rt: HostRuntime) {
     for opcode in [0xCE, 0xCF, 0xAE] {
@@ -384,7 +386,8 @@ const CROSSING: [u8; 56] = [
     0x02, 0x00, 0x02, 0x01,
 ];
 
-/// CXP of a segment that stands by a call is quick, from itself and from another; that which loads one is not.
+/// CXP of a segment that is loaded by a call uses the fast path, from the segment itself and from another one. A CXP
+/// that loads the segment does not.
 #[test]
 fn calls_of_called_segments_go_quickly(rt: HostRuntime) -> Result<(), Fail> {
     let volume = volume(rt.alloc(), 2, [36, 20, 0], &CROSSING)?;
@@ -396,8 +399,8 @@ fn calls_of_called_segments_go_quickly(rt: HostRuntime) -> Result<(), Fail> {
     Ok(())
 }
 
-/// A segment that the program keeps: CXP of it is quick, and so is RBP, but not to the system. Load and unload a
-/// segment are not.
+/// CXP of a segment that the program keeps uses the fast path, and so does RBP, except to the system. Loading and
+/// unloading a segment do not.
 #[test]
 fn calls_of_segments_go_quickly(rt: HostRuntime) -> Result<(), Fail> {
     let volume = volume(rt.alloc(), 2, [28, 16, 0], &KEEPS)?;
@@ -414,7 +417,7 @@ fn calls_of_segments_go_quickly(rt: HostRuntime) -> Result<(), Fail> {
 /// A loop of an addition: 1 + 2 into a variable, and a jump back by the jump table.
 const LOOP: [u8; 10] = [0x01, 0x02, 0x82, 0xAB, 0x01, 0xB9, 0xFE, 0xD7, 0x08, 0x00];
 
-/// Every step of a loop is quick, up to the limit.
+/// Every step of a loop uses the fast path, up to the limit.
 #[test]
 fn loops_go_quickly(rt: HostRuntime) {
     let mut machine = Tested::raw(&rt, rt.alloc(), &LOOP);
@@ -427,10 +430,10 @@ fn loops_go_quickly(rt: HostRuntime) {
     machine.holds(&rt, 65504, 3);
 }
 
-/// The same, but FJP jumps back.
+/// The same loop, with FJP as the jump back.
 const WHILE: [u8; 10] = [0x01, 0x02, 0x82, 0xAB, 0x01, 0x00, 0xA1, 0xFE, 0x08, 0x00];
 
-/// A test that stops no run, and may be asked before the first two steps alone.
+/// A test that stops no run. It asserts that it is called only before the first two steps.
 #[derive(Drop)]
 struct AskedAtFirst<'a, A>(&'a A);
 
@@ -449,7 +452,7 @@ impl<A: Abort> StopTest for AskedAtFirst<'_, A> {
     }
 }
 
-/// A run goes the quick way.
+/// A run uses the fast path.
 #[test]
 fn runs_go_quickly(rt: HostRuntime) -> Result<(), Fail> {
     let mut machine = Machine::raw(rt.alloc(), &WHILE)?;

@@ -1,11 +1,11 @@
-//! How many rows or cases agree.
+//! The number of test rows or cases that agree.
 ghost use Rattle.std.specs.Prelude.{◌≡◌, ◌+◌, ◌<◌, min};
 
 use std::alloc::Global;
 use std::fmt;
 
-/// How many rows, scenes or cases of a file agree, how many do not, and what is said of the first of these. Each count
-/// stops at 4,294,967,295.
+/// The numbers of test rows, scenes or cases of a file that agree and that differ, and the message of the first that
+/// differs. Each count stops at 4,294,967,295.
 #[derive(Drop)]
 pub struct Report {
     pub agree: u32,
@@ -14,7 +14,7 @@ pub struct Report {
 }
 
 impl Report {
-    /// Of none.
+    /// Returns a report with both counts 0.
     pub fn new(alloc: Global) -> Report
         ensures none { (result.agree ≡ 0) × (result.differ ≡ 0) }
     {
@@ -25,14 +25,14 @@ impl Report {
         }
     }
 
-    /// Counts one that agrees.
+    /// Counts one more that agrees.
     pub fn agrees(&mut self)
         ensures counted { self.new ≡ record self.old { agree = min (self.old.agree + 1) 4294967295 } }
     {
         self.agree = self.agree.saturating_add(1);
     }
 
-    /// Counts one that does not, and keeps what is said of it if it is the first.
+    /// Counts one more that differs. If it is the first, its message `told` is stored.
     pub fn differs(&mut self, told: String)
         ensures counted { self.new.differ ≡ min (self.old.differ + 1) 4294967295 }
         ensures agree { self.new.agree ≡ self.old.agree }

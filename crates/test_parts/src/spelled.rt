@@ -1,4 +1,4 @@
-//! How rows and cases spell numbers and bytes.
+//! How test rows and cases spell numbers and bytes.
 ghost use Rattle.std.specs.Str.Parse.{ParsesUnsigned};
 
 use hex::FromHexError;
@@ -6,12 +6,16 @@ use std::alloc::{AllocError, Global};
 use std::io;
 use std::io::ErrorKind;
 
-/// The line cannot be read.
+/// Returns the error for a line that cannot be read.
 pub fn unreadable() -> io::Error {
     io::Error::from(ErrorKind::InvalidData)
 }
 
-/// The number that a word spells in decimal, with a plus sign before its digits or without.
+/// Returns the decimal number in `text`. A plus sign before its digits is allowed.
+///
+/// # Errors
+///
+/// `InvalidData`: the text is not such a number, or the number does not fit in 64 bits.
 pub fn number(text: &str) -> io::Result<usize>
     ensures number { ParsesUnsigned 64 10 text.now result }
 {
@@ -21,7 +25,11 @@ pub fn number(text: &str) -> io::Result<usize>
     }
 }
 
-/// The number of steps that a word spells.
+/// Returns the number of steps in `text`, in the form that `number` reads.
+///
+/// # Errors
+///
+/// `InvalidData`: the text is not such a number, or the number does not fit in 32 bits.
 pub fn steps(text: &str) -> io::Result<u32>
     ensures number { ParsesUnsigned 32 10 text.now result }
 {
@@ -31,7 +39,11 @@ pub fn steps(text: &str) -> io::Result<u32>
     }
 }
 
-/// The number of one byte that a word spells.
+/// Returns the number of one byte in `text`, in the form that `number` reads.
+///
+/// # Errors
+///
+/// `InvalidData`: the text is not such a number, or the number is above 255.
 pub fn byte(text: &str) -> io::Result<u8>
     ensures number { ParsesUnsigned 8 10 text.now result }
 {
@@ -41,8 +53,12 @@ pub fn byte(text: &str) -> io::Result<u8>
     }
 }
 
-/// The number of two bytes that a word spells: in decimal, below 0 in two's complement, or `$` and four hexadecimal
-/// digits.
+/// Returns the word in `text`: a decimal number, which is in two's complement if it is negative, or `$` and four
+/// hexadecimal digits.
+///
+/// # Errors
+///
+/// `InvalidData`: the text is neither, or the number does not fit in a word.
 pub fn word(text: &str) -> io::Result<u16> {
     if let Some(digits) = text.strip_prefix('$') {
         let mut bytes = [0; 2];
@@ -63,7 +79,7 @@ pub fn word(text: &str) -> io::Result<u16> {
     }
 }
 
-// The bytes that pairs of digits spell.
+// Returns the bytes that pairs of hexadecimal digits spell.
 fn pairs(alloc: Global, digits: &str) -> io::Result<Vec<u8>> {
     match hex::decode(alloc, digits) {
         Ok(bytes) => Ok(bytes),
@@ -72,7 +88,8 @@ fn pairs(alloc: Global, digits: &str) -> io::Result<Vec<u8>> {
     }
 }
 
-// Adds bytes that count up from the first of these, 0 after 250.
+// Appends `count` bytes that count up from the one byte of `first`, with 0 after 250. Another number of bytes in
+// `first` is an error.
 fn add_run(bytes: &mut Vec<u8>, first: &[u8], count: usize) -> io::Result<()> {
     if let [first] = first {
         let mut byte = *first;
@@ -85,7 +102,8 @@ fn add_run(bytes: &mut Vec<u8>, first: &[u8], count: usize) -> io::Result<()> {
     Err(unreadable())
 }
 
-// Adds the bytes of a piece: pairs of digits, `N*` and such, which are bytes N times, or `N+HH`, N bytes that count up.
+// Appends the bytes of a piece: pairs of digits; `N*` and pairs of digits, which repeats their bytes N times; or
+// `N+HH`, which is N bytes that count up.
 fn add_piece(alloc: Global, bytes: &mut Vec<u8>, piece: &str) -> io::Result<()> {
     if let Some((count, digits)) = piece.split_once('+') {
         return add_run(bytes, &pairs(alloc, digits)?, number(count)?);
@@ -98,8 +116,14 @@ fn add_piece(alloc: Global, bytes: &mut Vec<u8>, piece: &str) -> io::Result<()> 
     Ok(())
 }
 
-/// The bytes of pieces with blanks between them: pairs of digits; `N*` before them, N times; `N+HH`, N bytes that count
-/// up from that one, 0 after 250.
+/// Returns the bytes of the pieces of `text`, which are separated by single spaces. A piece is pairs of hexadecimal
+/// digits. `N*` before the digits repeats their bytes N times. `N+HH` is N bytes that count up from HH, with 0 after
+/// 250.
+///
+/// # Errors
+///
+/// - `InvalidData`: a piece has another form.
+/// - `OutOfMemory`: the bytes cannot be allocated.
 pub fn hex_bytes(alloc: Global, text: &str) -> io::Result<Vec<u8>> {
     let mut bytes = Vec::new(alloc);
     for piece in text.split(' ') {
@@ -108,7 +132,7 @@ pub fn hex_bytes(alloc: Global, text: &str) -> io::Result<Vec<u8>> {
     Ok(bytes)
 }
 
-/// Bytes in pairs of digits with blanks between them.
+/// Returns bytes as pairs of hexadecimal digits, separated by spaces.
 pub fn hex_text(alloc: Global, bytes: &[u8]) -> Result<String, AllocError> {
     let mut text = String::new(alloc);
     for byte in bytes.iter() {
@@ -120,7 +144,7 @@ pub fn hex_text(alloc: Global, bytes: &[u8]) -> Result<String, AllocError> {
     Ok(text)
 }
 
-// The byte that two digits spell.
+// Returns the byte that two hexadecimal digits spell.
 fn pair(high: u8, low: u8) -> io::Result<u8> {
     let mut byte = [0];
     match hex::decode_to_slice(&[high, low], &mut byte) {
@@ -129,7 +153,13 @@ fn pair(high: u8, low: u8) -> io::Result<u8> {
     }
 }
 
-/// Adds the bytes of a text in which `\hh` is a byte and all else stands for itself; a backslash alone is no byte.
+/// Appends the bytes of `text`, in which `\hh` is the byte with these hexadecimal digits and every other character is
+/// its own bytes. If the text is only a backslash, it has no bytes.
+///
+/// # Errors
+///
+/// - `InvalidData`: two hexadecimal digits do not follow a backslash. Bytes before it may be appended.
+/// - `OutOfMemory`: `bytes` cannot grow.
 pub fn add_escaped(bytes: &mut Vec<u8>, text: &str) -> io::Result<()> {
     if text == "\\" {
         return Ok(());
@@ -147,7 +177,11 @@ pub fn add_escaped(bytes: &mut Vec<u8>, text: &str) -> io::Result<()> {
     Ok(())
 }
 
-/// The name that an escaped text spells.
+/// Returns the name that an escaped text spells.
+///
+/// # Errors
+///
+/// Those of `add_escaped`, and `InvalidData` if the bytes are not UTF-8.
 pub fn name(alloc: Global, text: &str) -> io::Result<String> {
     let mut bytes = Vec::new(alloc);
     add_escaped(&mut bytes, text)?;
@@ -157,7 +191,7 @@ pub fn name(alloc: Global, text: &str) -> io::Result<String> {
     }
 }
 
-// The digest of bytes: 64-bit FNV-1a.
+// Returns the 64-bit FNV-1a hash of bytes.
 fn digest(bytes: &[u8]) -> u64 {
     let mut hash: u64 = 0xcbf2_9ce4_8422_2325;
     for byte in bytes.iter() {
@@ -166,20 +200,21 @@ fn digest(bytes: &[u8]) -> u64 {
     hash
 }
 
-/// The digest of bytes, in 16 digits: 64-bit FNV-1a.
+/// Returns the 64-bit FNV-1a hash of bytes as 16 hexadecimal digits.
 pub fn digest_text(alloc: Global, bytes: &[u8]) -> Result<String, AllocError> {
     let hash = digest(bytes);
     format!(in alloc; "{hash:016x}")
 }
 
-/// How many bytes there are, and their digest.
+/// Returns the number of bytes and their hash, separated by a space.
 pub fn measured(alloc: Global, bytes: &[u8]) -> Result<String, AllocError> {
     let count = bytes.len();
     let hash = digest(bytes);
     format!(in alloc; "{count} {hash:016x}")
 }
 
-/// Bytes as an answer has them: in hexadecimal, or above `most` their number and digest.
+/// Returns bytes as a test answer spells them: in hexadecimal, or as their number and hash if there are more than
+/// `most`.
 pub fn bytes_text(alloc: Global, bytes: &[u8], most: usize) -> Result<String, AllocError> {
     if bytes.len() > most {
         return measured(alloc, bytes);

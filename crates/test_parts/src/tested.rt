@@ -1,24 +1,24 @@
-//! A machine under test: each call asserts what it comes to, so that a test is a list of calls.
+//! A machine under test. Each call asserts its result, so that a test is a list of calls.
 use crate::booted::boots;
 use pm_machine::{Machine, Stop};
 use pm_volume::Volume;
 use std::alloc::Global;
 use std::process::Abort;
 
-/// A machine, and what is asserted of it.
+/// A machine whose calls assert their results.
 #[derive(Drop)]
 pub(crate) struct Tested {
     machine: Machine,
 }
 
 impl Tested {
-    /// A machine with bare code.
+    /// Returns a machine with raw p-code.
     pub(crate) fn raw(rt: &impl Abort, alloc: Global, code: &[u8]) -> Tested {
         let machine = Machine::raw(alloc, code).expect(rt, "a machine");
         Tested { machine }
     }
 
-    /// The machine that a volume on unit 4 boots with its file `P`.
+    /// Returns the machine that boots the file `P` of `volume` on unit 4.
     pub(crate) fn booted(rt: &impl Abort, alloc: Global, volume: Volume) -> Tested {
         let machine = boots(alloc, volume).expect(rt, "a machine");
         Tested { machine }
@@ -32,17 +32,17 @@ impl Tested {
         assert!(rt; self.machine.key(byte).is_ok());
     }
 
-    /// One step comes to this.
+    /// Asserts that the next step returns `stop`.
     pub(crate) fn steps_to(&mut self, rt: &impl Abort, stop: Stop) {
         assert_eq!(rt; self.machine.step(), Ok(stop));
     }
 
-    /// A run comes to so many steps and this.
+    /// Asserts that a run of at most `limit` steps executes `count` steps and returns `stop`.
     pub(crate) fn runs_to(&mut self, rt: &impl Abort, limit: u64, count: u64, stop: Stop) {
         assert_eq!(rt; self.machine.run(limit), Ok((count, stop)));
     }
 
-    /// So many of at most `limit` steps are quick ones.
+    /// Asserts that `quick_steps(limit)` executes `count` steps.
     pub(crate) fn makes_quick(&mut self, rt: &impl Abort, limit: u64, count: u64) {
         assert_eq!(rt; self.machine.quick_steps(limit), count);
     }
@@ -59,7 +59,7 @@ impl Tested {
         assert_eq!(rt; self.machine.memory().word(address), Some(word));
     }
 
-    /// So many bytes were written to the console, and so many to the printer.
+    /// Asserts that this number of bytes was written to the console and to the printer.
     pub(crate) fn has_written(&self, rt: &impl Abort, console: usize, printer: usize) {
         assert_eq!(rt; self.machine.console().len(), console);
         assert_eq!(rt; self.machine.printer().len(), printer);

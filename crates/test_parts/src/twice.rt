@@ -1,6 +1,5 @@
-//! Programs against themselves: each goes step by step in two machines, and in one of them each word of memory is
-//! written with its own value before each step. That drops what is kept of links and tables, and nothing that is seen
-//! may differ.
+//! Executes each program step by step in two machines. In one of them each word of memory is overwritten with its own
+//! value before each step. This drops the cached links and tables. Everything that the machines show must stay equal.
 ghost use Rattle.std.specs.Prelude.{◌≡◌, length, sum};
 
 use crate::any_bytes::generated;
@@ -23,7 +22,7 @@ struct Twice {
     made: u16,
 }
 
-/// Memory and the rest of what a machine shows are the same.
+/// Asserts that the memory and everything else that a machine shows are equal.
 fn are_same(rt: &impl Abort, one: &Machine, other: &Machine) {
     assert_eq!(rt; one.registers(), other.registers());
     assert_eq!(rt;
@@ -39,7 +38,7 @@ fn are_same(rt: &impl Abort, one: &Machine, other: &Machine) {
     }
 }
 
-/// The stack and both chains.
+/// The stack, the static chain and the dynamic chain.
 type Chains = (
     Vec<u16>,
     Result<Vec<u16>, DebugRefusal>,
@@ -54,7 +53,7 @@ fn chains(rt: &impl Abort, alloc: Global, debugger: &Debugger) -> Chains {
     )
 }
 
-/// Variables of frames up the static links.
+/// Returns variables of frames that the static links reach.
 fn locals(debugger: &mut Debugger) -> [Result<u16, DebugRefusal>; 4] {
     [
         debugger.local(0, 1),
@@ -73,7 +72,7 @@ impl Twice {
         }
     }
 
-    /// Bare code, of which words are written over before the first step.
+    /// Returns two machines with raw p-code. The words in `pokes` are overwritten before the first step.
     fn raw(rt: &impl Abort, alloc: Global, code: &[u8], pokes: &[(u16, u16)]) -> Twice {
         let mut plain = Machine::raw(alloc, code).expect(rt, "a machine");
         let mut written = Machine::raw(alloc, code).expect(rt, "a machine");
@@ -84,7 +83,7 @@ impl Twice {
         Twice::new(plain, written)
     }
 
-    /// The program of a code file, with these lengths of the slots 1, 2 and 3.
+    /// Returns two machines with the program of a code file, whose slots 1, 2 and 3 have these lengths in bytes.
     fn booted(alloc: Global, lengths: [u16; 3], segments: &[u8]) -> Result<Twice, Fail>
         requires joined { sum lengths ≡ length segments.now }
     {
@@ -93,7 +92,7 @@ impl Twice {
         Ok(Twice::new(plain, written))
     }
 
-    /// Writes each word of the one machine with its own value.
+    /// Overwrites each word of the second machine with its own value.
     fn write(&mut self, rt: &impl Abort) {
         let machine = self.written.machine();
         for n in 0..32768_u16 {
@@ -109,7 +108,7 @@ impl Twice {
         assert_eq!(rt; locals(&mut self.plain), locals(&mut self.written));
     }
 
-    /// One step of each, which come to the same.
+    /// Executes one step of each machine, and asserts that both return the same and are equal.
     fn step(&mut self, rt: &impl Abort, alloc: Global) -> Stop {
         self.write(rt);
         let stop = self.plain.machine().step().expect(rt, "memory");
@@ -120,7 +119,7 @@ impl Twice {
         stop
     }
 
-    /// At most so many steps; how the last one ended.
+    /// Executes at most `limit` steps. Returns the result of the last one.
     fn run(&mut self, rt: &impl Abort, alloc: Global, limit: u16) -> Stop {
         self.is_same(rt, alloc);
         for _ in 0..limit {
@@ -132,7 +131,7 @@ impl Twice {
         Stop::Went
     }
 
-    /// The program ends with this step.
+    /// Asserts that the program ends with step number `steps`. Returns the registers.
     fn ends(&mut self, rt: &impl Abort, alloc: Global, steps: u16) -> Registers {
         assert_eq!(rt; self.run(rt, alloc, 100), Stop::Ended);
         assert_eq!(rt; self.made, steps);
@@ -148,7 +147,7 @@ fn stored_link(rt: HostRuntime) {
     assert_eq!(rt; registers.sp, 65488);
 }
 
-/// Two nested procedures, of which the outer one calls the inner one twice.
+/// Two nested procedures. The outer one calls the inner one twice.
 #[test]
 fn nested_calls(rt: HostRuntime) {
     let alloc = rt.alloc();
@@ -157,7 +156,7 @@ fn nested_calls(rt: HostRuntime) {
     assert_eq!(rt; registers.sp, 65492);
 }
 
-/// EXIT through two segments.
+/// EXIT that leaves two segments.
 #[test]
 fn exits(rt: HostRuntime) -> Result<(), Fail> {
     let alloc = rt.alloc();
@@ -166,7 +165,7 @@ fn exits(rt: HostRuntime) -> Result<(), Fail> {
     Ok(())
 }
 
-/// Two segments that are loaded one after the other at one place.
+/// Two segments that are loaded one after the other at the same address.
 #[test]
 fn segments(rt: HostRuntime) -> Result<(), Fail> {
     let alloc = rt.alloc();
@@ -175,7 +174,7 @@ fn segments(rt: HostRuntime) -> Result<(), Fail> {
     Ok(())
 }
 
-/// A segment that is kept, called twice and given up.
+/// A segment that is kept, called twice and released.
 #[test]
 fn kept_segment(rt: HostRuntime) -> Result<(), Fail> {
     let alloc = rt.alloc();
@@ -184,7 +183,7 @@ fn kept_segment(rt: HostRuntime) -> Result<(), Fail> {
     Ok(())
 }
 
-/// Code that stores over code to come: a word of it becomes 2 and 3, and they are added.
+/// Code that overwrites later code. One word of it becomes the constants 2 and 3, which are then added.
 const OWN_CODE: [u8; 12] = [
     0xC7, 0x08, 0x04, 0xC7, 0x02, 0x03, 0x9A, 0xD7, 0xD6, 0xD6, 0x82, 0xD6,
 ];
@@ -198,7 +197,7 @@ fn own_code(rt: HostRuntime) {
     assert_eq!(rt; machine.memory().word(registers.sp), Some(5));
 }
 
-/// A hundred codes of any bytes, each of at most twenty steps.
+/// A hundred pseudo-random codes, each of at most twenty steps.
 #[test]
 fn any_bytes(rt: HostRuntime) {
     let alloc = rt.alloc();

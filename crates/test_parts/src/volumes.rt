@@ -4,7 +4,7 @@ use pm_volume::{Copies, Volume, VolumeFault};
 use std::alloc::{AllocError, Global};
 use std::process::Abort;
 
-// The image of a new volume of 20 blocks.
+// Returns the image of a new volume of 20 blocks.
 fn work(alloc: Global) -> Result<Vec<u8>, VolumeFault> {
     Ok(Volume::blank(alloc, "work", 20)?.into_bytes())
 }
@@ -19,7 +19,7 @@ fn write(image: &mut [u8], at: usize, bytes: &[u8]) {
     }
 }
 
-// The fault of a new volume with other bytes from a place on.
+// Returns the fault of a new volume whose bytes from offset `at` on are replaced by `bytes`.
 fn fault_after(alloc: Global, at: usize, bytes: &[u8]) -> Option<VolumeFault> {
     let Ok(mut image) = work(alloc) else {
         return Some(VolumeFault::NoMemory);
@@ -28,7 +28,7 @@ fn fault_after(alloc: Global, at: usize, bytes: &[u8]) -> Option<VolumeFault> {
     Volume::open(image).err().map(|e| e.0)
 }
 
-// The fault of an image of so many zeros.
+// Returns the fault of an image of `count` zeros.
 fn fault_of_zeros(rt: &impl Abort, alloc: Global, count: usize) -> Option<VolumeFault> {
     let image = vec![in alloc; 0; count].expect(rt, "memory");
     Volume::open(image).err().map(|e| e.0)
@@ -67,7 +67,7 @@ fn refused_images(rt: HostRuntime) {
     assert_eq!(rt; VolumeFault::NoMemory.number(), 12);
 }
 
-// A file is one block with this byte in each place.
+// Asserts that a file is one block, the block `first`, and that each of its bytes is `byte`.
 fn has_block(rt: &impl Abort, volume: &Volume, name: &str, first: u16, byte: u8) {
     let found = volume.find(name);
     assert_eq!(rt; found.as_ref().map(|e| e.first), Some(first));
@@ -101,7 +101,7 @@ fn full_volume(rt: HostRuntime) {
     let e = volume.add("TWO", 5, &two, 0).expect(&rt, "no refusal");
     assert_eq!(rt; (e.first, e.end), (81, 83));
     assert_eq!(rt; volume.entries().count(), 76);
-    // those behind a file that went have moved by a block or by two, with their bytes
+    // files after a removed file have moved by one block or two, with their bytes
     for (name, first, byte) in [
         ("F09", 14, 9),
         ("F11", 15, 11),
@@ -162,7 +162,7 @@ fn disks(rt: HostRuntime) {
     assert_eq!(rt; disk.block(20).is_some(), false);
 }
 
-// The bytes from one place on, up to another.
+// Returns the bytes from offset `begin` up to offset `end`, or none if they are not in the image.
 fn part(image: &[u8], begin: usize, end: usize) -> &[u8] {
     match image.get(begin..end) {
         Some(bytes) => bytes,
@@ -170,13 +170,13 @@ fn part(image: &[u8], begin: usize, end: usize) -> &[u8] {
     }
 }
 
-// Whether so many bytes stand there, all of them this one.
+// Whether the image has bytes from `begin` up to `end`, and all of them are `byte`.
 fn are_all(image: &[u8], begin: usize, end: usize, byte: u8) -> bool {
     let bytes = part(image, begin, end);
     !bytes.is_empty() && bytes.iter().all(|b| *b == byte)
 }
 
-// An image of bytes 165, but for what is read of the volume W of 20 blocks with the file A at block 8.
+// Returns an image in which the volume W of 20 blocks has the file A at block 8. Every byte that no call reads is 165.
 fn marked(alloc: Global) -> Result<Vec<u8>, AllocError> {
     let mut image = vec![in alloc; 165; 10240]?;
     write(&mut image, 1026, b"\x06\x00");
@@ -225,7 +225,7 @@ fn unread_bytes_stay(rt: HostRuntime) {
     assert!(rt; are_all(&image, 3584, 10240, 165));
 }
 
-// The image of a volume of 20 blocks with a second copy of its directory and a file A of 3 bytes.
+// Returns the image of a volume of 20 blocks with a second copy of its directory and a file A of 3 bytes.
 fn doubled(alloc: Global) -> Result<Vec<u8>, VolumeFault> {
     let mut volume = Volume::blank(alloc, "work", 20)?;
     volume.add_duplicate()?;
@@ -233,7 +233,8 @@ fn doubled(alloc: Global) -> Result<Vec<u8>, VolumeFault> {
     Ok(volume.into_bytes())
 }
 
-// The fault of that image, cut to so many bytes, with other bytes from two places on.
+// Returns the fault of the image of `doubled` after two changes and a cut to `size` bytes. The byte at offset 1,030
+// becomes `first`, and the bytes from offset `at` on become `second`.
 fn fault_of_doubled(
     alloc: Global,
     size: usize,

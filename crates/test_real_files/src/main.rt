@@ -1,6 +1,6 @@
 //! Tests how files of the system are locked and replaced, in the folder in which it runs, and prints one line for each
-//! case. In the gate it does not run as root, and the umask is 022. Other owners, pipes and paths that are not UTF-8
-//! cannot be tested there. The cases are lines of `script`, which `trial` executes.
+//! case. CI does not run it as root, and sets the umask to 022. It cannot test other owners, pipes and paths that are
+//! not UTF-8. The cases are lines of `script`, which `trial` executes.
 #![tactic(auto)]
 
 mod script;

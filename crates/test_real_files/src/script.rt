@@ -65,9 +65,13 @@ the circle: |kind c
 a link to a folder: |replace d
 ";
 
-/// At the path of the temporary file is a file that another program has open; a link to that file, to nothing, to the
-/// image, in a circle and to a folder; a second hard link to it. Each is removed, and the file of the other program is
-/// unchanged.
+/// The path of the temporary file has one of these, in turn:
+///
+/// - a file that another program has open;
+/// - a link to the file `theirs`, to nothing, to the image, in a circle, or to a folder;
+/// - a second hard link to the file `theirs`.
+///
+/// Each is removed, and the file `theirs` is unchanged.
 const TAKEN_AWAY: &str = "\
 |make a old 600||make a.pmach-new theirs 666||open a.pmach-new
 their file stands there: |replace a
@@ -129,7 +133,7 @@ replaced, it reads: |read a
 and writes: |put a new|; |tell a
 ";
 
-/// The link by which a file is held is changed to another file: both files are unchanged.
+/// The link by which a file is held is changed to another file. Both files are unchanged.
 const LED_ELSEWHERE: &str = "\
 |new||make b old 644||symlink b k
 held by a link: |hold k
@@ -140,7 +144,7 @@ the one file: |text b
 the other: |text a
 ";
 
-/// The folder of a held file is moved, and a link to another folder replaces it: neither folder gets a file, and the
+/// The folder of a held file is moved, and a link to another folder replaces it. Neither folder gets a file, and the
 /// image is unchanged.
 const MOVED: &str = "\
 |new||folder u||folder v||make u/w old 644
@@ -152,7 +156,7 @@ the folder that was linked has: |kind v/w
 the image: |text x/w
 ";
 
-/// A file, a link to a file, and a folder appear at a path that had nothing: each is unchanged.
+/// A file, a link to a file, or a folder appears at a path that had nothing. Each is unchanged.
 const APPEARED: &str = "\
 |new||make theirs theirs 644
 nothing is held: |hold n1

@@ -1,17 +1,18 @@
-//! Executes the lines of a case. The pieces of a line are separated by `|`: a text that is printed, a call whose
-//! answer is printed, a text, and so on. A line that begins with `|` prints no text of its own and no line feed.
+//! Executes the lines of a case. The pieces of a line are separated by `|`. They are by turns a text, which is printed,
+//! and a call, whose answer is printed. A line that begins with `|` prints no text of its own and no line feed.
 //!
 //! - `make FILE BYTES MODE` creates a file again. `link FILE NAME`, `symlink TO LINK`, `remove FILE`, `rename FILE
-//!   NAME`, `folder PATH`, `unfolder PATH`, `mode PATH MODE` and `size FILE COUNT` are the calls of the system.
-//! - `hold FILE`, `prepare FILE`, `put FILE BYTES` and `read FILE` are calls of the store. `new` replaces the store
-//!   by a new one, and `swap` exchanges it with a second store.
+//!   NAME`, `folder PATH`, `unfolder PATH`, `mode PATH MODE` and `size FILE COUNT` are calls of the system.
+//! - `hold FILE`, `prepare FILE`, `put FILE BYTES` and `read FILE` are calls of the store. `new` replaces the store by
+//!   a new one, and `swap` exchanges it with a second store.
 //! - `write FILE` prepares a path in the store and then writes the new bytes to it. `replace FILE` holds a path in a
 //!   new store, writes the new bytes to it, and then does what `tell` does.
-//! - `node FILE` records which file a path names. `tell FILE` prints whether it names that file now, and what it has.
-//! - `text FILE`, `kind PATH`, `same FILE FILE` and `none FILE` answer what a path names. `open FILE` opens a file,
-//!   and `theirs FILE` answers whether a path names that file.
+//! - `node FILE` records which file a path names. `tell FILE` prints the contents, mode and names of a file, and
+//!   whether it is the recorded file. It also prints what is at the path of the temporary file of `a`.
+//! - `text FILE`, `kind PATH`, `same FILE FILE` and `none FILE` return what a path names. `open FILE` opens a file, and
+//!   `theirs FILE` returns whether a path names that file.
 //!
-//! BYTES are `old`, `new` or `theirs`, a MODE has octal digits, and the path `LONG` is a name of 250 letters.
+//! BYTES are `old`, `new` or `theirs`. A MODE has octal digits. The path `LONG` is a name of 250 letters.
 use pm_files::{DiskFault, Host, HostStore, Kind, Node, Store};
 use std::fs::{File, OpenOptions, Permissions};
 use std::io::Write;
@@ -43,13 +44,13 @@ pub struct Trial<'a> {
     rt: &'a HostRuntime,
     store: HostStore<'a, HostRuntime>,
     second: HostStore<'a, HostRuntime>,
-    /// The file that a path named before.
+    /// The file that `node` or `replace` recorded.
     old: Option<Node>,
-    /// The file that is open.
+    /// The file that `open` opened.
     theirs: Option<File>,
 }
 
-/// Returns the bytes that a word of a case names.
+/// Returns the bytes that a keyword names: `old`, `new` or `theirs`.
 fn bytes_of(word: &str) -> &'static [u8] {
     match word {
         "old" => OLD,
@@ -109,7 +110,7 @@ fn node_of(rt: &HostRuntime, path: &str) -> Option<Node> {
     }
 }
 
-/// Creates a file again, with a mode.
+/// Creates a file again, with this mode.
 fn make(rt: &HostRuntime, path: &str, bytes: &[u8], mode: u32) -> io::Result<()> {
     let _ = fs::remove_file(rt, path);
     let mut file = OpenOptions::new()
@@ -156,7 +157,8 @@ impl<'a> Trial<'a> {
         }
     }
 
-    /// Prints what a path names now: the recorded file, or another one.
+    /// Prints the contents, mode and names of the file at a path, whether it is the recorded file, and what is at the
+    /// path of the temporary file.
     fn tell(&self, path: &str) -> io::Result<()> {
         let rt = self.rt;
         let Some(now) = node_of(rt, path) else {
@@ -174,7 +176,7 @@ impl<'a> Trial<'a> {
         )
     }
 
-    /// Whether a path names the file that is open.
+    /// Whether a path names the open file. It is also true if no file is open or a call of the system fails.
     fn is_theirs(&self, path: &str) -> bool {
         let Some(file) = &self.theirs else {
             return true;
@@ -185,7 +187,8 @@ impl<'a> Trial<'a> {
         }
     }
 
-    /// Holds a path in a new store, and writes the new bytes to it.
+    /// Records which file a path names, holds the path in a new store, and writes the new bytes to it. The store is
+    /// then replaced by a new one. Returns the result as text.
     fn replace(&mut self, path: &str) -> &'static str {
         self.old = node_of(self.rt, path);
         self.store = HostStore::new(self.rt);
@@ -197,7 +200,7 @@ impl<'a> Trial<'a> {
         done
     }
 
-    /// Makes a new store, exchanges the two, or stores what a path names or its open file for later lines.
+    /// Executes `new`, `swap`, `node` or `open`.
     fn keep(&mut self, word: &str, path: &str) -> io::Result<()> {
         let rt = self.rt;
         match word {
@@ -209,7 +212,7 @@ impl<'a> Trial<'a> {
         Ok(())
     }
 
-    /// Makes a call and returns its answer, "" if it has none.
+    /// Executes a call and returns its answer, or "" if it has none.
     fn answer(
         &mut self,
         word: &str,
@@ -243,7 +246,7 @@ impl<'a> Trial<'a> {
         }
     }
 
-    /// Makes a call, and prints its answer.
+    /// Executes a call and prints its answer.
     fn call(&mut self, call: &str) -> io::Result<()> {
         let mut words = call.split(' ');
         let word = words.next().unwrap_or("");

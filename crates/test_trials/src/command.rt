@@ -9,20 +9,20 @@ use std::io;
 /// A command line, standard input, and whether the standard streams are a terminal.
 #[derive(Clone, Copy)]
 pub struct CommandLine<'a> {
-    /// The program's name and the words, with a blank between each two.
+    /// The name of the program and the arguments, separated by single spaces.
     pub words: &'a str,
     pub typed: &'a [u8],
     pub on_terminal: bool,
 }
 
-/// What a command line came to: its status, and the disk with what the streams took.
+/// The result of a command line: its status, and the disk with the contents of the standard streams.
 #[derive(Drop)]
 pub struct Came {
     pub status: u8,
     pub disk: Disk,
 }
 
-/// Does a command line on a disk; the call of this number fails, and no other.
+/// Executes a command line on a disk. If `fails_at` is a number, the call with this number fails.
 pub fn come(
     alloc: Global,
     mut disk: Disk,
@@ -44,7 +44,7 @@ pub fn come(
     Came { status, disk }
 }
 
-/// The bytes of a file that has a name, copied.
+/// Returns a copy of the bytes of a file, or no bytes if it has no name.
 fn bytes_of(alloc: Global, inode: &Inode, is_named: bool) -> io::Result<Vec<u8>> {
     let mut bytes = Vec::new(alloc);
     if is_named {
@@ -53,7 +53,7 @@ fn bytes_of(alloc: Global, inode: &Inode, is_named: bool) -> io::Result<Vec<u8>>
     Ok(bytes)
 }
 
-/// A file with what another one has.
+/// Returns a copy of a file.
 fn copy_of(alloc: Global, inode: &Inode, is_named: bool) -> io::Result<Inode> {
     let link = match &inode.link {
         Some(link) => Some(String::from_str(alloc, link.as_str())?),
@@ -75,7 +75,7 @@ fn copy_of(alloc: Global, inode: &Inode, is_named: bool) -> io::Result<Inode> {
     })
 }
 
-/// Adds the files of a disk, and their names, to one that has none.
+/// Adds copies of the files and names of `disk` to `copy`, which has none.
 fn add_files(alloc: Global, copy: &mut Disk, disk: &Disk) -> io::Result<()> {
     for (number, inode) in disk.inodes.iter().enumerate() {
         let is_named = disk.names.iter().any(|name| name.inode == number);
@@ -91,7 +91,7 @@ fn add_files(alloc: Global, copy: &mut Disk, disk: &Disk) -> io::Result<()> {
     Ok(())
 }
 
-/// A disk with the same files as another, of which nothing has been asked.
+/// Returns a disk with the same files as another, without calls so far.
 pub fn copy(alloc: Global, disk: &Disk) -> io::Result<Disk> {
     let mut copy = Disk::new(alloc);
     add_files(alloc, &mut copy, disk)?;

@@ -1,35 +1,35 @@
-//! A disk in memory, which fails at one of the calls that are made of it.
+//! A disk in memory. At most one of the calls on it fails.
 use pm_files::{Kind, Node};
 use std::alloc::Global;
 use std::io;
 use std::io::ErrorKind;
 
-/// A file's bytes, whatever its names are.
+/// A file, a folder or a symbolic link, independent of its names.
 #[derive(Drop)]
 pub struct Inode {
     pub bytes: Vec<u8>,
-    /// Whether another program holds it.
+    /// Whether another program has locked it.
     pub locked: bool,
-    /// The open file by which the program holds it.
+    /// The number of the open file by which the program has locked it.
     pub holder: Option<usize>,
-    /// Whether it may not be read.
+    /// Whether it cannot be opened for reading.
     pub is_private: bool,
-    /// Whether it may not be written.
+    /// Whether it cannot be opened for writing.
     pub is_read_only: bool,
     /// Whether it is a folder.
     pub is_folder: bool,
-    /// Whether no other file can take its place, as of one that is mounted.
+    /// Whether a file cannot be renamed to its name, as if it were a mount point.
     pub is_busy: bool,
-    /// Whether another program made it, which may have it open still.
+    /// Whether another program made it. That program may still have it open.
     pub is_foreign: bool,
-    /// What a symbolic link leads to.
+    /// The path that a symbolic link contains. `None` for everything else.
     pub link: Option<String>,
     pub owner: u32,
     pub group: u32,
     pub mode: u32,
 }
 
-/// A name, and the number of the inode that has it.
+/// A name, and the number of the inode that it names.
 #[derive(Drop)]
 pub struct Name {
     pub path: String,
@@ -39,89 +39,90 @@ pub struct Name {
 /// What another program does with a file.
 #[derive(Clone, Copy)]
 pub enum Act {
-    /// It writes its own bytes over those of the file, or makes it.
+    /// It overwrites the bytes of the file with its own, or creates the file.
     Put,
-    /// It puts a file of its own in the place of the file, as an editor does.
+    /// It replaces the file by a file of its own, as an editor does.
     Replace,
-    /// It takes the name away.
+    /// It removes the name.
     Remove,
-    /// It puts a symbolic link in the place of the file.
+    /// It replaces the file by a symbolic link.
     Symlink,
-    /// It takes the lock of the file, if nobody has it.
+    /// It locks the file, unless the program has locked it.
     Lock,
-    /// It lets go of the lock, which it has.
+    /// It releases its lock.
     Unlock,
-    /// It moves the folder away and makes another in its place, with its own bytes under the path if it has any.
+    /// It moves the folder away and creates another folder at its path. If it has bytes, a file with these bytes is at
+    /// the path in the new folder.
     Move,
 }
 
-/// What another program does while one runs, and when.
+/// What another program does during a command line, and when.
 #[derive(Drop)]
 pub struct Meanwhile {
-    /// The number of the call before which it is done.
+    /// The number of the call before which it acts.
     pub before: usize,
     pub act: Act,
     pub path: String,
-    /// The bytes that it puts.
+    /// The bytes that it writes.
     pub bytes: Vec<u8>,
-    /// What the link leads to that it puts.
+    /// The path that its link contains.
     pub link: String,
 }
 
-/// What a disk holds, what the streams took, and what has been asked of them.
+/// The files of a disk, the contents of the standard streams, and the calls so far.
 #[derive(Drop)]
 pub struct Disk {
     alloc: Global,
     pub inodes: Vec<Inode>,
     pub names: Vec<Name>,
-    /// Whether the folder takes no new name.
+    /// Whether names can neither be added to the folder nor removed from it.
     pub is_closed: bool,
-    /// Whether names of others cannot be removed from the folder.
+    /// Whether names of files of other users cannot be removed from the folder. User 0 can remove them.
     pub is_sticky: bool,
-    /// Whether no path can be made whole, as where a folder above may not be searched.
+    /// Whether no path can be canonicalized, as if a folder above could not be searched.
     pub is_blind: bool,
-    /// Whose program runs. 0 may give files to others.
+    /// The user whose program runs. User 0 can change the owner of a file.
     pub user: u32,
-    /// Who could do what, at any moment, with a file that the program made.
+    /// All permission bits that any file made by the program had at any moment.
     pub widest: u32,
-    /// The inode of each file that was opened, by its number.
+    /// The inode of each file that was opened, in the order of opening.
     pub opened: Vec<usize>,
-    /// Whether another folder stands where the files stood, so that a path that goes through no open folder leads
-    /// there. Its names begin with `ELSEWHERE`.
+    /// Whether another folder has replaced the folder of the files. A path that does not begin with an open folder then
+    /// leads to the new folder. The names in it begin with `ELSEWHERE`.
     pub is_moved: bool,
     /// Whether the system has no paths of open files.
     pub is_plain: bool,
-    /// The calls so far.
+    /// The number of calls so far.
     pub calls: usize,
-    /// The call that fails, and no other.
+    /// The number of the call that fails. All other calls succeed.
     pub fails_at: Option<usize>,
-    /// The letter whose first call fails, and how.
+    /// The letter whose next call fails, and the kind of the error.
     pub fails_of: Option<(char, ErrorKind)>,
-    /// What another program is going to do.
+    /// What another program will do.
     pub meanwhile: Option<Meanwhile>,
-    /// A letter for each call.
+    /// One letter for each call.
     pub log: String,
-    /// How much of standard input is read.
+    /// The number of bytes of standard input that were read.
     pub read: usize,
-    /// What standard output took.
+    /// What was written to standard output.
     pub out: Vec<u8>,
-    /// What standard error took.
+    /// What was written to standard error.
     pub err: String,
 }
 
-/// The number that stands for the folder of the files.
+/// The inode number of the folder of the files.
 pub(crate) const FOLDER: usize = usize::MAX;
 
-/// The number that stands for the folder that another program made in its place.
+/// The inode number of the folder that another program made at its path.
 pub(crate) const OTHER_FOLDER: usize = usize::MAX - 1;
 
-/// What stands before the names in that folder.
+/// The prefix of the names in that folder.
 const ELSEWHERE: &str = "elsewhere/";
 
-/// What stands before the number of an open file in a path.
+/// The prefix of the path of an open file, before its number.
 const OPEN: &str = "/proc/self/fd/";
 
-/// A name in a folder.
+/// A name in one of the two folders.
 #[derive(Clone, Copy)]
 struct Spot<'a> {
     is_elsewhere: bool,
@@ -129,7 +130,7 @@ struct Spot<'a> {
 }
 
 impl Spot<'_> {
-    /// Whether it has this path.
+    /// Whether the stored name `path` is this one.
     fn is(self, path: &str) -> bool {
         if self.is_elsewhere {
             path.strip_prefix(ELSEWHERE) == Some(self.name)
@@ -148,7 +149,7 @@ pub(crate) fn missing() -> io::Error {
 }
 
 impl Disk {
-    /// An empty disk, on which no call fails.
+    /// Returns an empty disk, on which no call fails.
     pub fn new(alloc: Global) -> Disk {
         Disk {
             alloc,
@@ -173,7 +174,7 @@ impl Disk {
         }
     }
 
-    /// Makes a file that has no name yet.
+    /// Creates a file without a name. Returns its inode number.
     fn make(&mut self, bytes: Vec<u8>) -> io::Result<usize> {
         let inode = self.inodes.len();
         let made = self.inodes.push(Inode {
@@ -196,7 +197,7 @@ impl Disk {
         }
     }
 
-    /// The open file that a path names by its number.
+    /// Returns the inode number of the open file whose path this is.
     fn open_at(&self, path: &str) -> Option<usize> {
         if self.is_plain {
             return None;
@@ -205,7 +206,7 @@ impl Disk {
         self.opened.get(number).copied()
     }
 
-    /// Where a path leads, its last name not followed.
+    /// Returns the folder and the name to which a path leads. A symbolic link is not followed.
     fn spot<'a>(&self, path: &'a str) -> Spot<'a> {
         if let Some((folder, name)) = path.rsplit_once('/') {
             if let Some(folder) = self.open_at(folder) {
@@ -220,7 +221,7 @@ impl Disk {
         }
     }
 
-    /// Gives a file a name.
+    /// Adds a name of a file.
     fn call(&mut self, path: &str, inode: usize) -> io::Result<()> {
         let Spot { is_elsewhere, name } = self.spot(path);
         let before = if is_elsewhere { ELSEWHERE } else { "" };
@@ -231,19 +232,19 @@ impl Disk {
         }
     }
 
-    /// Takes a name away.
+    /// Removes a name.
     fn forget(&mut self, path: &str) {
         let spot = self.spot(path);
         self.names.retain(|name| !spot.is(name.path.as_str()));
     }
 
-    /// The file that a path names.
+    /// Returns the file that a path names. A symbolic link is not followed.
     pub fn named(&mut self, path: &str) -> Option<&mut Inode> {
         let number = self.find(path)?;
         self.inodes.get_mut(number)
     }
 
-    /// Another program makes a file, or a symbolic link, in the place of what stands under a path.
+    /// Replaces what a path names by a file or symbolic link that another program makes.
     fn set(&mut self, path: &str, bytes: Vec<u8>, link: Option<String>) -> io::Result<()> {
         self.forget(path);
         let number = self.make(bytes)?;
@@ -254,7 +255,7 @@ impl Disk {
         self.call(path, number)
     }
 
-    /// What another program does with a file.
+    /// Does what another program does with a file.
     fn act(&mut self, meanwhile: Meanwhile) -> io::Result<()> {
         let Meanwhile {
             act,
@@ -291,7 +292,7 @@ impl Disk {
         }
     }
 
-    /// Lets another program act, if it is to do so before the call of a number.
+    /// Lets another program act, if it acts before call number `now`.
     fn let_act(&mut self, now: usize) -> io::Result<()> {
         match self.meanwhile.take() {
             Some(meanwhile) if meanwhile.before == now => self.act(meanwhile),
@@ -302,7 +303,13 @@ impl Disk {
         }
     }
 
-    /// Counts a call, which may be the one that fails, and before which another program may act.
+    /// Counts and logs a call. Another program may act before it.
+    ///
+    /// # Errors
+    ///
+    /// - The error of the action of another program.
+    /// - `Other`: the number of the call is `fails_at`.
+    /// - The kind in `fails_of`, if it has this letter. It is then cleared.
     pub(crate) fn tick(&mut self, letter: char) -> io::Result<()> {
         if self.log.push(letter).is_err() {
             return Err(out_of_memory());
@@ -322,7 +329,7 @@ impl Disk {
         }
     }
 
-    /// The number of the file, or of the symbolic link, that a path names.
+    /// Returns the inode number of what a path names. A symbolic link is not followed.
     pub fn find(&self, path: &str) -> Option<usize> {
         if let Some(number) = self.open_at(path) {
             return Some(number);
@@ -336,7 +343,11 @@ impl Disk {
         None
     }
 
-    /// The path behind the symbolic links at a path.
+    /// Returns the path to which the symbolic links at `path` lead.
+    ///
+    /// # Errors
+    ///
+    /// `FilesystemLoop`: `path` needs 40 links or more.
     pub(crate) fn behind<'a>(&'a self, path: &'a str) -> io::Result<&'a str> {
         let mut at = path;
         for _ in 0..40 {
@@ -354,7 +365,7 @@ impl Disk {
         Err(io::Error::from(ErrorKind::FilesystemLoop))
     }
 
-    /// The number of a file that is opened.
+    /// Registers an open file. Returns its number.
     pub(crate) fn count_open(&mut self, inode: usize) -> io::Result<usize> {
         let number = self.opened.len();
         match self.opened.push(inode) {
@@ -363,17 +374,17 @@ impl Disk {
         }
     }
 
-    /// The folder that stands where the files stood.
+    /// Returns the inode number of the folder that is at the path of the files now.
     pub(crate) fn folder_now(&self) -> usize {
         if self.is_moved { OTHER_FOLDER } else { FOLDER }
     }
 
-    /// What a path leads to.
+    /// Returns the inode number of what a path names. Symbolic links are followed.
     pub(crate) fn led_to(&self, path: &str) -> io::Result<Option<usize>> {
         Ok(self.find(self.behind(path)?))
     }
 
-    /// A folder, by its number.
+    /// Returns the attributes of a folder by its inode number.
     pub(crate) fn folder(&self, number: usize) -> Node {
         Node {
             device: 1,
@@ -386,7 +397,7 @@ impl Disk {
         }
     }
 
-    /// What a file is, by its number.
+    /// Returns the attributes of a file or folder by its inode number.
     pub fn node_of(&self, number: usize) -> Option<Node> {
         if number == FOLDER || number == OTHER_FOLDER {
             return Some(self.folder(number));
@@ -413,7 +424,7 @@ impl Disk {
         })
     }
 
-    /// Whether a name may not be taken away by the user.
+    /// Whether the user cannot remove or replace a name.
     pub(crate) fn keeps(&self, path: &str) -> bool {
         let owner = match self.find(path) {
             Some(number) => self.inodes.get(number).map(|inode| inode.owner),
@@ -422,13 +433,13 @@ impl Disk {
         self.is_closed || self.is_sticky && self.user != 0 && owner != Some(self.user)
     }
 
-    /// The bytes that a path names.
+    /// Returns the bytes of the file that a path names.
     pub fn bytes(&self, path: &str) -> Option<&[u8]> {
         let inode = self.inodes.get(self.find(path)?)?;
         Some(inode.bytes.as_slice())
     }
 
-    /// Adds an empty file.
+    /// Adds an empty file. Returns its inode number.
     pub(crate) fn add(&mut self, path: &str) -> io::Result<usize> {
         let inode = self.make(Vec::new(self.alloc))?;
         self.call(path, inode)?;
@@ -449,7 +460,7 @@ impl Disk {
         self.call(to, inode)
     }
 
-    /// Adds a file of these bytes, or gives them to the one that is there.
+    /// Sets the bytes of a file. Creates the file if it does not exist.
     pub fn put(&mut self, path: &str, bytes: &[u8]) -> io::Result<()> {
         let inode = match self.find(path) {
             Some(inode) => inode,
@@ -465,7 +476,8 @@ impl Disk {
         }
     }
 
-    /// Writes bytes over those of a file from an offset on. Whether there were as many.
+    /// Overwrites bytes of a file from offset `place` on. Returns false if the file does not exist or ends before the
+    /// last byte. Earlier bytes are then overwritten.
     pub fn write_at(&mut self, path: &str, place: usize, bytes: &[u8]) -> bool {
         let Some(inode) = self.named(path) else {
             return false;
@@ -489,13 +501,13 @@ impl Disk {
         Ok(())
     }
 
-    /// Gives a file another name.
+    /// Adds another name of a file.
     pub fn link(&mut self, path: &str, other: &str) -> io::Result<()> {
         let inode = self.find(path).ok_or(missing())?;
         self.call(other, inode)
     }
 
-    /// Begins anew: no calls, no log, nothing read or written. The files stay.
+    /// Resets the calls, the log, `widest` and the standard streams. The files are unchanged.
     pub fn rewind(&mut self) {
         self.calls = 0;
         self.widest = 0;
@@ -505,7 +517,7 @@ impl Disk {
         self.err.clear();
     }
 
-    /// Ends a program: no file is open or locked, and each path is that of a name.
+    /// Ends a program: no file is open or locked, and the original folder is at its path again.
     pub fn release(&mut self) {
         self.opened.clear();
         self.is_moved = false;

@@ -1,6 +1,6 @@
-//! Trials of whole command lines over a runtime in memory: a script of them on standard input, with what each has
-//! to come to, and behind it the files `large.trial`, with large texts, files and volumes, and `system.trial`, with the
-//! procedures of the system segment, where they are there.
+//! Tests of whole command lines over a runtime in memory. Standard input is a script with the command lines and their
+//! expected results. The scripts `large.trial` and `system.trial` follow, if these files exist. The first has large
+//! texts, files and volumes, and the second has the procedures of the system segment.
 #![tactic(auto)]
 
 mod command;
@@ -15,10 +15,10 @@ mod sweep;
 use script::Trials;
 use std::{fs, io};
 
-/// The scripts that lie beside the program.
+/// The scripts in the folder in which the program runs.
 const SCRIPTS: [&str; 2] = ["large.trial", "system.trial"];
 
-/// Types the lines of a text that lies beside the program.
+/// Adds the lines of a text file to standard input of the next command line.
 fn include(rt: &HostRuntime, trials: &mut Trials, path: &str) -> io::Result<()> {
     let text = fs::read_to_string(rt, path)?;
     for line in text.lines() {
@@ -28,7 +28,7 @@ fn include(rt: &HostRuntime, trials: &mut Trials, path: &str) -> io::Result<()> 
     Ok(())
 }
 
-/// Does a line of a script, and prints it where it is not true, and what it has to tell.
+/// Executes a line of a script. Prints the line if it is false, and prints the results that it produced.
 fn take(rt: &HostRuntime, trials: &mut Trials, line: &str) -> io::Result<()> {
     if let Some(path) = line.strip_prefix("include ") {
         return include(rt, trials, path);

@@ -9,13 +9,13 @@ use std::io;
 pub struct Deed {
     act: Act,
     path: String,
-    /// The bytes that it puts.
+    /// The bytes that it writes.
     bytes: Vec<u8>,
-    /// What the link leads to that it puts.
+    /// The path that its link contains.
     link: String,
 }
 
-/// What a word says that another program does.
+/// Returns the action that a keyword of the script names.
 fn act_of(word: &str) -> Option<Act> {
     match word {
         "put" => Some(Act::Put),
@@ -35,8 +35,8 @@ fn bytes_of(alloc: Global, bytes: &[u8]) -> io::Result<Vec<u8>> {
     Ok(copy)
 }
 
-/// What a line says that another program does: a word, a path, and the path of the file whose bytes it puts, or to
-/// which its link leads.
+/// Returns the action of a script line, or `None` if `word` is not a keyword. `rest` has the path and, after a space, a
+/// second path: the file whose bytes are written, or the path that the link contains.
 pub fn deed_of(alloc: Global, disk: &Disk, word: &str, rest: &str) -> io::Result<Option<Deed>> {
     let (path, from) = rest.split_once(' ').unwrap_or((rest, ""));
     let Some(act) = act_of(word) else {
@@ -50,7 +50,8 @@ pub fn deed_of(alloc: Global, disk: &Disk, word: &str, rest: &str) -> io::Result
     }))
 }
 
-/// Another path at which the bytes of one stood before; `none` where it names no file, `other` for other bytes.
+/// Returns another path that named a file with the same bytes before. Returns `none` if `path` names no file, and
+/// `other` if no other path had these bytes.
 fn name_of<'a>(old: &'a Disk, now: &Disk, path: &str) -> &'a str {
     let Some(bytes) = now.bytes(path) else {
         return "none";
@@ -64,8 +65,8 @@ fn name_of<'a>(old: &'a Disk, now: &Disk, path: &str) -> &'a str {
     "other"
 }
 
-/// Adds what stands under a path: what a link leads to, or where the bytes of a file stood before; `*` where another
-/// program made it; owner, group and mode where they are not 0, 0 and 644.
+/// Appends what a path names: the path that a link contains, or the path that had the bytes of the file before. `*`
+/// marks a file that another program made. Owner, group and mode follow if they are not 0, 0 and 644.
 fn tell_path(
     alloc: Global,
     text: &mut String,
@@ -98,7 +99,7 @@ fn tell_path(
     Ok(())
 }
 
-/// Tells what a command line came to: its status, what stands at these paths, and the first line of its output.
+/// Returns the result of a command line as text: its status, what `paths` name, and the first line of its output.
 fn tell(alloc: Global, old: &Disk, came: &Came, paths: &str) -> io::Result<String> {
     let mut text = format!(in alloc; "{}", came.status)?;
     for path in paths.split(',') {
@@ -114,7 +115,7 @@ fn tell(alloc: Global, old: &Disk, came: &Came, paths: &str) -> io::Result<Strin
     Ok(text)
 }
 
-/// What another program does before the call of a number.
+/// Returns the action before call number `before`.
 fn act_before(alloc: Global, deed: &Deed, before: usize) -> io::Result<Meanwhile> {
     Ok(Meanwhile {
         before,
@@ -125,7 +126,7 @@ fn act_before(alloc: Global, deed: &Deed, before: usize) -> io::Result<Meanwhile
     })
 }
 
-/// Does a command line, while another program acts before the call of a number.
+/// Executes a command line, with the action of another program before call number `before`.
 fn come_beside(
     alloc: Global,
     old: &Disk,
@@ -146,8 +147,8 @@ fn end_line(text: &mut String, end: &str) -> io::Result<()> {
     Ok(())
 }
 
-/// Does a command line as often as it makes calls, while another program acts before each of them in turn. A line for
-/// neighbouring calls that came to the same: their letters, and what it came to.
+/// Executes a command line once for each of its calls, with the action of another program before this call. Returns the
+/// results as lines. A line has the letters of adjacent calls with the same result, and this result.
 pub fn meanwhile(
     alloc: Global,
     old: &Disk,

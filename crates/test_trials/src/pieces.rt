@@ -1,7 +1,8 @@
 //! Bytes as a script spells them.
 use std::io;
 
-/// Adds the bytes that hexadecimal digits spell, two for each, so many times. Whether they spell any.
+/// Appends the bytes of `digits`, two hexadecimal digits for each byte, `count` times. Returns false if the digits
+/// spell no bytes.
 fn add_piece(bytes: &mut Vec<u8>, count: usize, digits: &str) -> io::Result<bool> {
     let mut piece = [0_u8; 64];
     let length = digits.len() / 2;
@@ -19,8 +20,9 @@ fn add_piece(bytes: &mut Vec<u8>, count: usize, digits: &str) -> io::Result<bool
     Ok(length > 0 && digits.len() % 2 == 0)
 }
 
-/// Adds the bytes that pieces spell, with a blank between each two: two hexadecimal digits for each byte, at most 64 of
-/// them, and with `N*` before them N times. Whether they spell bytes.
+/// Appends the bytes of `pieces`, which are separated by single spaces. A piece has two hexadecimal digits for each of
+/// at most 64 bytes. `N*` before the digits repeats their bytes N times. Returns false if a piece spells no bytes;
+/// bytes before it may be appended.
 pub fn add_pieces(bytes: &mut Vec<u8>, pieces: &str) -> io::Result<bool> {
     for piece in pieces.split(' ') {
         let (count, digits) = piece.split_once('*').unwrap_or(("1", piece));

@@ -1,4 +1,4 @@
-//! A runtime whose files are in memory, and which fails at one of its calls.
+//! A runtime whose files are in memory. At most one of its calls fails.
 use crate::disk::{Disk, FOLDER, OTHER_FOLDER, missing, out_of_memory};
 use pm_files::{Host, Node, Stream};
 use std::alloc::Global;
@@ -10,12 +10,12 @@ use std::os::unix::fs::PermissionsExt;
 use std::path::PathBuf;
 use std::rt::Files;
 
-/// An open file, or a folder. Its lock goes with it.
+/// An open file or folder. Dropping it releases its lock.
 pub struct FakeFile<'a> {
     disk: &'a RefCell<Disk>,
     inode: usize,
     at: usize,
-    /// Which of all files that were opened it is.
+    /// Its number in the order of opening, from 0.
     number: usize,
 }
 
@@ -37,7 +37,7 @@ impl Drop for FakeFile<'_> {
     }
 }
 
-/// The longest name.
+/// The length in bytes of the longest name.
 const NAME_LIMIT: usize = 255;
 
 /// A runtime over a disk in memory.
@@ -45,7 +45,7 @@ const NAME_LIMIT: usize = 255;
 pub struct FakeRuntime<'a> {
     pub disk: &'a RefCell<Disk>,
     pub alloc: Global,
-    /// The words of the command line, the program's name before them, with a blank between each two.
+    /// The command line: the name of the program and the arguments, separated by single spaces.
     pub line: &'a str,
     /// Standard input.
     pub typed: &'a [u8],
@@ -54,7 +54,7 @@ pub struct FakeRuntime<'a> {
 }
 
 impl<'a> FakeRuntime<'a> {
-    /// A file of the disk, opened at its beginning.
+    /// Opens a file of the disk at offset 0.
     fn opened(&self, disk: &mut Disk, inode: usize) -> io::Result<FakeFile<'a>> {
         let number = disk.count_open(inode)?;
         Ok(FakeFile {
@@ -102,7 +102,7 @@ impl Write for FakeFile<'_> {
         let Some(inode) = disk.inodes.get_mut(self.inode) else {
             return Err(missing());
         };
-        // At most 4,000 bytes at a time, so that a file takes several writes.
+        // A write moves at most 4,000 bytes, so that a file needs several writes.
         let count = buf.len().min(4000);
         for byte in &buf[..count] {
             match inode.bytes.get_mut(self.at) {
@@ -413,7 +413,7 @@ impl<'a> Host for FakeRuntime<'a> {
         if let Some(inode) = disk.inodes.get_mut(file.inode) {
             inode.owner = owner;
             inode.group = group;
-            // As the system does: what may run as its owner may not when it has another one.
+            // Like the system, a change of the owner clears the set-user-ID and set-group-ID bits.
             inode.mode &= 0o1777;
         }
         Ok(())
@@ -429,7 +429,7 @@ impl<'a> Host for FakeRuntime<'a> {
         };
         match (disk.led_to(one), disk.led_to(other)) {
             (Ok(Some(one)), Ok(Some(other))) => one == other,
-            // Devices are no files of the disk.
+            // Devices are not files of the disk.
             _ => one == other && one.starts_with("/dev/"),
         }
     }

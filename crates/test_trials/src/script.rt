@@ -8,25 +8,25 @@ use std::alloc::Global;
 use std::io::ErrorKind;
 use std::{fmt, io};
 
-/// How far a script is: what stands on the disk, and what the last command line came to.
+/// The state of a script: the files of the disk, and the result of the last command line.
 #[derive(Drop)]
 pub struct Trials {
     alloc: Global,
-    /// What the last command line came to, on the disk that the next one finds.
+    /// The result of the last command line. The next one uses its disk.
     came: Came,
-    /// Standard input of the next one.
+    /// Standard input of the next command line.
     typed: Vec<u8>,
-    /// What standard output, and standard error, have to have taken.
+    /// The expected contents of standard output and of standard error.
     out: Vec<u8>,
     err: Vec<u8>,
     /// Whether the standard streams are a terminal.
     on_terminal: bool,
     /// What another program does during the next command line of `$~`.
     deed: Option<Deed>,
-    /// What stands before each text of `takes` and `refuses`, and behind it.
+    /// The lines before and after each text of `takes` and `refuses`.
     before: Vec<u8>,
     behind: Vec<u8>,
-    /// What is to be printed.
+    /// The text to be printed.
     told: String,
     count: u32,
 }
@@ -39,22 +39,22 @@ fn add(bytes: &mut Vec<u8>, text: &str, ends: bool) -> io::Result<()> {
     Ok(())
 }
 
-/// The number that a word spells.
+/// Returns the number that a word spells, or the greatest number if it spells none.
 fn number(word: &str) -> usize {
     word.parse().unwrap_or(usize::MAX)
 }
 
-/// The number that a word spells in octal digits.
+/// Returns the number that a word spells in octal digits, or the greatest number if it spells none.
 fn mode(word: &str) -> u32 {
     u32::from_str_radix(word, 8).unwrap_or(u32::MAX)
 }
 
-/// The number of a user that a word spells.
+/// Returns the number of a user that a word spells, or the greatest number if it spells none.
 fn user(word: &str) -> u32 {
     word.parse().unwrap_or(u32::MAX)
 }
 
-/// How a call fails, by its word.
+/// Returns the kind of error that a word names.
 fn kind_of(word: &str) -> ErrorKind {
     match word {
         "memory" => ErrorKind::OutOfMemory,
@@ -69,7 +69,7 @@ fn kind_of(word: &str) -> ErrorKind {
     }
 }
 
-/// Says of a file what a word says.
+/// Gives a file the property that a word names.
 fn mark(inode: &mut Inode, word: &str) {
     match word {
         "hold" => inode.locked = true,
@@ -82,7 +82,7 @@ fn mark(inode: &mut Inode, word: &str) {
 }
 
 impl Trials {
-    /// No files, and nothing done.
+    /// Returns the state without files and without command lines.
     pub fn new(alloc: Global) -> Trials {
         Trials {
             alloc,
@@ -102,17 +102,17 @@ impl Trials {
         }
     }
 
-    /// How many command lines were done, those with a failing call not counted.
+    /// Returns the number of command lines that were executed. Those with a failing call are not counted.
     pub fn count(&self) -> u32 {
         self.count
     }
 
-    /// What is to be printed, once.
+    /// Returns the text to be printed, and clears it.
     pub fn take_told(&mut self) -> String {
         std::mem::replace(&mut self.told, String::new(self.alloc))
     }
 
-    /// Keeps what a command line came to.
+    /// Stores the result of a command line, and clears standard input and the expected contents.
     fn keep(&mut self, came: Came) {
         self.came = came;
         self.typed.clear();
@@ -121,7 +121,7 @@ impl Trials {
         self.count = self.count.wrapping_add(1);
     }
 
-    /// Does a command line.
+    /// Executes a command line.
     fn run(&mut self, words: &str) -> io::Result<bool> {
         let command = CommandLine {
             words,
@@ -135,8 +135,8 @@ impl Trials {
         Ok(true)
     }
 
-    /// Does a command line, and once more for each of its calls, which fails. `paths`: the files that it writes, in
-    /// this order.
+    /// Executes a command line, and once more for each of its calls, which then fails. `paths` are the files that it
+    /// writes, in the order of writing.
     fn run_each(&mut self, words: &str, paths: &str) -> io::Result<bool> {
         let command = CommandLine {
             words,
@@ -148,8 +148,8 @@ impl Trials {
         Ok(holds)
     }
 
-    /// Does a command line while another program acts before each of its calls in turn, and tells what stands at these
-    /// paths then. The files stay.
+    /// Executes a command line while another program acts before each of its calls in turn. What `paths` then name is
+    /// printed. The files of the disk are unchanged.
     fn run_beside(&mut self, words: &str, paths: &str) -> io::Result<bool> {
         let command = CommandLine {
             words,
@@ -168,7 +168,7 @@ impl Trials {
         Ok(true)
     }
 
-    /// What another program is going to do, from its line.
+    /// Reads from a line what another program will do.
     fn begin_deed(&mut self, rest: &str) -> io::Result<bool> {
         let (word, path) = rest.split_once(' ').unwrap_or((rest, ""));
         self.deed = deed_of(self.alloc, &self.came.disk, word, path)?;
@@ -177,14 +177,15 @@ impl Trials {
         Ok(self.deed.is_some())
     }
 
-    /// Does a command line of wrong words. Whether it came to status 1 and a text on standard error, and did no more.
+    /// Executes an invalid command line. Returns whether its status is 1 and its only call writes a text to standard
+    /// error.
     fn run_wrong(&mut self, words: &str) -> io::Result<bool> {
         self.run(words)?;
         let disk = &self.came.disk;
         Ok(self.came.status == 1 && !disk.err.is_empty() && disk.log.as_str() == "E")
     }
 
-    /// Whether the last command line came to this status, and its streams took what the lines above say.
+    /// Whether the last command line has this status, and its streams have exactly the expected contents.
     fn is(&self, status: &str) -> bool {
         let disk = &self.came.disk;
         usize::from(self.came.status) == number(status)
@@ -192,7 +193,7 @@ impl Trials {
             && disk.err.as_bytes() == self.err.as_slice()
     }
 
-    /// The word at a place of a line that standard output took.
+    /// Returns the word with index `place` in line `line` of standard output. Both count from 0.
     fn field(&self, line: &str, place: &str) -> Option<&str> {
         let text = std::str::from_utf8(self.came.disk.out.as_slice()).ok()?;
         text.lines()
@@ -201,7 +202,7 @@ impl Trials {
             .nth(number(place))
     }
 
-    /// A line that says how the next command line finds the files and the streams.
+    /// Executes a line that sets the state of the files and streams for the next command line.
     fn set(&mut self, word: &str, rest: &str) -> io::Result<bool> {
         let disk = &mut self.came.disk;
         match word {
@@ -237,7 +238,7 @@ impl Trials {
         Ok(true)
     }
 
-    /// A line that makes or changes a file.
+    /// Executes a line that creates or changes a file.
     fn change(&mut self, word: &str, path: &str, rest: &str) -> io::Result<bool> {
         match word {
             "copy" => self.copy(path, rest),
@@ -272,7 +273,7 @@ impl Trials {
         }
     }
 
-    /// Gives a file a mode, or an owner and a group.
+    /// Sets the mode of a file, or its owner and group.
     fn dress(&mut self, word: &str, path: &str, rest: &str) -> bool {
         let (first, second) = rest.split_once(' ').unwrap_or((rest, rest));
         let Some(inode) = self.came.disk.named(path) else {
@@ -287,7 +288,7 @@ impl Trials {
         true
     }
 
-    /// Puts the bytes of a file under another path too.
+    /// Copies the bytes of a file to another path.
     fn copy(&mut self, from: &str, to: &str) -> io::Result<bool> {
         let mut bytes = Vec::new(self.alloc);
         let Some(old) = self.came.disk.bytes(from) else {
@@ -298,7 +299,7 @@ impl Trials {
         Ok(true)
     }
 
-    /// Writes a text into a file at an offset.
+    /// Overwrites bytes of a file with a text, from an offset on.
     fn poke(&mut self, path: &str, rest: &str) -> bool {
         match rest.split_once(' ') {
             Some((place, text)) => {
@@ -310,7 +311,7 @@ impl Trials {
         }
     }
 
-    /// Whether a line is true of one file.
+    /// Whether a statement about one file is true.
     fn is_so(&self, word: &str, path: &str, rest: &str) -> bool {
         let disk = &self.came.disk;
         let number = disk.find(path).unwrap_or(usize::MAX);
@@ -330,7 +331,7 @@ impl Trials {
         }
     }
 
-    /// Whether a line is true of the last command line and the files.
+    /// Whether a statement about the last command line and the files is true.
     fn holds(&self, word: &str, first: &str, second: &str) -> bool {
         let disk = &self.came.disk;
         match word {
@@ -351,45 +352,58 @@ impl Trials {
         }
     }
 
-    /// Does a line of the script. Whether it is one, and true. `#` begins a comment. The words that do something:
+    /// Executes a line of the script. Returns whether the line is valid, and true if it is a statement. `#` begins a
+    /// comment.
     ///
-    /// - `$ WORDS`: a command line. `$$ FILES WORDS`: the same, and once more with each call failing, FILES with commas
-    ///   between them. `usage WORDS`: one of wrong words.
+    /// These lines do something:
+    ///
+    /// - `$ WORDS`: a command line. `$$ FILES WORDS`: the same, and once more for each call, which then fails. FILES
+    ///   are separated by commas. `usage WORDS`: an invalid command line.
     /// - `~ put FILE FROM`, `~ replace FILE FROM`, `~ remove FILE`, `~ symlink FILE TO`, `~ lock FILE`, `~ unlock
-    ///   FILE`, `~ move FILE FROM`, which makes another folder where the files stand, whose names are `elsewhere/FILE`,
-    ///   and then `$~ FILES WORDS`: a command line during which another program does that, before each call in turn. It
-    ///   prints what stands under FILES then.
-    /// - `fail LETTER KIND`: the first call of the next command line that has this letter fails so.
-    /// - `< TEXT`: a line of its standard input. `key CODE`: one byte more of it. `<<`: what standard output took
-    ///   is its standard input.
-    /// - `> TEXT`, `] TEXT`, `! TEXT`, `? TEXT`: what standard output, the same without a line feed, standard error,
-    ///   and the same without a line feed took.
-    /// - `disk`: no files. `closed`: the folder takes no new name. `sticky`: nor does it let a user take away the files
-    ///   of another. `blind`: no path can be made whole. `plain`: the system has no paths of open files. `user NUMBER`:
-    ///   whose program runs. `terminal on`, or `off`.
-    /// - `hold`, `private`, `read-only`, `folder`: another program holds all files, they may not be read, or not be
-    ///   written, or are folders; with a FILE behind it that one alone. `busy FILE`: no other can take its place.
-    ///   `foreign FILE`: another program made it and has it open.
-    /// - `copy FROM TO`, `poke FILE PLACE TEXT`, `link FILE NAME`, `symlink FILE TO`; `zeros FILE COUNT`, a file of so
-    ///   many zeros; `store FILE`, which keeps what standard output took; `mode FILE MODE`, `owner FILE OWNER GROUP`.
+    ///   FILE`, `~ move FILE FROM`: what another program does. `move` replaces the folder of the files by another one,
+    ///   whose names are `elsewhere/FILE`.
+    /// - `$~ FILES WORDS`: a command line during which another program does that, before each call in turn. It prints
+    ///   what FILES then name.
+    /// - `fail LETTER KIND`: the first call of the next command line with this letter fails with this error.
+    /// - `< TEXT`: a line of standard input of the next command line. `key CODE`: one more byte of it. `<<`: its
+    ///   standard input is the standard output of the last command line.
+    /// - `> TEXT` and `] TEXT`: a line of the expected standard output, with and without a line feed. `! TEXT` and `?
+    ///   TEXT`: the same for standard error.
+    /// - `disk`: no files. `closed`: names can neither be added to the folder nor removed from it. `sticky`: a user
+    ///   cannot remove the files of another user. `blind`: no path can be canonicalized. `plain`: the system has no
+    ///   paths of open files. `user NUMBER`: the user whose program runs. `terminal on` or `terminal off`: whether the
+    ///   standard streams are a terminal.
+    /// - `hold`, `private`, `read-only`, `folder`: all files are locked by another program, cannot be read, cannot be
+    ///   written, or are folders. Each of these lines clears the other three properties. With a FILE, it sets the
+    ///   property of this file only.
+    /// - `busy FILE`: no other file can replace it. `foreign FILE`: another program made it and has it open.
+    /// - `copy FROM TO`, `poke FILE PLACE TEXT`, `link FILE NAME`, `symlink FILE TO`. `zeros FILE COUNT`: a file of
+    ///   COUNT zeros. `store FILE`: a file with the standard output of the last command line. `mode FILE MODE`, `owner
+    ///   FILE OWNER GROUP`.
     ///
-    /// Those that are true or not: `= STATUS`, beside which both streams took what stands above; `status STATUS` alone;
-    /// `same FILE FILE`, `text FILE TEXT`, `size FILE BYTES`, `names COUNT`, `none FILE`; `own FILE`, which no other
-    /// program made; `has-mode FILE MODE`, `has-owner FILE OWNER GROUP`, `leads FILE TO`, of a symbolic link;
-    /// `widest MODE`, all that anybody could do at any moment with a file that the program made; `took BYTES`, standard
-    /// output; `field LINE PLACE WORD` of it, counted from 0, or `field LINE PLACE` where there is none.
+    /// These lines are statements:
     ///
-    /// Bytes are spelled in pieces with blanks between: two hexadecimal digits for each byte, and with `N*` before them
-    /// N times.
+    /// - `= STATUS`: the status, and both streams have the expected contents. `status STATUS`: only the status.
+    /// - `same FILE FILE`, `text FILE TEXT`, `size FILE BYTES`, `names COUNT`, `none FILE`. `own FILE`: no other
+    ///   program made it.
+    /// - `has-mode FILE MODE`, `has-owner FILE OWNER GROUP`. `leads FILE TO`: a symbolic link contains the path TO.
+    /// - `widest MODE`: all permission bits that any file made by the program had at any moment. `took BYTES`: the
+    ///   number of bytes of standard output.
+    /// - `field LINE PLACE WORD`: a word of standard output. LINE and PLACE count from 0. `field LINE PLACE`: this word
+    ///   does not exist.
+    ///
+    /// Other lines have bytes or texts of the assembler. PIECES are separated by spaces. A piece has two hexadecimal
+    /// digits for each byte. `N*` before the digits repeats their bytes N times.
     ///
     /// - `[ TEXT`: standard input without a line feed. `hex PIECES`: bytes of it. `times N TEXT`: N lines of it.
-    /// - `file FILE`: what was to be standard input is a file. `set FILE PLACE PIECES` writes bytes over those of one,
-    ///   and `cut FILE PLACE COUNT TO` makes one of a part. True or not: `bytes FILE PIECES`.
-    /// - `ends STATUS`: as `=`, but standard output ends with what stands above. `says STATUS`: the same of standard
-    ///   error.
-    /// - Texts of the assembler: `before` and `behind` make what was to be standard input the first and the last lines
-    ///   of each of them, and `takes LINE` and `refuses FAULT AT LINE` put between those what is to be standard input
-    ///   and then LINE. True where `pmach asm` takes the text, or refuses it by that fault in line AT.
+    /// - `file FILE`: the collected standard input becomes a file. `set FILE PLACE PIECES`: overwrites bytes of a file.
+    ///   `cut FILE PLACE COUNT TO`: copies COUNT bytes of a file to TO. The statement `bytes FILE PIECES`: the file has
+    ///   these bytes.
+    /// - `ends STATUS`: like `=`, but standard output only ends with the expected contents. `says STATUS`: the same for
+    ///   standard error.
+    /// - `before` and `behind`: the collected standard input becomes the first or the last lines of each text of the
+    ///   assembler. `takes LINE` and `refuses FAULT AT LINE` use the collected standard input and then LINE as the
+    ///   lines between. They are true if `pmach asm` accepts the text, or refuses it with this fault in line AT.
     pub fn line(&mut self, line: &str) -> io::Result<bool> {
         let (word, rest) = line.split_once(' ').unwrap_or((line, ""));
         let (first, second) = rest.split_once(' ').unwrap_or((rest, ""));
@@ -426,7 +440,7 @@ impl Trials {
         }
     }
 
-    /// Does a line of bytes or of texts of the assembler, or tells whether one is true.
+    /// Executes a line of bytes or of texts of the assembler, or returns whether a statement is true.
     fn more(&mut self, word: &str, rest: &str) -> io::Result<bool> {
         let (first, second) = rest.split_once(' ').unwrap_or((rest, ""));
         match word {
@@ -446,7 +460,7 @@ impl Trials {
         }
     }
 
-    /// Adds a line of standard input so many times.
+    /// Appends a line to standard input `count` times.
     fn repeat(&mut self, count: &str, line: &str) -> io::Result<bool> {
         for _ in 0..count.parse().unwrap_or(0_usize) {
             add(&mut self.typed, line, true)?;
@@ -454,14 +468,14 @@ impl Trials {
         Ok(true)
     }
 
-    /// Puts what is typed into a file.
+    /// Moves the collected standard input to a file.
     fn keep_typed(&mut self, path: &str) -> io::Result<bool> {
         self.came.disk.put(path, self.typed.as_slice())?;
         self.typed.clear();
         Ok(true)
     }
 
-    /// Writes bytes over those of a file from a place on.
+    /// Overwrites bytes of a file, from an offset on.
     fn overwrite(&mut self, path: &str, rest: &str) -> io::Result<bool> {
         let (place, pieces) = rest.split_once(' ').unwrap_or((rest, ""));
         let mut bytes = Vec::new(self.alloc);
@@ -475,7 +489,7 @@ impl Trials {
         )
     }
 
-    /// Puts a part of a file into another one.
+    /// Copies a part of a file to another file.
     fn cut(&mut self, path: &str, rest: &str) -> io::Result<bool> {
         let (place, rest) = rest.split_once(' ').unwrap_or((rest, ""));
         let (count, to) = rest.split_once(' ').unwrap_or((rest, ""));
@@ -490,7 +504,7 @@ impl Trials {
         Ok(true)
     }
 
-    /// Has what is typed stand before or behind each text.
+    /// Moves the collected standard input to the lines before or after each text.
     fn surround(&mut self, word: &str) -> bool {
         let typed = std::mem::replace(&mut self.typed, Vec::new(self.alloc));
         if word == "before" {
@@ -501,7 +515,7 @@ impl Trials {
         true
     }
 
-    /// Assembles a text that ends with this line. Whether it has no fault.
+    /// Assembles a text that ends with this line and the lines of `behind`. Returns whether it has no fault.
     fn assembles(&mut self, line: &str) -> io::Result<bool> {
         let mut text = Vec::new(self.alloc);
         text.extend_from_slice(self.before.as_slice())?;
@@ -513,7 +527,7 @@ impl Trials {
         Ok(self.came.status == 0 && self.came.disk.err.is_empty())
     }
 
-    /// Assembles a text. Whether its first fault has this number, in the line that is said first.
+    /// Assembles a text. Returns whether it is refused with this fault in the line whose number is first in `rest`.
     fn refuses(&mut self, fault: &str, rest: &str) -> io::Result<bool> {
         let (at, line) = rest.split_once(' ').unwrap_or((rest, ""));
         self.assembles(line)?;
@@ -529,7 +543,8 @@ impl Trials {
         Ok(is_spelled && self.came.disk.bytes(path) == Some(bytes.as_slice()))
     }
 
-    /// Whether the last command line came to this status, and its streams ended with what the lines above say.
+    /// Whether the last command line has this status, standard output ends with the expected text, and standard error
+    /// is the expected text.
     fn ends(&self, status: &str) -> bool {
         let disk = &self.came.disk;
         usize::from(self.came.status) == number(status)
@@ -537,7 +552,8 @@ impl Trials {
             && disk.err.as_bytes() == self.err.as_slice()
     }
 
-    /// Whether the last command line came to this status, and standard error ended with what the lines above say.
+    /// Whether the last command line has this status, standard error ends with the expected text, and standard output
+    /// is the expected text.
     fn says(&self, status: &str) -> bool {
         let disk = &self.came.disk;
         usize::from(self.came.status) == number(status)
@@ -546,7 +562,7 @@ impl Trials {
     }
 }
 
-/// What the last command line came to, for one who looks for what is wrong.
+/// Prints the result of the last command line, for a test that failed.
 impl fmt::Display for Trials {
     fn fmt<W: fmt::Write>(&self, f: &mut fmt::Formatter<W>) -> fmt::Result {
         let disk = &self.came.disk;

@@ -1,4 +1,4 @@
-//! The words and the streams of the runtime in memory.
+//! The command line arguments and the standard streams of the runtime in memory.
 use crate::disk::out_of_memory;
 use crate::runtime::{FakeRuntime, in_use};
 use std::alloc::Allocator;

@@ -4,11 +4,11 @@ use crate::disk::Disk;
 use std::alloc::Global;
 use std::io;
 
-/// The letters of the calls whose failure has to be told: to read, to write, to cut, to sync and to rename a file,
-/// and to read and to write a standard stream.
+/// The letters of the calls whose failure must be reported: reading, writing, truncating, syncing and renaming a file,
+/// and reading and writing a standard stream.
 const TOLD: &str = "rwlsnIO";
 
-/// Whether the files are the new ones up to a place in the list and the old ones behind it, each of them whole.
+/// Whether the first files of the list have their new bytes and all others their old bytes, each of them completely.
 fn are_whole(old: &Disk, new: &Disk, now: &Disk, paths: &str) -> bool {
     let mut is_old = false;
     for path in paths.split(',') {
@@ -22,7 +22,7 @@ fn are_whole(old: &Disk, new: &Disk, now: &Disk, paths: &str) -> bool {
     true
 }
 
-/// Whether a command line came to all that it comes to where no call fails, but that its message may be lost.
+/// Whether a command line has the same result as if no call failed, except that its message may be missing.
 fn is_done(good: &Came, came: &Came, paths: &str) -> bool {
     for path in paths.split(',') {
         if came.disk.bytes(path) != good.disk.bytes(path) {
@@ -35,7 +35,7 @@ fn is_done(good: &Came, came: &Came, paths: &str) -> bool {
         && (came.disk.err.as_str() == good.disk.err.as_str() || came.disk.err.is_empty())
 }
 
-/// Whether the call of a number has to be told where it fails.
+/// Whether the failure of call `number` must be reported.
 fn is_told(good: &Came, number: usize) -> bool {
     match good.disk.log.as_bytes().get(number) {
         Some(letter) => TOLD.as_bytes().contains(letter),
@@ -43,8 +43,9 @@ fn is_told(good: &Came, number: usize) -> bool {
     }
 }
 
-/// Whether a command line was broken off at the call of a number: status 4, its message, a front of its output, and
-/// no file more than where no call fails; but the one beside an image may be left where its lock was not had.
+/// Whether a command line stopped at call `number`. Its status is 4, it has a message, and its output is a prefix of
+/// the complete one. It has no more files than if no call fails. If the failure of the call need not be reported, one
+/// temporary file may remain.
 fn is_broken_off(good: &Came, came: &Came, number: usize) -> bool {
     let message = came.disk.err.as_str();
     let left = usize::from(!is_told(good, number));
@@ -58,8 +59,12 @@ fn is_broken_off(good: &Came, came: &Came, number: usize) -> bool {
         && came.disk.names.len() <= good.disk.names.len().saturating_add(left)
 }
 
-/// Does a command line as often as it makes calls, and lets each of them fail once. Whether each time these files
-/// were old or new, whole, and the status told which, beside what it comes to where no call fails.
+/// Executes a command line once without a failing call, and once more for each of its calls, which then fails. Returns
+/// whether every failing run was right, and the result without a failure.
+///
+/// A failing run is right in two cases:
+/// - It stopped with status 4, and the first files of `paths` are new and the others old.
+/// - The failure need not be reported, and its result is the one without a failure.
 pub fn sweep(
     alloc: Global,
     old: &Disk,

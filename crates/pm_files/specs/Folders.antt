@@ -1,4 +1,4 @@
--- What the files of a folder contain, if a folder tells it.
+-- The contents of the files of a folder, if they are known.
 use Rattle.std.specs.Prelude.{◌≡◌, ◌≢◌, ℕ, List, ⊤, Option, None, Some}
 use Rattle.pm_files.specs.Held.{Files}
 

@@ -3,13 +3,13 @@ use std::fs::{File, OpenOptions};
 use std::io;
 use std::os::fd::AsRawFd;
 
-/// What stands for a closed stream where it can be opened.
+/// The path of the file that replaces a closed stream, if it can be opened.
 const NOWHERE: &str = "/dev/null";
 
-/// What stands for it elsewhere: a folder, which is always there, and is neither read nor written.
+/// The path of the replacement otherwise: a directory. It always exists, and it can be neither read nor written.
 const ROOT: &str = "/";
 
-/// Opens it for writing alone, which cannot be read, or for reading alone.
+/// Opens `NOWHERE` write-only if `writes`, and read-only otherwise. Opens `ROOT` if that fails.
 fn open(rt: &HostRuntime, writes: bool) -> io::Result<File> {
     match OpenOptions::new()
         .read(!writes)
@@ -21,8 +21,10 @@ fn open(rt: &HostRuntime, writes: bool) -> io::Result<File> {
     }
 }
 
-/// Puts a file under the lowest number that is free, where that is one of a standard stream: standard input cannot be
-/// read then, and the others cannot be written, as if they were closed; but no other file gets that number.
+/// Opens a file under the lowest free descriptor, if that descriptor belongs to a standard stream (0, 1 or 2).
+///
+/// The file under 0 cannot be read, and the files under 1 and 2 cannot be written, as if the streams were closed. But
+/// no other file gets that descriptor. `None` if no standard stream was closed, or if no file could be opened.
 fn hold(rt: &HostRuntime) -> Option<File> {
     let file = open(rt, true).ok()?;
     let number = file.as_raw_fd();
@@ -36,8 +38,8 @@ fn hold(rt: &HostRuntime) -> Option<File> {
     open(rt, false).ok()
 }
 
-/// Sees to it that no file that is opened from here on takes the number of a standard stream that is closed, as long as
-/// the result is there.
+/// Reserves the descriptors of the standard streams that are closed. As long as the result exists, no file that is
+/// opened gets one of these descriptors.
 pub fn hold_closed(rt: &HostRuntime) -> [Option<File>; 3] {
     [hold(rt), hold(rt), hold(rt)]
 }

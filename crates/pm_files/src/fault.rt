@@ -14,20 +14,20 @@ pub enum DiskFault {
     Read(ErrorKind),
     /// The file has more than `IMAGE_LIMIT` bytes.
     TooLong,
-    /// Another program has locked the file, to write to it.
+    /// Another program has locked the file in order to write to it.
     Busy,
     /// The file cannot be written.
     Write(ErrorKind),
     /// The path names another file, or none, since the file was prepared for writing.
     Replaced,
-    /// The path of the temporary file exists, and what is there cannot be removed.
+    /// The path of the temporary file exists, and the file at it cannot be removed.
     InTheWay,
-    /// Memory was refused.
+    /// The program is out of memory.
     NoMemory,
 }
 
 impl DiskFault {
-    /// The fault of a read that failed.
+    /// Returns the fault of a failed read: `NoMemory` if the system was out of memory, and `Read` otherwise.
     pub(crate) fn of_read(error: io::Error) -> DiskFault {
         match error.kind() {
             ErrorKind::OutOfMemory => DiskFault::NoMemory,
@@ -35,12 +35,12 @@ impl DiskFault {
         }
     }
 
-    /// The fault of a write that failed, whatever the reason is.
+    /// Returns the fault of a failed write: `Write`, for any error.
     pub(crate) fn of_write(error: io::Error) -> DiskFault {
         DiskFault::Write(error.kind())
     }
 
-    /// What a job would say of it: `read fault`, `write fault` or `no memory`.
+    /// Returns the fault that a job reports for this one: `read fault`, `write fault` or `no memory`.
     pub fn fault(self) -> Fault
         ensures value { result ≡ fault_of self }
     {
@@ -51,7 +51,7 @@ impl DiskFault {
         }
     }
 
-    /// The reason in words.
+    /// Returns the reason as English text for a message.
     pub fn reason(self) -> &'static str {
         match self {
             DiskFault::Read(kind) | DiskFault::Write(kind) => words(kind),
@@ -65,7 +65,7 @@ impl DiskFault {
     }
 }
 
-/// What went wrong, in words.
+/// Returns the English text of an error of the system.
 fn words(kind: ErrorKind) -> &'static str {
     match kind {
         ErrorKind::NotFound => "no such file or folder",

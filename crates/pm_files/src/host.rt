@@ -1,4 +1,4 @@
-//! What the program asks of the system beside the calls of `Files`.
+//! The calls of the operating system that the program needs in addition to those of `Files`.
 ghost use Rattle.std.specs.Prelude.{◌≡◌};
 ghost use Rattle.pm_files.specs.Nodes.{is_file, is_one_file, is_replaced};
 
@@ -17,38 +17,38 @@ pub enum Stream {
     Error,
 }
 
-/// What a name stands for.
+/// The kind of a file.
 #[derive(Clone, Copy, Debug, PartialEq, Eq)]
 pub enum Kind {
     /// A regular file.
     File,
     /// A symbolic link.
     Link,
-    /// A folder, a device, a pipe or a socket.
+    /// A directory, a device, a pipe or a socket.
     Other,
 }
 
-/// A file as the system knows it, whatever its names are.
+/// The data of a file in the file system. They do not depend on its name.
 #[derive(Clone, Copy)]
 pub struct Node {
-    /// The device on which it stands.
+    /// The number of the device that contains the file.
     pub device: u64,
-    /// Its number on that device: both together are those of no other file.
+    /// The number of the file on that device. No two files have the same device and number.
     pub number: u64,
-    /// What it is.
+    /// The kind of the file.
     pub kind: Kind,
-    /// How many names it has.
+    /// The number of its names (hard links).
     pub names: u64,
-    /// The number of the user whose file it is.
+    /// The number of the user who owns the file.
     pub owner: u32,
     /// The number of its group.
     pub group: u32,
-    /// Who may do what with it: the twelve low bits.
+    /// The permissions: the twelve low bits of the mode.
     pub mode: u32,
 }
 
 impl Node {
-    /// Whether both are one file, whatever else has changed of it.
+    /// Whether both are the same file: device and number are equal.
     pub fn is(self, other: Node) -> bool
         ensures same { result ≡ is_one_file self other }
     {
@@ -62,7 +62,7 @@ impl Node {
         matches!(self.kind, Kind::File)
     }
 
-    /// Whether it is replaced by another file where it is written: a regular file with one name.
+    /// Whether writing this file replaces it with a new file. That is so for a regular file with one name.
     pub fn is_replaced(self) -> bool
         ensures replaced { result ≡ is_replaced self }
     {
@@ -70,29 +70,30 @@ impl Node {
     }
 }
 
-/// What `Files` has no call for. A runtime in memory stands in for it in tests, as for `Files`.
+/// The calls that `Files` does not have. Tests use a runtime in memory instead, as for `Files`.
 pub trait Host: Files {
-    /// Takes the lock of an open file, without waiting. `false`: another open of it has the lock. A system without such
-    /// locks answers `true`.
+    /// Locks an open file, without waiting. Returns `false` if the file is locked through another open of it. A system
+    /// without such locks returns `true`.
     fn try_lock(&self, file: &Self::File) -> io::Result<bool>;
 
-    /// What an open file is.
+    /// Returns the data of an open file.
     fn node(&self, file: &Self::File) -> io::Result<Node>;
 
-    /// What a path names, and with `follows` what a link at its end leads to. `None`: nothing.
+    /// Returns the data of the file at `path`, or `None` if there is no file. If `follows`, a symbolic link at the end
+    /// of `path` is followed. Otherwise, the data are those of the link.
     fn node_at(&self, path: &str, follows: bool) -> io::Result<Option<Node>>;
 
-    /// Makes a file under a name that nothing has, no link either, and opens it to be read and written. It has at most
-    /// this mode from its first moment on.
+    /// Creates a file and opens it for reading and writing. Fails if anything has the name `path` already, also if that
+    /// is a symbolic link. From the start, the file has at most the permissions `mode`.
     fn make(&self, path: &str, mode: u32) -> io::Result<Self::File>;
 
-    /// Gives an open file another owner.
+    /// Changes the owner and the group of an open file.
     fn set_owner(&self, file: &Self::File, owner: u32, group: u32) -> io::Result<()>;
 
-    /// The number under which the system has an open file.
+    /// Returns the descriptor of an open file.
     fn number(&self, file: &Self::File) -> i32;
 
-    /// Whether two paths name one file, through links too. Where one of them names none they do not.
+    /// Whether two paths name the same file, with symbolic links followed. `false` if one of them names no file.
     fn is_same(&self, one: &str, other: &str) -> bool;
 
     /// Whether a standard stream is a terminal.

@@ -6,10 +6,10 @@ use std::io;
 use std::io::{ErrorKind, Read};
 use std::rt::Files;
 
-/// The most bytes of an image.
+/// The maximal length of an image, in bytes.
 pub const IMAGE_LIMIT: usize = 33_554_432;
 
-/// Returns the fault of a call on an open file. The file exists, even if the system says that it does not.
+/// Returns the fault of a failed call on an open file. `NotFound` becomes `Other`, since an open file exists.
 pub(crate) fn fault_of_open(error: io::Error) -> DiskFault {
     match DiskFault::of_read(error) {
         DiskFault::Read(ErrorKind::NotFound) => DiskFault::Read(ErrorKind::Other),
@@ -17,7 +17,13 @@ pub(crate) fn fault_of_open(error: io::Error) -> DiskFault {
     }
 }
 
-/// Reads a whole file.
+/// Reads an open file from its current position to the end.
+///
+/// # Errors
+///
+/// - A failed read: as `fault_of_open` states.
+/// - More than `IMAGE_LIMIT` bytes: `TooLong`.
+/// - Out of memory: `NoMemory`.
 pub(crate) fn read_file<F: Read>(alloc: Global, file: &mut F) -> Result<Vec<u8>, DiskFault> {
     let mut image = Vec::new(alloc);
     let mut buffer = [0; 4096];
@@ -34,9 +40,15 @@ pub(crate) fn read_file<F: Read>(alloc: Global, file: &mut F) -> Result<Vec<u8>,
     Err(DiskFault::TooLong)
 }
 
-/// Reads the image of a file, with no lock: a file that is replaced meanwhile is the old one or the new one, and
-/// never a mixture. One that is written in place meanwhile can be read as a mixture, without a word of it. `TooLong`
-/// for more than `IMAGE_LIMIT` bytes.
+/// Reads the image file at `path` without a lock.
+///
+/// If another program replaces the file meanwhile, the result is the old file or the new one, never a mixture. If
+/// another program writes into the file meanwhile, the result can be a mixture, and no error reports it.
+///
+/// # Errors
+///
+/// - The file cannot be opened: `Read`, or `NoMemory`.
+/// - The file cannot be read: as `read_file` states. `TooLong` if it has more than `IMAGE_LIMIT` bytes.
 pub(crate) fn read_image<R: Files>(
     rt: &R,
     alloc: Global,

@@ -1,4 +1,4 @@
-//! Images in files: read whole, held by a lock, and replaced whole.
+//! Image files: each is read whole, locked while it is in use, and replaced whole.
 #![tactic(auto)]
 
 mod closed;

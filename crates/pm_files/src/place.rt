@@ -1,4 +1,4 @@
-//! A file that is going to be written: its paths, and its lock.
+//! A file that will be written: its paths and its lock.
 use crate::fault::DiskFault;
 use crate::host::{Host, Kind, Node};
 use crate::image::{fault_of_open, read_file};
@@ -8,52 +8,53 @@ use std::io::{ErrorKind, Seek, SeekFrom};
 use std::rt::Files;
 use std::{fs, io};
 
-/// How often a file is opened anew that was replaced before its lock was had.
+/// The maximal number of attempts to open and lock a file. An attempt fails if the file is replaced before it is
+/// locked.
 const OPENINGS: u8 = 100;
 
-/// How many links are followed, one behind the other.
+/// The maximal number of paths that are checked while symbolic links are followed.
 const LINKS: u8 = 40;
 
-/// A file that is locked, until this is dropped.
+/// A file that is locked until this value is dropped.
 #[derive(Drop)]
 pub(crate) struct Held<F> {
     pub(crate) file: F,
     /// Whether it is open for reading.
     reads: bool,
-    /// The path by which this file is opened once more, whatever its names are by then. `None`: the system has none
-    /// such.
+    /// The path that opens this file again, even if its names have changed. `None` if the system has no such paths.
     again: Option<String>,
 }
 
-/// Where another file can be put: a folder, and the paths of two names in it. They lead through the open folder, which
-/// was found once, so that they stay in it whatever is done to the folders and links on the way.
+/// A location for a new file: a directory, and the paths of two names in it.
+///
+/// The paths lead through the open directory. So they stay in it, even if directories or links on the way change.
 #[derive(Drop)]
 pub(crate) struct Spot<F> {
-    /// The folder, open as long as this is there.
+    /// The directory. It is open as long as this value exists.
     pub(crate) folder: F,
     /// The path of the file.
     pub(crate) path: String,
-    /// The path of the file that takes its place.
+    /// The path of the temporary file.
     pub(crate) beside: String,
-    /// The latter as the user knows it.
+    /// The path of the temporary file for error messages (without `/proc/self/fd`).
     pub(crate) told: String,
 }
 
-/// A path to which bytes are going to be written. All memory that this takes is had here, so that none is wanted later.
+/// A path to which bytes will be written. All memory for writing is allocated when this value is made.
 #[derive(Drop)]
 pub(crate) struct WritePath<F> {
-    /// The path as it was given.
+    /// The path as given.
     pub(crate) name: String,
-    /// What it led to when this was made, if anything, or why that could not be seen.
+    /// The file to which the path led when this value was made, or `None`. An error if the path could not be read.
     pub(crate) was: Result<Option<Node>, ErrorKind>,
-    /// Where its file stands, behind all links. `None`: nothing but the file itself can be written, as where its folder
-    /// cannot be opened.
+    /// The location of the file after all links. `None` if no temporary file can be created, for example if the
+    /// directory cannot be opened: the file can only be written in place then.
     pub(crate) spot: Option<Spot<F>>,
-    /// The file, if it is held.
+    /// The file, if it is locked.
     pub(crate) held: Option<Held<F>>,
 }
 
-/// The folder of a path.
+/// Returns the directory part of `path`: `/` for a file in the root, and `.` if `path` has no slash.
 pub(crate) fn folder_of(path: &str) -> &str {
     match path.rsplit_once('/') {
         Some(("", _)) => "/",
@@ -62,7 +63,8 @@ pub(crate) fn folder_of(path: &str) -> &str {
     }
 }
 
-/// What a link at a path leads to: the link's text, behind the folder of the path where it is no whole path.
+/// Returns the path to which the symbolic link at `path` leads. `link` is the text of the link. A relative `link` is
+/// appended to the directory part of `path`.
 fn led_to(alloc: Global, path: &str, link: &str) -> Result<String, DiskFault> {
     match path.rsplit_once('/') {
         Some((folder, _)) if !link.starts_with('/') => {
@@ -75,7 +77,7 @@ fn led_to(alloc: Global, path: &str, link: &str) -> Result<String, DiskFault> {
     }
 }
 
-/// What a link leads to, if its text can be had.
+/// Returns the path to which the symbolic link at `path` leads. `None` if the link cannot be read.
 fn link_at<R: Host + AllocGlobal>(rt: &R, path: &str) -> Result<Option<String>, DiskFault> {
     match fs::read_link(rt, path) {
         Ok(link) => {
@@ -87,7 +89,8 @@ fn link_at<R: Host + AllocGlobal>(rt: &R, path: &str) -> Result<Option<String>, 
     }
 }
 
-/// The path behind the links at the end of a path, whether its folder can be named from the root or not.
+/// Returns the path after the symbolic links at the end of `name`, even if its directory has no absolute path. `None`
+/// if a link cannot be read, or if there are more than 39 links.
 fn followed<R: Host + AllocGlobal>(rt: &R, name: &str) -> Result<Option<String>, DiskFault> {
     let mut path = String::from_str(rt.alloc(), name)?;
     for _ in 0..LINKS {
@@ -102,7 +105,7 @@ fn followed<R: Host + AllocGlobal>(rt: &R, name: &str) -> Result<Option<String>,
     Ok(None)
 }
 
-/// The path behind all links.
+/// Returns the path of `name` after all symbolic links. `None` if it cannot be found.
 fn resolved<R: Host + AllocGlobal>(rt: &R, name: &str) -> Result<Option<String>, DiskFault> {
     match fs::canonicalize(rt, name) {
         Ok(path) => {
@@ -114,8 +117,8 @@ fn resolved<R: Host + AllocGlobal>(rt: &R, name: &str) -> Result<Option<String>,
     }
 }
 
-/// The path of an open file by its number, which leads to it whatever its names are. `None` where the system has no
-/// such paths.
+/// Returns the path of an open file by its descriptor. It leads to the file, even if the names of the file have
+/// changed. `None` if the system has no such paths.
 pub(crate) fn by_number<R: Host + AllocGlobal>(
     rt: &R,
     file: &R::File,
@@ -130,7 +133,7 @@ pub(crate) fn by_number<R: Host + AllocGlobal>(
     }
 }
 
-/// The path of a file through its open folder, or as it is where the system has no such paths.
+/// Returns the path of a file through its open directory. Returns `path` unchanged if the system has no such paths.
 fn through<R: Host + AllocGlobal>(
     rt: &R,
     folder: &R::File,
@@ -149,7 +152,7 @@ fn through<R: Host + AllocGlobal>(
     }
 }
 
-/// The path of the new file beside one.
+/// Returns the path of the temporary file for `path`.
 fn beside_of(alloc: Global, path: &str) -> Result<String, DiskFault> {
     match format!(in alloc; "{path}.pmach-new") {
         Ok(path) => Ok(path),
@@ -157,7 +160,8 @@ fn beside_of(alloc: Global, path: &str) -> Result<String, DiskFault> {
     }
 }
 
-/// The path of the new file for a path, behind all links; `None` where that cannot be found.
+/// Returns the path of the temporary file for `name`, after all links. `None` if the path after the links cannot be
+/// found.
 pub(crate) fn new_path<R: Host + AllocGlobal>(
     rt: &R,
     name: &str,
@@ -168,7 +172,7 @@ pub(crate) fn new_path<R: Host + AllocGlobal>(
     }
 }
 
-/// Whether a file has no name at its spot, as one of /proc that was removed.
+/// Whether an open file has no name at its location, for example a file of `/proc` that was removed.
 fn is_nameless<R: Host>(rt: &R, was: Result<Option<Node>, ErrorKind>, path: &str) -> bool {
     match was {
         Ok(Some(_)) => matches!(rt.node_at(path, false), Ok(None)),
@@ -176,8 +180,8 @@ fn is_nameless<R: Host>(rt: &R, was: Result<Option<Node>, ErrorKind>, path: &str
     }
 }
 
-/// Opens the folder of a path, if that can be done, and makes the paths that lead through it. `None` also where a file
-/// has no name there.
+/// Opens the directory of `path`, and makes the paths that lead through it. `None` if the directory cannot be opened,
+/// or if the file has no name in it.
 fn spot_of<R: Host + AllocGlobal>(
     rt: &R,
     path: &str,
@@ -200,8 +204,8 @@ fn spot_of<R: Host + AllocGlobal>(
     }))
 }
 
-/// Opens a file that is going to be locked: for reading, or for writing where it may not be read. Whether it can be
-/// read.
+/// Opens a file that will be locked: for reading, or for writing if reading is not permitted. Returns the file, and
+/// whether it is open for reading.
 fn opened<R: Files>(rt: &R, path: &str) -> io::Result<(R::File, bool)> {
     match File::open(rt, path) {
         Ok(file) => Ok((file, true)),
@@ -212,7 +216,12 @@ fn opened<R: Files>(rt: &R, path: &str) -> io::Result<(R::File, bool)> {
     }
 }
 
-/// Opens and locks a file, if it may be read or written. `Busy` where another program has it.
+/// Opens and locks the file at `path`. `None` if it may be neither read nor written.
+///
+/// # Errors
+///
+/// - The file cannot be opened for another reason, or the lock fails: `Read`, or `NoMemory`.
+/// - Another program has locked it: `Busy`.
 fn locked<R: Host + AllocGlobal>(rt: &R, path: &str) -> Result<Option<Held<R::File>>, DiskFault> {
     let (file, reads) = match opened(rt, path) {
         Ok(opened) => opened,
@@ -227,14 +236,19 @@ fn locked<R: Host + AllocGlobal>(rt: &R, path: &str) -> Result<Option<Held<R::Fi
     }
 }
 
-/// Whether a path names this file.
+/// Whether `path` names the file `node`. If `follows`, a symbolic link at the end of `path` is followed.
 fn names<R: Host>(rt: &R, path: &str, follows: bool, node: Node) -> Result<bool, DiskFault> {
     let named = rt.node_at(path, follows).map_err(DiskFault::of_read)?;
     Ok(named.is_some_and(|named| named.is(node)))
 }
 
 impl<F: Seek + std::io::Read> Held<F> {
-    /// Reads the whole file.
+    /// Reads the whole file, from its start.
+    ///
+    /// # Errors
+    ///
+    /// - It is not open for reading: `Read(PermissionDenied)`.
+    /// - It cannot be read: as `read_file` states.
     pub(crate) fn read(&mut self, alloc: Global) -> Result<Vec<u8>, DiskFault> {
         if !self.reads {
             return Err(DiskFault::Read(ErrorKind::PermissionDenied));
@@ -245,7 +259,8 @@ impl<F: Seek + std::io::Read> Held<F> {
 }
 
 impl<F> WritePath<F> {
-    /// Makes ready to write to a path. `NoMemory` is the only refusal: what else is wrong is met where it is written.
+    /// Prepares writing to the path `name`. The only error is `NoMemory`. Any other problem is reported when the file
+    /// is written.
     pub(crate) fn new<R: Host<File = F> + AllocGlobal>(
         rt: &R,
         name: &str,
@@ -265,7 +280,7 @@ impl<F> WritePath<F> {
         })
     }
 
-    /// The path by which its file is opened: through its folder where that is open.
+    /// Returns the path by which the file is opened. It leads through the directory if that is open.
     fn found(&self) -> &str {
         match &self.spot {
             Some(spot) => spot.path.as_str(),
@@ -273,7 +288,7 @@ impl<F> WritePath<F> {
         }
     }
 
-    /// The path by which its file is opened to be written: a file that is held is not looked for by a name once more.
+    /// Returns the path by which the file is opened for writing. A locked file is not searched by its name again.
     pub(crate) fn opening(&self) -> &str {
         match &self.held {
             Some(
@@ -286,8 +301,7 @@ impl<F> WritePath<F> {
         }
     }
 
-    /// Whether an open file is the one that this was made for, and the name, and the path behind all links, still lead
-    /// to it.
+    /// Whether `file` is the prepared file `was`, and the given name and the path after all links still lead to it.
     fn leads_to<R: Host<File = F>>(&self, rt: &R, was: Node, file: &F) -> Result<bool, DiskFault> {
         let node = rt.node(file).map_err(DiskFault::of_read)?;
         if !node.is(was) || !names(rt, self.name.as_str(), true, node)? {
@@ -299,8 +313,14 @@ impl<F> WritePath<F> {
         }
     }
 
-    /// Makes ready to write to a path, and locks its file, if it is a regular one, until this is dropped. `Busy` where
-    /// another program has it. One that may be neither read nor written is not locked: what is done with it says why.
+    /// Prepares writing to the path `name`, and locks its file until the result is dropped. Only a regular file is
+    /// locked. A file that may be neither read nor written is not locked: reading or writing it reports why.
+    ///
+    /// # Errors
+    ///
+    /// - Another program has locked the file: `Busy`.
+    /// - The file was replaced in each of `OPENINGS` attempts: `Busy`.
+    /// - The file cannot be opened: as `locked` states.
     pub(crate) fn holding<R: Host<File = F> + AllocGlobal>(
         rt: &R,
         name: &str,

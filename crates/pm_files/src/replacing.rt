@@ -1,4 +1,4 @@
-//! Writing a file whole.
+//! Writing a whole file.
 ghost use Rattle.std.specs.Prelude.{◌≡◌};
 ghost use Rattle.pm_files.specs.Nodes.{claim_of, first_mode, is_still};
 
@@ -10,19 +10,20 @@ use std::io::{ErrorKind, Seek, SeekFrom, Write};
 use std::os::unix::fs::PermissionsExt;
 use std::{fs, io};
 
-/// The mode of a file that is going to have the mode of another one, until it has it.
+/// The mode of a new file until it gets the mode of the file that it replaces.
 const PRIVATE: u32 = 0o600;
 
-/// The mode of a file that stands for no other one; the system takes from it what the user's mask says.
+/// The mode of a new file that replaces none. The system removes the bits of the umask from it.
 const ORDINARY: u32 = 0o666;
 
-/// The bit of a folder's mode that keeps users from removing the files of others.
+/// The bit in the mode of a directory that prevents users from removing files of others.
 const STICKY: u32 = 0o1000;
 
-/// How often what stands where a new file is to be made is taken away.
+/// The maximal number of attempts to create a temporary file. Each failed attempt removes the file at its path.
 const CLEARINGS: u8 = 100;
 
-/// Writes bytes behind those of a file, to the disk, or leaves it as it was.
+/// Appends `bytes` to a file of `len` bytes, and writes them to the disk. If that fails, it cuts the file to its old
+/// length.
 fn append<F: Write + Seek + OpenFile>(file: &mut F, len: u64, bytes: &[u8]) -> io::Result<()> {
     if bytes.is_empty() {
         return Ok(());
@@ -37,8 +38,10 @@ fn append<F: Write + Seek + OpenFile>(file: &mut F, len: u64, bytes: &[u8]) -> i
     }
 }
 
-/// Writes bytes over those of an open regular file: first those behind its old end, so that want of room leaves it as
-/// it was. No byte is cut off before the new ones stand there.
+/// Replaces the content of an open regular file of `len` bytes with `bytes`.
+///
+/// It first appends the bytes after the old end, so that a full disk leaves the file unchanged. It shortens the file
+/// only after all bytes are written.
 fn overwrite_file<F: Write + Seek + OpenFile>(
     file: &mut F,
     len: u64,
@@ -56,7 +59,7 @@ fn overwrite_file<F: Write + Seek + OpenFile>(
     file.sync_all()
 }
 
-/// Writes bytes over those of an open file. What is no regular file keeps its length.
+/// Writes `bytes` over the content of an open file. A file that is not regular keeps its length.
 fn overwrite<F: Write + Seek + OpenFile>(file: &mut F, bytes: &[u8]) -> io::Result<()> {
     let old = file.metadata()?;
     if old.is_file() {
@@ -66,7 +69,8 @@ fn overwrite<F: Write + Seek + OpenFile>(file: &mut F, bytes: &[u8]) -> io::Resu
     }
 }
 
-/// Whether a folder takes no new name, or the file is one that no other can stand in for.
+/// Whether a write error means that this file cannot be replaced by a new file: the directory accepts no new name, or
+/// the file itself cannot be replaced.
 fn is_denied(kind: ErrorKind) -> bool {
     matches!(
         kind,
@@ -78,16 +82,17 @@ fn is_denied(kind: ErrorKind) -> bool {
     )
 }
 
-/// What came of a new file that was to take a place.
+/// The result of an attempt to replace the file at a path with a new file.
 #[derive(Clone, Copy)]
 enum Came {
-    /// It stands there.
+    /// The new file is at the path.
     Stands,
-    /// The folder does not take it, or it cannot be given the owner and the mode of the old one. All is as it was.
+    /// The directory does not accept the new file, or the new file cannot get the owner and the mode of the old one.
+    /// The old file is unchanged.
     Unfit,
 }
 
-/// A fault that leaves another way is none.
+/// Returns `Unfit` for a fault after which the file can still be written in place. Returns any other fault as an error.
 fn unless_denied(fault: DiskFault) -> Result<Came, DiskFault> {
     match fault {
         DiskFault::Write(kind) if is_denied(kind) => Ok(Came::Unfit),
@@ -95,7 +100,7 @@ fn unless_denied(fault: DiskFault) -> Result<Came, DiskFault> {
     }
 }
 
-/// Whether a folder keeps users from removing the files of others.
+/// Whether the mode of a directory prevents users from removing files of others.
 fn is_sticky<R: Host>(rt: &R, folder: &R::File) -> bool {
     match rt.node(folder) {
         Ok(folder) => folder.mode & STICKY != 0,
@@ -103,7 +108,12 @@ fn is_sticky<R: Host>(rt: &R, folder: &R::File) -> bool {
     }
 }
 
-/// Takes away what stands where a new file is to be made. `InTheWay` where that cannot be done.
+/// Removes the file at the temporary path, if there is one.
+///
+/// # Errors
+///
+/// - The directory does not permit the removal, and it has no sticky bit: `Write`.
+/// - The removal fails for another reason: `InTheWay`.
 fn clear<R: Host>(rt: &R, spot: &Spot<R::File>) -> Result<(), DiskFault> {
     match fs::remove_file(rt, spot.beside.as_str()) {
         Ok(()) => Ok(()),
@@ -117,8 +127,14 @@ fn clear<R: Host>(rt: &R, spot: &Spot<R::File>) -> Result<(), DiskFault> {
     }
 }
 
-/// Makes and locks the file that is to stand in the place of another. Its name is this program's own: what stands there
-/// is taken away, never opened and never followed.
+/// Creates and locks the temporary file that will replace another one. Its name belongs to this program only: a file
+/// that has this name is removed, never opened and never followed.
+///
+/// # Errors
+///
+/// - The file cannot be created or locked: `Write`.
+/// - The file at its path cannot be removed: as `clear` states.
+/// - A file exists at its path again after each of `CLEARINGS` removals: `InTheWay`.
 fn make_beside<R: Host>(rt: &R, spot: &Spot<R::File>, mode: u32) -> Result<R::File, DiskFault> {
     for _ in 0..CLEARINGS {
         match rt.make(spot.beside.as_str(), mode) {
@@ -135,7 +151,7 @@ fn make_beside<R: Host>(rt: &R, spot: &Spot<R::File>, mode: u32) -> Result<R::Fi
     Err(DiskFault::InTheWay)
 }
 
-/// Gives a new file the owner and the mode of the old one, if there is one.
+/// Gives a new file the owner, the group and the mode of the old one, if there is one.
 fn dress<R: Host>(rt: &R, file: &R::File, old: Option<Node>) -> io::Result<()> {
     let Some(old) = old else {
         return Ok(());
@@ -147,13 +163,13 @@ fn dress<R: Host>(rt: &R, file: &R::File, old: Option<Node>) -> io::Result<()> {
     file.set_permissions(Permissions::from_mode(old.mode))
 }
 
-/// Fills a new file, to the disk.
+/// Writes the bytes of a new file to the disk.
 fn fill<F: Write + OpenFile>(file: &mut F, bytes: &[u8]) -> io::Result<()> {
     file.write_all(bytes)?;
     file.sync_all()
 }
 
-/// The mode that a new file is made with.
+/// Returns the mode with which a new file is created.
 fn first_mode(old: Option<Node>) -> u32
     ensures mode { result ≡ first_mode old }
 {
@@ -163,7 +179,7 @@ fn first_mode(old: Option<Node>) -> u32
     }
 }
 
-/// Whether a name that stood for a file, or for none, stands for it still.
+/// Whether a name still names the same file, or still names none: `old` is its file before, and `now` its file now.
 fn is_still(old: Option<Node>, now: Option<Node>) -> bool
     ensures still { result ≡ is_still old now }
 {
@@ -176,7 +192,8 @@ fn is_still(old: Option<Node>, now: Option<Node>) -> bool
     }
 }
 
-/// `Replaced` where a path names another file than this one, or one where there was none.
+/// Returns `Replaced` if `path` names another file than `old`, or if only one of both exists. `Write` if the system
+/// cannot read the file at the path.
 fn expect<R: Host>(rt: &R, path: &str, follows: bool, old: Option<Node>) -> Result<(), DiskFault> {
     let now = rt.node_at(path, follows).map_err(DiskFault::of_write)?;
     if is_still(old, now) {
@@ -186,7 +203,7 @@ fn expect<R: Host>(rt: &R, path: &str, follows: bool, old: Option<Node>) -> Resu
     }
 }
 
-/// `Replaced` where the given name, or the path behind its links, is no longer that of the old file.
+/// Returns `Replaced` if the given name, or the path after its links, no longer leads to the old file.
 fn expect_old<R: Host>(
     rt: &R,
     place: &WritePath<R::File>,
@@ -199,7 +216,7 @@ fn expect_old<R: Host>(
     }
 }
 
-/// Whether a file stands under a path; `unseen` where the system does not say it.
+/// Whether `file` is at `path`. Returns `unseen` if the system cannot read the path.
 fn stands<R: Host>(rt: &R, path: &str, file: Node, unseen: bool) -> bool {
     match rt.node_at(path, false) {
         Ok(Some(now)) => now.is(file),
@@ -208,7 +225,7 @@ fn stands<R: Host>(rt: &R, path: &str, file: Node, unseen: bool) -> bool {
     }
 }
 
-/// Gives a filled file the name of another one, if both names are still those of these files.
+/// Renames the temporary file to the path that it replaces, if both paths still name the expected files.
 fn move_over<R: Host>(
     rt: &R,
     place: &WritePath<R::File>,
@@ -221,7 +238,7 @@ fn move_over<R: Host>(
     fs::rename(rt, spot.beside.as_str(), spot.path.as_str()).map_err(DiskFault::of_write)
 }
 
-/// Puts a filled file in the place of a path, and sees that it stands there.
+/// Renames the temporary file to the path that it replaces, and checks that it is at that path afterwards.
 fn take_place<R: Host>(
     rt: &R,
     place: &WritePath<R::File>,
@@ -234,13 +251,13 @@ fn take_place<R: Host>(
     match move_over(rt, place, spot, new, old) {
         Ok(()) if stands(rt, path, new, true) => Ok(()),
         Ok(()) => Err(DiskFault::Replaced),
-        // Another program that made the same file may have moved this one.
+        // Another program that created the same file may have moved this one.
         Err(_) if stands(rt, path, new, false) => Ok(()),
         Err(fault) => Err(fault),
     }
 }
 
-/// Removes a file that this program made, if it still has its name.
+/// Removes a file that this program created, if `path` still names it.
 fn remove_own<R: Host>(rt: &R, path: &str, file: &R::File) {
     if let (Ok(own), Ok(Some(now))) = (rt.node(file), rt.node_at(path, false)) {
         if now.is(own) {
@@ -249,8 +266,10 @@ fn remove_own<R: Host>(rt: &R, path: &str, file: &R::File) {
     }
 }
 
-/// Fills a file that was made for it, and puts it in the place of a path. `Unfit` where it cannot be dressed; but where
-/// it cannot be filled there is no other way.
+/// Writes `bytes` to the temporary file, and replaces the file at the path with it. Returns `Unfit` if the new file
+/// cannot get the owner and the mode of the old one, or if the directory denies the renaming.
+///
+/// A failed write of the bytes is an error: writing in place would fail too.
 fn put_made<R: Host>(
     rt: &R,
     place: &WritePath<R::File>,
@@ -269,7 +288,7 @@ fn put_made<R: Host>(
     }
 }
 
-/// Puts a new file with the bytes in the place of a path, or leaves all as it was.
+/// Replaces the file at the path with a new file that contains `bytes`. If that fails, the old file is unchanged.
 fn put_beside<R: Host>(
     rt: &R,
     place: &WritePath<R::File>,
@@ -283,7 +302,7 @@ fn put_beside<R: Host>(
     };
     let came = put_made(rt, place, spot, &mut file, old, bytes);
     match came {
-        // The folder's names, where the system writes them to the disk.
+        // Write the names in the directory to the disk, if the system can do so.
         Ok(Came::Stands) => {
             let _ = spot.folder.sync_all();
         }
@@ -292,7 +311,7 @@ fn put_beside<R: Host>(
     came
 }
 
-/// Makes a file with the bytes under its own name, where none can be made beside it.
+/// Creates a file with `bytes` at its own path, without a temporary file.
 pub(crate) fn make_there<R: Host>(rt: &R, path: &str, bytes: &[u8]) -> Result<(), DiskFault> {
     let mut file = rt.make(path, ORDINARY).map_err(DiskFault::of_write)?;
     let done = fill(&mut file, bytes);
@@ -302,7 +321,7 @@ pub(crate) fn make_there<R: Host>(rt: &R, path: &str, bytes: &[u8]) -> Result<()
     done.map_err(DiskFault::of_write)
 }
 
-/// Writes a file that was not there. Nothing that is there by now is opened.
+/// Writes a file that did not exist when `place` was made. A file that exists at the path by now is never opened.
 fn write_new<R: Host>(rt: &R, place: &WritePath<R::File>, bytes: &[u8]) -> Result<(), DiskFault> {
     let Some(spot) = &place.spot else {
         return make_there(rt, place.name.as_str(), bytes);
@@ -313,16 +332,16 @@ fn write_new<R: Host>(rt: &R, place: &WritePath<R::File>, bytes: &[u8]) -> Resul
     }
 }
 
-/// What this program has of a file that it has opened for writing.
+/// The relation of this program to a file that it has opened for writing.
 #[derive(Clone, Copy)]
 enum Claimed {
-    /// It holds this file.
+    /// The program has locked this file.
     Held,
-    /// It made ready for another one.
+    /// The program prepared another file.
     Other,
-    /// It made ready for this one, which can be locked.
+    /// The program prepared this file, which can be locked.
     Free,
-    /// It made ready for this one, which is a device, a pipe or a socket.
+    /// The program prepared this file, which is a device, a pipe or a socket.
     Shared,
 }
 
@@ -340,8 +359,13 @@ fn claim_of(was: Node, holds: bool, opened: Node) -> Claimed
     }
 }
 
-/// Whether this program may write a file: it holds it, or has its lock for the time of this. `Replaced` where it made
-/// ready for another one.
+/// Returns `Ok` if this program may write a file: it has locked the file, it can lock it now, or the file is not
+/// regular.
+///
+/// # Errors
+///
+/// - The program prepared another file: `Replaced`.
+/// - The lock fails: `Write`. The kind is `WouldBlock` if another program has locked the file.
 fn claim<R: Host>(
     rt: &R,
     place: &WritePath<R::File>,
@@ -357,7 +381,8 @@ fn claim<R: Host>(
     }
 }
 
-/// Writes over the bytes of a file, which no other can stand in for. `Replaced` where its name has been taken from it.
+/// Writes `bytes` over the content of a file that cannot be replaced by a new one. `Replaced` if its path no longer
+/// names it; the file is unchanged then.
 fn write_over<R: Host>(
     rt: &R,
     place: &WritePath<R::File>,
@@ -369,8 +394,8 @@ fn write_over<R: Host>(
     overwrite(&mut file, bytes).map_err(DiskFault::of_write)
 }
 
-/// The file for which a place was made, as it is now where it is held. Some systems give it another number when it is
-/// opened for writing.
+/// Returns the data of the prepared file. If the file is locked, they are read again: some systems give a file another
+/// number when it is opened for writing.
 fn known<R: Host>(rt: &R, place: &WritePath<R::File>, was: Node) -> Result<Node, DiskFault> {
     match &place.held {
         Some(held) => rt.node(&held.file).map_err(DiskFault::of_write),
@@ -378,7 +403,8 @@ fn known<R: Host>(rt: &R, place: &WritePath<R::File>, was: Node) -> Result<Node,
     }
 }
 
-/// Writes a file that is there. It is opened where each name still leads to it; else it is `Replaced`.
+/// Writes a file that existed when `place` was made. It is opened only if each of its names still leads to it;
+/// `Replaced` otherwise.
 fn write_old<R: Host>(
     rt: &R,
     place: &WritePath<R::File>,
@@ -402,10 +428,24 @@ fn write_old<R: Host>(
     }
 }
 
-/// Makes the bytes those of a file: at each moment it has its old bytes or these. But they are written over the old
-/// ones where the file is no regular one, has other names, or stands in a folder that takes no new file like it; where
-/// that fails half way it is a mixture. No memory is wanted. What was not there when the place was made is made new,
-/// and what was is `Replaced`, and not opened, where its name leads to another file, or to none, by now.
+/// Replaces the content of a file with `bytes`.
+///
+/// At each moment the file has its old bytes or the new ones. But the bytes are written in place, over the old ones, in
+/// three cases:
+///
+/// - the file is not regular;
+/// - it has several names;
+/// - its directory does not accept a new file like it.
+///
+/// If writing in place fails half way, the file is a mixture. No memory is allocated.
+///
+/// A file that did not exist when `place` was made is created.
+///
+/// # Errors
+///
+/// - The path could not be read when `place` was made: `Write`.
+/// - The path names another file by now, or none: `Replaced`. That file is not opened.
+/// - The file cannot be written: `Write` or `InTheWay`.
 pub(crate) fn replace<R: Host>(
     rt: &R,
     place: &WritePath<R::File>,

@@ -1,4 +1,4 @@
-//! Files as the program sees them: which bytes stand under which path.
+//! Files as the program uses them: paths and the bytes of their files.
 ghost use Rattle.std.specs.Prelude.{◌≡◌, ℕ, Bool, List, Option, None, IfErr, IfOk, IfSome, OnOk, OnErr};
 ghost use Rattle.pm_files.specs.Held.{HoldsFile, HoldsNone, Puts, held_too};
 
@@ -11,24 +11,28 @@ use std::alloc::Global;
 use std::fs;
 use std::io::ErrorKind;
 
-/// Files, each read whole and written whole.
+/// Files that are read whole and written whole.
 pub trait Store {
-    /// What each path holds, where it is known.
+    /// The bytes of the file at each path, if they are known.
     ghost files: { Self → Option (List ℕ → Option (List ℕ)) };
 
-    /// Which paths name one file, where it is known.
+    /// Whether two paths name the same file, if it is known.
     ghost same: { Self → Option (List ℕ → List ℕ → Bool) };
 
-    /// At which paths a file is made on the way to writing that of another path, where it is known.
+    /// Whether a second path names the file at the temporary path of a first path, if it is known.
     ghost beside: { Self → Option (List ℕ → List ℕ → Bool) };
 
-    /// Which paths name a folder, where it is known.
+    /// Whether a path names a directory, if it is known.
     ghost folders: { Self → Option (List ℕ → Bool) };
 
-    /// The paths whose files are held, in the order in which they were taken, where they are known.
+    /// The paths of the locked files, in the order in which they were locked, if they are known.
     ghost held: { Self → Option (List (List ℕ)) };
 
-    /// Reads a file of at most `IMAGE_LIMIT` bytes. `NotFound` only where the path holds none.
+    /// Reads the file at `path`, of at most `IMAGE_LIMIT` bytes. No file changes.
+    ///
+    /// # Errors
+    ///
+    /// `Read(NotFound)` only if no file is at `path`.
     fn read(&mut self, alloc: Global, path: &str) -> Result<Vec<u8>, DiskFault>
         ensures stays { files self.new ≡ files self.old }
         ensures held { held self.new ≡ held self.old }
@@ -36,48 +40,56 @@ pub trait Store {
         ensures missing { IfErr result (λ fault.
             fault ≡ DiskFault.Read ErrorKind.NotFound → HoldsNone (files self.old) path.now) };
 
-    /// Takes all memory that writing a file wants.
+    /// Prepares the file at `path` for writing: it allocates all memory that writing will need. No file changes.
     fn prepare(&mut self, path: &str) -> Result<(), DiskFault>
         ensures stays { files self.new ≡ files self.old }
         ensures held { held self.new ≡ held self.old };
 
-    /// Prepares a file, and keeps all other programs from writing it as long as the store is there. `Busy` where
-    /// another one has it.
+    /// Prepares the file at `path` for writing, and locks it as long as the store exists. Other programs cannot write
+    /// it meanwhile. No file changes.
+    ///
+    /// # Errors
+    ///
+    /// `Busy` if another program has locked the file.
     fn hold(&mut self, path: &str) -> Result<(), DiskFault>
         ensures stays { files self.new ≡ files self.old }
         ensures held { OnOk result (held self.new ≡ held_too path.now (held self.old)) };
 
-    /// Makes the bytes those of a file. Where that fails, no file has changed.
+    /// Replaces the content of the file at `path` with `bytes`. No other file changes.
+    ///
+    /// On an error, no file in `files` has changed. In the file system, a file that is written in place can then be a
+    /// mixture.
     fn put(&mut self, path: &str, bytes: &[u8]) -> Result<(), DiskFault>
         ensures puts { OnOk result (Puts (files self.old) (files self.new) path.now bytes.now) }
         ensures held { held self.new ≡ held self.old }
         ensures unchanged { OnErr result (files self.new ≡ files self.old) };
 
-    /// Whether two paths name one file.
+    /// Whether two paths name the same file.
     fn is_same(&self, one: &str, other: &str) -> bool
         ensures value { IfSome (same self.now) (λ same. result ≡ same one.now other.now) };
 
-    /// Whether the file of the second path would be taken away on the way to writing that of the first: it stands where
-    /// the new file is made.
+    /// Whether writing the file at `path` would remove the file at `other`, because `other` is the path of the
+    /// temporary file.
     fn is_beside(&self, path: &str, other: &str) -> bool
         ensures value { IfSome (beside self.now) (λ beside. result ≡ beside path.now other.now) };
 
-    /// Whether a path names a folder.
+    /// Whether a path names a directory.
     fn is_folder(&self, path: &str) -> bool
         ensures value { IfSome (folders self.now) (λ folders. result ≡ folders path.now) };
 }
 
-/// The files of a system. Nothing is known of what they hold, since other programs have them too.
+/// The files of the system. Their contents are not known to contracts, since other programs can change them. Only a
+/// regular file that may be read or written is locked.
 #[derive(Drop)]
 pub struct HostStore<'a, R: Host> {
     rt: &'a R,
     places: Vec<WritePath<R::File>>,
-    /// The path with which a call failed last.
+    /// The path of the last call that failed.
     refused: Option<String>,
 }
 
 impl<'a, R: Host + AllocGlobal> HostStore<'a, R> {
-    /// The files of the system, none of them prepared.
+    /// Returns the files of the system. None of them is prepared.
     pub fn new(rt: &'a R) -> HostStore<'a, R> {
         HostStore {
             rt,
@@ -86,12 +98,12 @@ impl<'a, R: Host + AllocGlobal> HostStore<'a, R> {
         }
     }
 
-    /// The path with which a call failed last, if its text could be kept.
+    /// Returns the path of the last call that failed. `None` if no call failed, or if the path could not be copied.
     pub fn into_refused(self) -> Option<String> {
         self.refused
     }
 
-    /// Keeps the path of a call that failed.
+    /// Stores `path` if its call failed.
     fn note<T>(&mut self, path: &str, done: Result<T, DiskFault>) -> Result<T, DiskFault> {
         if done.is_err() {
             self.refused = String::from_str(self.rt.alloc(), path).ok();
@@ -111,7 +123,7 @@ impl<'a, R: Host + AllocGlobal> HostStore<'a, R> {
         }
     }
 
-    /// Reads a file: the one that is held, or the one that the path names now.
+    /// Reads the file that is locked for `path`, or else the file that `path` names now.
     fn read_path(&mut self, alloc: Global, path: &str) -> Result<Vec<u8>, DiskFault> {
         for place in self.places.iter_mut() {
             if place.name.as_str() == path {
@@ -133,7 +145,7 @@ impl<'a, R: Host + AllocGlobal> HostStore<'a, R> {
         replace(self.rt, &place, bytes)
     }
 
-    /// Keeps the path at which the new file of a path would have been made.
+    /// Stores the path of the temporary file of `path`.
     fn note_beside(&mut self, path: &str) {
         for place in self.places.iter() {
             if place.name.as_str() == path {

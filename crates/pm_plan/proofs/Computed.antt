@@ -1,4 +1,4 @@
--- The limits are worked out.
+-- The worked examples of the limits hold.
 use Rattle.std.proofs.Common.{arith, ◌≡◌, ◌≤◌, ◌<◌, ℕ, true, false}
 use Rattle.std.specs.Prelude.{None}
 use Rattle.pm_plan.specs.Asked.{IsRunLimit}

@@ -1,4 +1,4 @@
--- What clap finds, as rows.
+-- The arguments that clap finds, as rows.
 use Rattle.std.proofs.Common.{◌≡◌, ℕ, List, Option, None, Some, refl, option_map}
 use Rattle.std.specs.Prelude.{Box}
 use Rattle.std.specs.Box.{box_value}
@@ -21,16 +21,16 @@ module _ {Z : Type 0} where
   unnamed None is_name = refl
   unnamed (Some below) is_name = cc
 
--- the command or verb that is found, with its words
+-- The command or verb that is found, with its arguments.
 pub found_below : (m : ArgMatches) (name : List ℕ) (rows : List Row) → Some name ≡ subcommand_name_of m
     → Some rows ≡ option_map (λ p. p.1) (subcommand_rows_of m) → subcommand_rows_of m ≡ Some (name, rows)
 found_below m name rows is_name are_rows = named (out-ArgMatches m).subcommand name rows is_name are_rows
 
--- none is found
+-- No command or verb is found.
 pub none_below : (m : ArgMatches) → None ≡ subcommand_name_of m → subcommand_rows_of m ≡ None
 none_below m is_name = unnamed (out-ArgMatches m).subcommand is_name
 
--- where a path stands before the verb or behind it and not at both, there is none behind it or it is not empty
+-- If a path is given at exactly one of two positions, the one after the verb is missing or not empty.
 pub behind_optional : (before behind : Option (List ℕ)) → IsOnePath before behind → IsOptional behind
 behind_optional None None one = absurd one
 behind_optional None (Some path) one = one

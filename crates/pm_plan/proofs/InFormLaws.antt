@@ -1,4 +1,4 @@
--- What a path holds in a form.
+-- The contents of files in a form.
 use Rattle.std.proofs.Common.{◌≡◌, ◌∙◌, ℕ, List, [], Option, None, Some, Result, Ok, Err, IfOk, OnOk, Vec, ap, refl, sym, subst}
 use Rattle.std.proofs.Common.{option_map}
 use Rattle.std.specs.Option.{unwrap_or}
@@ -15,7 +15,7 @@ use Rattle.pm_check.specs.declared.order.Order.{Order}
 use Rattle.pm_check.specs.declared.order.Order.TheVariants as orders
 use Rattle.pm_plan.specs.InForm.{IsFound, PutsFormed, PutsVolume, form_at, in_form}
 
--- of a file that is read the volume is seen
+-- The volume of a file that is read is seen.
 pub holds_volume : (form : Form) (system printer : Option (List ℕ)) (files : Files) (path bytes : List ℕ)
     → HoldsFile files path bytes
     → HoldsFile (in_form form system printer files) path (volume_of (form_at form system printer path) bytes)
@@ -23,14 +23,14 @@ holds_volume form system printer None path bytes holds = tt
 holds_volume form system printer (Some files) path bytes holds =
     ap (option_map (volume_of (form_at form system printer path))) holds
 
--- where there is no file there is none in the form
+-- If there is no file, there is no file in the form.
 pub holds_none : (form : Form) (system printer : Option (List ℕ)) (files : Files) (path : List ℕ)
     → HoldsNone files path → HoldsNone (in_form form system printer files) path
 holds_none form system printer None path none = tt
 holds_none form system printer (Some files) path none =
     ap (option_map (volume_of (form_at form system printer path))) none
 
--- a file that is read is what is found, and so is none where there is no file
+-- A file that is read is the file that is found. Nothing is found if there is no file.
 pub found_held : (files : Files) (path bytes : List ℕ) → HoldsFile files path bytes → IsFound files path bytes
 found_held None path bytes holds = tt
 found_held (Some files) path bytes holds = sym (ap (λ held. unwrap_or held []) holds)
@@ -39,7 +39,7 @@ pub found_none : (files : Files) (path : List ℕ) → HoldsNone files path → 
 found_none None path none = tt
 found_none (Some files) path none = sym (ap (λ held. unwrap_or held []) none)
 
--- a file that is written holds the volume that is in it
+-- A file that is written contains the volume that is written into it.
 pub puts_formed : (form : Form) (system printer : Option (List ℕ)) (old new : Files) (path file bytes : List ℕ)
     → Puts old new path file → volume_of (form_at form system printer path) file ≡ bytes
     → Puts (in_form form system printer old) (in_form form system printer new) path bytes
@@ -50,7 +50,7 @@ puts_formed form system printer (Some old) (Some new) path file bytes puts is = 
   λ other apart. ap (option_map (volume_of (form_at form system printer other))) (puts.1 other apart),
 )
 
--- the same of what came
+-- The volume read from a file is the volume seen.
 pub read_volume : (r : Result (Vec ℕ Global) DiskFault) (form at : Form) (system printer : Option (List ℕ)) (files : Files)
     (path bytes : List ℕ) → at ≡ form_at form system printer path → HoldsFile files path bytes
     → IfOk r (λ made. made.items ≡ volume_of at bytes)
@@ -101,7 +101,7 @@ put_volume (Ok done) form system printer old new path bytes is puts =
     (ap (λ form. volume_of form (filed puts.before bytes)) (sym is) ∙ puts.back)
 put_volume (Err fault) form system printer old new path bytes is puts = tt
 
--- ---- the file that is written
+-- ---- the file written
 
 formed : (form : Form) (old new : Files) (path file volume : List ℕ)
     → ((files : List ℕ → Option (List ℕ)) → old ≡ Some files → file ≡ file_of form (unwrap_or (files path) []) volume)

@@ -1,5 +1,5 @@
--- Which words give which job. What clap finds of the words of a command it keeps in rows, each under an id; the command
--- behind it, or the verb, stands apart, with its name and rows of its own.
+-- The jobs that arguments specify. For each command, clap stores the arguments found in rows, each under an id. The
+-- command or verb after them is stored separately, with its name and its own rows.
 use Rattle.std.specs.Prelude.{◌≡◌, ◌≤◌, ◌⊎◌, ◌||◌, ⊤, ℕ, Bool, true, false, List, [], ◌∷◌, Option, String}
 use Rattle.std.specs.Prelude.{None, Some, map, option_map, string_bytes, codes}
 use Rattle.std.specs.declared.alloc.Global.{Global}
@@ -38,20 +38,20 @@ use Rattle.pm_plan.specs.declared.words.Asked.{Asked}
 use Rattle.pm_plan.specs.declared.words.Plan.{Plan}
 use Rattle.pm_plan.specs.declared.words.Plan.TheVariants as plans
 
--- what is found of the words of a command, but for a command or a verb behind it
+-- The arguments of a command, without those of a command or verb that follows.
 abbrev pub words_of : ArgMatches → List Row
 words_of m = rows_of (found_of m)
 
--- the word that is found for an id
+-- The argument under `id`.
 abbrev pub word_found : List Row → List ℕ → Option (List ℕ)
 word_found rows id = first_of id rows
 
--- A word is a number up to this one: decimal digits alone, one or more, with leading zeros or without, that write no
--- higher one. A sign is no digit.
+-- An argument is a number up to `most`: one or more decimal digits, with or without leading zeros, whose value is at
+-- most `most`. A sign is not a digit.
 abbrev pub IsNumberUpTo : ℕ → List ℕ → Type 0
 IsNumberUpTo most word = IsNumeral 10 word × (digits_value 10 word ≤ most)
 
--- a word is the number that its decimal digits write
+-- An argument is the number that its decimal digits write.
 abbrev pub IsNumber : List ℕ → ℕ → Type 0
 IsNumber word number = IsNumeral 10 word × (number ≡ digits_value 10 word)
 
@@ -59,64 +59,64 @@ abbrev pub IsSpelled : Option (List ℕ) → ℕ → Type 0
 IsSpelled None number = ⊥
 IsSpelled (Some word) number = IsNumber word number
 
--- there is a word, and it is a number up to this one
+-- There is an argument, and it is a number up to `most`.
 abbrev pub IsNumberWord : ℕ → Option (List ℕ) → Type 0
 IsNumberWord most None = ⊥
 IsNumberWord most (Some word) = IsNumberUpTo most word
 
--- the limit of a run: 10,000,000 where the words have none
+-- The limit of a run. The default is 10,000,000.
 abbrev pub IsLimit : Option (List ℕ) → ℕ → Type 0
 IsLimit None limit = limit ≡ 10000000
 IsLimit (Some word) limit = IsNumber word limit
 
--- the word that is found for an option without a value says that it is given
+-- The argument of an option without a value states that the option is given.
 abbrev pub is_set : Option (List ℕ) → Bool
 is_set None = false
 is_set (Some word) = bytes_eq word (codes "true")
 
--- the limit of a run or a trace, whether or not it is to have none: then it is 2 ^ 64 - 1
+-- The limit of a run or a trace. With `--unlimited`, it is 2 ^ 64 - 1.
 abbrev pub IsRunLimit : Bool → Option (List ℕ) → ℕ → Type 0
 IsRunLimit true word limit = limit ≡ 18446744073709551615
 IsRunLimit false word limit = IsLimit word limit
 
--- there is no word for the limit, or it is a number below 2 ^ 32
+-- There is no limit argument, or it is a number below 2 ^ 32.
 abbrev pub IsLimitWord : Option (List ℕ) → Type 0
 IsLimitWord None = ⊤
 IsLimitWord (Some word) = IsNumberUpTo 4294967295 word
 
--- the same of a run or a trace: one that is to have no limit has no word for it
+-- The limit of a run or a trace is valid. With `--unlimited`, there is no limit argument.
 abbrev pub IsRunLimitWord : Bool → Option (List ℕ) → Type 0
 IsRunLimitWord true None = ⊤
 IsRunLimitWord true (Some word) = ⊥
 IsRunLimitWord false word = IsLimitWord word
 
--- the number of a slot, where there is a word for it
+-- The number of a slot, if there is an argument for it.
 abbrev pub IsSlot : Option (List ℕ) → Option ℕ → Type 0
 IsSlot None slot = slot ≡ None
 IsSlot (Some word) None = ⊥
 IsSlot (Some word) (Some slot) = IsNumber word slot
 
--- a kind of file: by its word in a list, or by its number
+-- A kind of file, selected by its name or by its number.
 abbrev pub IsKind : Option (List ℕ) → ℕ → Type 0
 IsKind None kind = ⊥
 IsKind (Some word) kind = (kind_word kind ≡ Some word) ⊎ IsNumber word kind
 
--- whether an option without a value is among the words
+-- Whether an option without a value is given.
 pub record IsFlag (found : Option (List ℕ)) (flag : Bool) : Type 0 where
   pub absent : found ≡ None → flag ≡ false
   pub given : found ≡ Some (codes "true") → flag ≡ true
   pub denied : found ≡ Some (codes "false") → flag ≡ false
 
--- paths, as lists of bytes
+-- Paths as lists of bytes.
 abbrev pub paths_in : List (Option (String Global)) → List (Option (List ℕ))
 paths_in paths = map (option_map string_bytes) paths
 
--- the words for the disks on the other units than 4, each by its unit's option
+-- The arguments for the disks on the units other than 4, each under the option of its unit.
 abbrev pub other_words : List Row → List (Option (List ℕ))
 other_words rows = word_found rows (codes "d5") ∷ word_found rows (codes "d9") ∷ word_found rows (codes "d10")
     ∷ word_found rows (codes "d11") ∷ word_found rows (codes "d12") ∷ []
 
--- the words of run, trace and debug: each disk by its unit's option
+-- The arguments of run, trace and debug. Each disk has the option of its unit.
 pub record AsksProgram (rows : List Row) (program : Program) : Type 0 where
   pub disk : word_found rows (codes "d4") ≡ Some (string_bytes program.disk)
   pub others : paths_in program.others ≡ other_words rows
@@ -124,26 +124,27 @@ pub record AsksProgram (rows : List Row) (program : Program) : Type 0 where
   pub limit : IsRunLimit (is_set (word_found rows (codes "unlimited"))) (word_found rows (codes "limit")) program.limit
   pub system : word_found rows (codes "system") ≡ option_map string_bytes program.system
 
--- All images that are the program's own: beside `--system` not that of unit 4, on which the system's segment stands.
+-- The images that `--save-all` saves. With `--system`, the image of unit 4 is not saved, since it contains the system's
+-- segment.
 abbrev pub all_own : Option (List ℕ) → Saving
 all_own None = savings.All
 all_own (Some system) = savings.Others
 
--- which images are kept, whether or not the words say `--save`, and `--save-all`: they do not say both
+-- The images that are saved, as `--save` and `--save-all` state. They are not both given.
 abbrev pub IsSaving : Bool → Bool → Option (List ℕ) → Saving → Type 0
 IsSaving false false system saving = saving ≡ savings.Nothing
 IsSaving true false system saving = saving ≡ savings.First
 IsSaving false true system saving = saving ≡ all_own system
 IsSaving true true system saving = ⊥
 
--- the further words of run
+-- The further arguments of run.
 pub record AsksChoices (rows : List Row) (choices : RunChoices) : Type 0 where
   pub saving : IsSaving (is_set (word_found rows (codes "save"))) (is_set (word_found rows (codes "save-all")))
       (word_found rows (codes "system")) choices.saving
   pub printer : word_found rows (codes "printer") ≡ option_map string_bytes choices.printer
   pub escape : IsFlag (one_of (codes "escape") rows) choices.escape
 
--- the word of this id is a name, and no slot stands beside it; or it is missing, and the number of a slot is there
+-- A name is given under `id` and no slot is given; or no name is given and the number of a slot is given.
 abbrev pub AsksName : List ℕ → List Row → List ℕ → Type 0
 AsksName id rows name = (word_found rows id ≡ Some name) × (word_found rows (codes "slot") ≡ None)
 
@@ -154,23 +155,23 @@ abbrev pub AsksEither : List ℕ → List Row → Chosen → Type 0
 AsksEither id rows (chosen.Named name) = AsksName id rows (string_bytes name)
 AsksEither id rows (chosen.InSlot slot) = AsksSlot id rows slot
 
--- the words name no pattern
+-- No pattern is given.
 abbrev pub AsksNoPattern : List Row → Type 0
 AsksNoPattern rows = word_found rows (codes "matching") ≡ None
 
--- they name this one, and whether or not an option without a value stands beside it
+-- This pattern is given, and `given` states whether the option without a value is given too.
 abbrev pub AsksPattern : List Row → List ℕ → List ℕ → Bool → Type 0
 AsksPattern rows pattern option given =
     (word_found rows (codes "matching") ≡ Some pattern) × (is_set (word_found rows option) ≡ given)
 
--- the files that fit a pattern are listed: by list, or by a removal that is tried without its being done
+-- The files that match a pattern are listed: by `list`, or by `remove --dry-run`.
 abbrev pub ListsFitting : List ℕ → List Row → List ℕ → Type 0
 ListsFitting verb rows pattern =
     ((verb ≡ codes "list") × AsksPattern rows pattern (codes "all") false)
     ⊎ ((verb ≡ codes "remove") × AsksPattern rows pattern (codes "dry-run") true)
 
--- the words of a command on a volume, its verb among them; what is put or copied is read later; beside a slot the one
--- word of change is the new name, that of kind the kind
+-- The arguments of a command on a volume, with its verb. The bytes to put or copy are read later. With `--slot`, the
+-- only name argument of `change` is the new name, and that of `kind` is the kind.
 abbrev pub AsksOrder : List ℕ → List Row → Order → Type 0
 AsksOrder verb rows ListFiles =
     (verb ≡ codes "list") × (is_set (word_found rows (codes "all")) ≡ false) × AsksNoPattern rows
@@ -220,35 +221,34 @@ AsksVerb verb rows (verbs.New name blocks) =
 AsksVerb verb rows verbs.Repair = verb ≡ codes "repair"
 AsksVerb verb rows verbs.Check = verb ≡ codes "check"
 
--- the path of an image, which stands before the verb or behind it
+-- The path of an image, which is given before the verb or after it.
 abbrev pub IsPath : Option (List ℕ) → Option (List ℕ) → List ℕ → Type 0
 IsPath (Some before) None path = path ≡ before
 IsPath None (Some behind) path = path ≡ behind
 IsPath None None path = ⊥
 IsPath (Some before) (Some behind) path = ⊥
 
--- the words of files, with its verb and the words behind that, and the path of the file that stands in the place of
--- standard output
+-- The arguments of `files`, with its verb and the arguments after it, and the path of the file that gets the output.
 abbrev pub AsksFiles : ArgMatches → FilesPlan → Type 0
 AsksFiles m plan = (verb : List ℕ) × (rows : List Row) × (subcommand_rows_of m ≡ Some (verb, rows))
     × IsPath (word_found (words_of m) (codes "image")) (word_found rows (codes "image")) (string_bytes plan.path)
     × AsksVerb verb rows plan.verb × (word_found rows (codes "output") ≡ option_map string_bytes plan.output)
 
--- the same with the verb salvage, which names a new volume too
+-- The arguments of `files salvage`, which also specify a new volume.
 abbrev pub AsksSalvage : ArgMatches → SalvagePlan → Type 0
 AsksSalvage m plan = (rows : List Row) × (subcommand_rows_of m ≡ Some (codes "salvage", rows))
     × IsPath (word_found (words_of m) (codes "image")) (word_found rows (codes "image")) (string_bytes plan.path)
     × (word_found rows (codes "NEWPATH") ≡ Some (string_bytes plan.target))
     × IsFlag (one_of (codes "second") rows) plan.second
 
--- ---- which lines of a trace
+-- ---- lines of a trace
 
--- the first step whose line is shown: that before which none was made, where the words have none
+-- The first step whose line is shown. The default is 0: all steps.
 abbrev pub IsFirst : Option (List ℕ) → ℕ → Type 0
 IsFirst None first = first ≡ 0
 IsFirst (Some word) first = IsNumber word first
 
--- the code in which the steps stand, by the words for a segment and for a procedure of it
+-- The code whose steps are shown, by the arguments for a segment and a procedure of it.
 abbrev pub IsCode : Option (List ℕ) → Option (List ℕ) → Code → Type 0
 IsCode None None wanted = wanted ≡ code.Anywhere
 IsCode None (Some procedure) wanted = ⊥
@@ -256,16 +256,16 @@ IsCode (Some segment) None wanted = (s : ℕ) × IsNumber segment s × (wanted �
 IsCode (Some segment) (Some procedure) wanted =
     (s : ℕ) × (p : ℕ) × IsNumber segment s × IsNumber procedure p × (wanted ≡ code.Procedure s p)
 
--- the words of raw and trace that select lines
+-- The arguments of raw and trace that select lines.
 pub record AsksSelection (rows : List Row) (selection : Selection) : Type 0 where
   pub from : IsFirst (word_found rows (codes "from")) selection.from
   pub code : IsCode (word_found rows (codes "segment")) (word_found rows (codes "procedure")) selection.code
   pub calls : IsFlag (one_of (codes "calls") rows) selection.calls
   pub places : IsFlag (one_of (codes "places") rows) selection.places
 
--- ---- what asm and dis write
+-- ---- output of asm and dis
 
--- what asm writes, whether or not the words say `--all`, `--list` and `--symbols`, of which one alone may stand
+-- The output of asm. At most one of `--all`, `--list` and `--symbols` is given.
 abbrev pub IsAsm : Bool → Bool → Bool → AsmOutput → Type 0
 IsAsm false false false what = what ≡ asm.File
 IsAsm false true false what = what ≡ asm.Listing
@@ -275,7 +275,7 @@ IsAsm true true symbols what = ⊥
 IsAsm true false true what = ⊥
 IsAsm false true true what = ⊥
 
--- what dis writes, whether or not the words say `--names`, `--list` and `--statements`, of which one alone may stand
+-- The output of dis without `--indent` and `--blocks`. At most one of `--names`, `--list` and `--statements` is given.
 abbrev pub IsUnindented : Bool → Bool → Bool → DisOutput → Type 0
 IsUnindented false false false what = what ≡ dis.Text
 IsUnindented true false false what = what ≡ dis.Names
@@ -285,19 +285,19 @@ IsUnindented true true statements what = ⊥
 IsUnindented true false true what = ⊥
 IsUnindented false true true what = ⊥
 
--- and whether or not they say `--indent`, beside which `--statements` alone may stand
+-- The output of dis without `--blocks`. With `--indent`, only `--statements` can be given too.
 abbrev pub IsUnblocked : Bool → Bool → Bool → Bool → DisOutput → Type 0
 IsUnblocked names list statements false what = IsUnindented names list statements what
 IsUnblocked names list statements true what = (names ≡ false) × (list ≡ false) × (what ≡ dis.Indented)
 
--- and `--blocks`, which does not stand beside that either
+-- The output of dis. With `--blocks`, only `--statements` can be given too.
 abbrev pub IsDis : Bool → Bool → Bool → Bool → Bool → DisOutput → Type 0
 IsDis names list statements indent false what = IsUnblocked names list statements indent what
 IsDis names list statements indent true what =
     (names ≡ false) × (list ≡ false) × (indent ≡ false) × (what ≡ dis.Blocks)
 
--- what asm and dis read, by the words for an image and a file: standard input, the file of a path, or the file of a
--- name on an image
+-- The input of asm and dis by the arguments for an image and a file: standard input, the file at a path, or a file on
+-- an image.
 abbrev pub IsTextInput : Option (List ℕ) → Option (List ℕ) → TextInput → Type 0
 IsTextInput image file inputs.Standard = (image ≡ None) × (file ≡ None)
 IsTextInput image file (inputs.File path) = (image ≡ None) × (file ≡ Some (string_bytes path))
@@ -307,14 +307,14 @@ IsTextInput image file (inputs.OnImage path name) =
 abbrev pub AsksTextInput : List Row → TextInput → Type 0
 AsksTextInput rows input = IsTextInput (word_found rows (codes "image")) (word_found rows (codes "FILE")) input
 
--- what is read, and the path of the file that stands in the place of standard output
+-- The input, and the path of the file that gets the output instead of standard output.
 pub record AsksTextFiles (rows : List Row) (files : TextFiles) : Type 0 where
   pub input : AsksTextInput rows files.input
   pub output : word_found rows (codes "output") ≡ option_map string_bytes files.output
 
--- ---- all words
+-- ---- all arguments
 
--- a command and its words
+-- The arguments of a command specify a job.
 abbrev pub Asks : List ℕ → ArgMatches → Plan → Type 0
 Asks command m (plans.Raw limit selection) =
     (command ≡ codes "raw") × IsLimit (word_found (words_of m) (codes "limit")) limit
@@ -338,29 +338,29 @@ Asks command m (plans.Debug program typed) = (command ≡ codes "debug") × Asks
     × (word_found (words_of m) (codes "input") ≡ option_map string_bytes typed)
 Asks command m (plans.Salvage plan) = (command ≡ codes "files") × AsksSalvage m plan
 
--- the command among all words, by its name, and what is found of its words
+-- The command among all arguments, and the arguments found for it.
 abbrev pub IsCommand : ArgMatches → List ℕ → ArgMatches → Type 0
 IsCommand m command below = subcommand_rows_of m ≡ Some (command, words_of below)
 
--- the word for the form behind a verb, if there is one
+-- The value of `--form` after a verb, if there is one.
 abbrev pub word_below : Option (List ℕ × List Row) → Option (List ℕ)
 word_below None = None
 word_below (Some behind) = word_found behind.1 (codes "form")
 
--- the form of the images, by the words behind a command and those behind its verb
+-- The form of the images, by the arguments of a command and those of its verb.
 unfoldable pub IsForm : ArgMatches → Form → Type 0
 IsForm m form = AsksForm (word_found (words_of m) (codes "form")) (word_below (subcommand_rows_of m)) form
 
--- whether the option `--quiet` stands behind a verb
+-- Whether `--quiet` is given after a verb.
 abbrev pub is_quiet_below : Option (List ℕ × List Row) → Bool
 is_quiet_below None = false
 is_quiet_below (Some behind) = is_set (word_found behind.1 (codes "quiet"))
 
--- whether nothing is to be said, by the words behind a command and those behind its verb
+-- Whether `--quiet` is given after a command or after its verb.
 unfoldable pub is_quiet : ArgMatches → Bool
 is_quiet m = is_set (word_found (words_of m) (codes "quiet")) || is_quiet_below (subcommand_rows_of m)
 
--- all words
+-- All arguments.
 abbrev pub IsAsked : ArgMatches → Asked → Type 0
 IsAsked m asked = (command : List ℕ) × (below : ArgMatches) × IsCommand m command below
     × Asks command below asked.plan × IsForm below asked.form × (asked.is_quiet ≡ is_quiet below)

@@ -1,4 +1,4 @@
--- Which words are good: what a command line has to have, word by word.
+-- The valid arguments: what each argument of a command line must be.
 use Rattle.std.specs.Prelude.{◌≡◌, ◌≢◌, ◌≤◌, ⊤, ℕ, Bool, true, false, List, [], ◌∷◌, ◌++◌, Option, None, Some}
 use Rattle.std.specs.Prelude.{codes, is_some, if◌then◌else◌}
 use Rattle.std.specs.Bool.{MatchBool}
@@ -12,109 +12,109 @@ use Rattle.pm_plan.specs.Forms.{IsFormWord}
 use Rattle.pm_plan.specs.declared.words.WordsError.{WordsError}
 use Rattle.pm_plan.specs.declared.words.WordsError.TheVariants as errors
 
--- there is a word, though it may be empty
+-- There is an argument. It may be empty.
 abbrev pub IsThere : Option (List ℕ) → Type 0
 IsThere None = ⊥
 IsThere (Some word) = ⊤
 
--- there is a word, and it is not empty
+-- There is an argument, and it is not empty.
 abbrev pub IsGiven : Option (List ℕ) → Type 0
 IsGiven None = ⊥
 IsGiven (Some word) = word ≢ []
 
--- there is no word, or it is not empty
+-- There is no argument, or it is not empty.
 abbrev pub IsOptional : Option (List ℕ) → Type 0
 IsOptional None = ⊤
 IsOptional (Some word) = word ≢ []
 
--- there is a word, and it is that of a kind of files, or a number up to 15
+-- There is an argument, and it is the name of a kind of file or a number up to 15.
 abbrev pub IsKindWord : Option (List ℕ) → Type 0
 IsKindWord word = (kind : ℕ) × (kind ≤ 15) × IsKind word kind
 
--- there is no word where another option is given
+-- There is no argument if another option is given.
 abbrev pub IsAlone : Bool → Option (List ℕ) → Type 0
 IsAlone true None = ⊤
 IsAlone true (Some word) = ⊥
 IsAlone false word = ⊤
 
--- there is no word, or there is another too
+-- There is no argument, or there is another one too.
 abbrev pub IsBeside : Option (List ℕ) → Option (List ℕ) → Type 0
 IsBeside None other = ⊤
 IsBeside (Some word) None = ⊥
 IsBeside (Some word) (Some other) = ⊤
 
--- of two options without a value one at most is given
+-- At most one of two options without a value is given.
 abbrev pub IsNotBoth : Bool → Bool → Type 0
 IsNotBoth true other = other ≡ false
 IsNotBoth false other = ⊤
 
--- there is a name, or else the number of a slot
+-- Either a name or the number of a slot is given.
 abbrev pub IsNameOrSlot : Option (List ℕ) → Option (List ℕ) → Type 0
 IsNameOrSlot (Some name) None = ⊤
 IsNameOrSlot None (Some slot) = IsNumberWord 65535 (Some slot)
 IsNameOrSlot (Some name) (Some slot) = ⊥
 IsNameOrSlot None None = ⊥
 
--- there is a name, or else the number of a slot, or else a pattern
+-- Exactly one of a name, the number of a slot and a pattern is given.
 abbrev pub IsNameSlotOrPattern : Option (List ℕ) → Option (List ℕ) → Option (List ℕ) → Type 0
 IsNameSlotOrPattern name slot None = IsNameOrSlot name slot
 IsNameSlotOrPattern None None (Some pattern) = ⊤
 IsNameSlotOrPattern None (Some slot) (Some pattern) = ⊥
 IsNameSlotOrPattern (Some name) slot (Some pattern) = ⊥
 
--- where an option without a value is given, there is this word
+-- If an option without a value is given, this argument is given too.
 abbrev pub IsWith : Bool → Option (List ℕ) → Type 0
 IsWith true other = IsThere other
 IsWith false other = ⊤
 
--- there is no word for a slot, or it is a number up to 65,535
+-- There is no argument for a slot, or it is a number up to 65,535.
 abbrev pub IsSlotWord : Option (List ℕ) → Type 0
 IsSlotWord None = ⊤
 IsSlotWord (Some word) = IsNumberUpTo 65535 word
 
--- the words for a segment and for a procedure of it, each of which may be missing, but the first not beside the second:
--- numbers up to 255
+-- The arguments for a segment and for a procedure of it are numbers up to 255. Both may be missing, but a procedure
+-- requires a segment.
 abbrev pub IsCodeWords : Option (List ℕ) → Option (List ℕ) → Type 0
 IsCodeWords None None = ⊤
 IsCodeWords None (Some procedure) = ⊥
 IsCodeWords (Some segment) None = IsNumberUpTo 255 segment
 IsCodeWords (Some segment) (Some procedure) = IsNumberUpTo 255 segment × IsNumberUpTo 255 procedure
 
--- what is needed of a word
+-- The requirement for an argument.
 pub data Need : Type 0 where
-  -- it is there, though it may be empty
+  -- It is given. It may be empty.
   Word : Need
-  -- an option that is there, with a value
+  -- An option that is given, with a value.
   Given : Need
-  -- an option that may be missing, and else has a value
+  -- An option that may be missing. Otherwise it has a value.
   Optional : Need
-  -- a kind of files
+  -- A kind of file.
   Kind : Need
-  -- a kind of files, in whose place the word of this id is one where it is missing
+  -- A kind of file. If the argument is missing, the argument under this id is a kind instead.
   KindOr : List ℕ → Need
-  -- decimal digits that write a number up to this one
+  -- Decimal digits that write a number up to this one.
   Number : ℕ → Need
-  -- the limit of `raw`, which may be missing
+  -- The limit of `raw`. It may be missing.
   Limit : Need
-  -- the limit of a run or a trace, which may be missing, and is so beside `--unlimited`
+  -- The limit of a run or a trace. It may be missing. With `--unlimited` it must be missing.
   RunLimit : Need
-  -- an option that is missing beside `--save`
+  -- An option that must be missing with `--save`.
   NotSaved : Need
-  -- an option without a value that is not given beside this one
+  -- An option without a value that must be missing if this one is given.
   NotBeside : List ℕ → Need
-  -- an option that is missing where the word of this id is
+  -- An option that must be missing if the argument under this id is missing.
   Beside : List ℕ → Need
-  -- a name, which is missing exactly where `--slot` has a number up to 65,535
+  -- A name. It must be missing if and only if `--slot` has a number up to 65,535.
   NameOrSlot : Need
-  -- the same, which is missing too where `--matching` has a pattern; of the three there is one
+  -- A name, the number of a slot after `--slot`, or a pattern after `--matching`: exactly one of them.
   NameSlotOrPattern : Need
-  -- an option that is missing where this one without a value is given
+  -- An option that must be missing if this option without a value is given.
   Without : List ℕ → Need
-  -- an option without a value that stands beside this one alone
+  -- An option without a value that requires this argument.
   With : List ℕ → Need
-  -- the number of a slot up to 65,535, which may be missing
+  -- The number of a slot up to 65,535. It may be missing.
   Slot : Need
-  -- the number of a segment, which may be missing, but not beside that of a procedure
+  -- The number of a segment. It may be missing, but not if there is the number of a procedure.
   Segment : Need
 
 abbrev pub Meets : List Row → Need → Option (List ℕ) → Type 0
@@ -137,65 +137,65 @@ Meets rows (With other) word = IsWith (is_set word) (word_found rows other)
 Meets rows Slot word = IsSlotWord word
 Meets rows Segment word = IsCodeWords word (word_found rows (codes "procedure"))
 
--- each word is what is needed of it
+-- Each argument meets its requirement.
 abbrev pub MeetEach : List Row → List (List ℕ × Need) → Type 0
 MeetEach rows [] = ⊤
 MeetEach rows (need ∷ needs) = Meets rows need.1 (word_found rows need.0) × MeetEach rows needs
 
--- there is something that is needed, and each word is that
+-- There are requirements, and each argument meets its own.
 abbrev pub MeetAll : List Row → Option (List (List ℕ × Need)) → Type 0
 MeetAll rows None = ⊥
 MeetAll rows (Some needs) = MeetEach rows needs
 
--- what is needed for the disks on the other units than 4
+-- The requirements for the disks on the units other than 4.
 abbrev pub others_needs : List (List ℕ × Need)
 others_needs = (codes "d5", Optional) ∷ (codes "d9", Optional) ∷ (codes "d10", Optional) ∷ (codes "d11", Optional)
     ∷ (codes "d12", Optional) ∷ []
 
--- what run, trace and debug need: the disk of unit 4, and the program's name
+-- The requirements of run, trace and debug: the disk of unit 4 and the program's name.
 abbrev pub program_needs : List (List ℕ × Need)
 program_needs = (codes "d4", Given) ∷ (codes "d5", Optional) ∷ (codes "d9", Optional) ∷ (codes "d10", Optional)
     ∷ (codes "d11", Optional) ∷ (codes "d12", Optional) ∷ (codes "NAME", Word) ∷ (codes "limit", RunLimit)
     ∷ (codes "system", Optional) ∷ []
 
--- what run needs beside these
+-- The further requirements of run.
 abbrev pub choices_needs : List (List ℕ × Need)
 choices_needs = (codes "system", NotSaved) ∷ (codes "save-all", NotBeside (codes "save"))
     ∷ (codes "printer", Optional) ∷ []
 
--- what debug needs
+-- The requirements of debug.
 abbrev pub debug_needs : List (List ℕ × Need)
 debug_needs = (codes "input", Optional) ∷ program_needs
 
--- what raw and trace need beside their limit and their program
+-- The requirements of raw and trace for the selection of lines.
 abbrev pub selection_needs : List (List ℕ × Need)
 selection_needs = (codes "from", Limit) ∷ (codes "segment", Segment) ∷ []
 
--- what trace needs
+-- The requirements of trace.
 abbrev pub trace_needs : List (List ℕ × Need)
 trace_needs = (codes "output", Optional) ∷ (selection_needs ++ program_needs)
 
--- what asm needs
+-- The requirements of asm for its output.
 abbrev pub asm_needs : List (List ℕ × Need)
 asm_needs = (codes "all", NotBeside (codes "list")) ∷ (codes "symbols", NotBeside (codes "list"))
     ∷ (codes "symbols", NotBeside (codes "all")) ∷ []
 
--- what dis needs
+-- The requirements of dis for its output.
 abbrev pub dis_needs : List (List ℕ × Need)
 dis_needs = (codes "list", NotBeside (codes "names")) ∷ (codes "statements", NotBeside (codes "names"))
     ∷ (codes "statements", NotBeside (codes "list")) ∷ (codes "indent", NotBeside (codes "names"))
     ∷ (codes "indent", NotBeside (codes "list")) ∷ (codes "blocks", NotBeside (codes "names"))
     ∷ (codes "blocks", NotBeside (codes "list")) ∷ (codes "blocks", NotBeside (codes "indent")) ∷ []
 
--- what asm and dis need of what they read
+-- The requirements of asm and dis for their input.
 abbrev pub input_needs : List (List ℕ × Need)
 input_needs = (codes "image", Optional) ∷ (codes "FILE", Optional) ∷ (codes "image", Beside (codes "FILE")) ∷ []
 
--- what asm and dis need beside what they are to write
+-- The requirements of asm and dis for their files.
 abbrev pub text_files_needs : List (List ℕ × Need)
 text_files_needs = input_needs ++ ((codes "output", Optional) ∷ [])
 
--- what the commands need but `files`; what is no command has none
+-- The requirements of each command except `files`. `None` if there is no such command.
 abbrev pub command_needs : List ℕ → Option (List (List ℕ × Need))
 command_needs command =
     if bytes_eq command (codes "raw") then Some ((codes "limit", Limit) ∷ selection_needs)
@@ -205,7 +205,7 @@ command_needs command =
     else (if bytes_eq command (codes "asm") then Some (asm_needs ++ text_files_needs)
     else (if bytes_eq command (codes "dis") then Some (dis_needs ++ text_files_needs) else None)))))
 
--- what the verbs of files need; what is no verb has none
+-- The requirements of each verb of `files`. `None` if there is no such verb.
 abbrev pub verb_needs : List ℕ → Option (List (List ℕ × Need))
 verb_needs verb =
     if bytes_eq verb (codes "list") then Some ((codes "matching", Without (codes "all")) ∷ [])
@@ -230,52 +230,52 @@ verb_needs verb =
     else (if bytes_eq verb (codes "copy") then Some ((codes "NAME", Word) ∷ (codes "slot", Slot) ∷ [])
     else None))))))))))))))))
 
--- the path of an image stands before the verb or behind it, not both, and is not empty
+-- The path of an image is given before the verb or after it, not at both positions, and is not empty.
 abbrev pub IsOnePath : Option (List ℕ) → Option (List ℕ) → Type 0
 IsOnePath (Some before) None = before ≢ []
 IsOnePath None (Some behind) = behind ≢ []
 IsOnePath None None = ⊥
 IsOnePath (Some before) (Some behind) = ⊥
 
--- the words before a verb, the verb and the words behind it
+-- The arguments before a verb, the verb and the arguments after it are valid.
 abbrev pub AreGoodBefore : List Row → Option (List ℕ × List Row) → Type 0
 AreGoodBefore rows None = ⊥
 AreGoodBefore rows (Some behind) =
     IsOnePath (word_found rows (codes "image")) (word_found behind.1 (codes "image"))
     × IsOptional (word_found behind.1 (codes "output")) × MeetAll behind.1 (verb_needs behind.0)
 
--- whether a verb is salvage
+-- Whether a verb is salvage.
 abbrev pub is_salvage : Option (List ℕ × List Row) → Bool
 is_salvage None = false
 is_salvage (Some behind) = bytes_eq behind.0 (codes "salvage")
 
--- the words before that verb, the verb, and the words behind it, which name the new volume
+-- The arguments before `salvage`, the verb and the arguments after it are valid. They specify the new volume.
 abbrev pub IsGoodSalvage : List Row → Option (List ℕ × List Row) → Type 0
 IsGoodSalvage rows None = ⊥
 IsGoodSalvage rows (Some behind) = (behind.0 ≡ codes "salvage")
     × IsOnePath (word_found rows (codes "image")) (word_found behind.1 (codes "image"))
     × IsThere (word_found behind.1 (codes "NEWPATH"))
 
--- the words of files, by its verb
+-- The arguments of `files` are valid for its verb.
 abbrev pub AreGoodFiles : List Row → Option (List ℕ × List Row) → Type 0
 AreGoodFiles rows behind = MatchBool (is_salvage behind) (IsGoodSalvage rows behind) (AreGoodBefore rows behind)
 
--- the words of a command are good
+-- The arguments of a command are valid.
 abbrev pub AreGood : List ℕ → ArgMatches → Type 0
 AreGood command m = MatchBool (bytes_eq command (codes "files"))
     (AreGoodFiles (words_of m) (subcommand_rows_of m)) (MeetAll (words_of m) (command_needs command))
 
--- the word for the form of the images is good
+-- The argument for the form of the images is valid.
 unfoldable pub IsGoodForm : ArgMatches → Type 0
 IsGoodForm m = IsFormWord (word_found (words_of m) (codes "form")) (word_below (subcommand_rows_of m))
 
--- all words are good: whatever command is found among them, its words are, and that for the form is
+-- All arguments are valid: for each command that is found, its arguments and its form are valid.
 abbrev pub AreAllGood : ArgMatches → Type 0
 AreAllGood m = (is_some (subcommand_rows_of m) ≡ true)
     × ((command : List ℕ) (below : ArgMatches) → IsCommand m command below → AreGood command below)
     × ((command : List ℕ) (below : ArgMatches) → IsCommand m command below → IsGoodForm below)
 
--- a word is refused by the text that says what it has to be
+-- The error is `Wrong`, whose text states the valid arguments.
 abbrev pub IsWrong : WordsError → Type 0
 IsWrong (errors.Wrong text) = ⊤
 IsWrong error = ⊥

@@ -2,32 +2,32 @@
 use clap::{Arg, ArgAction, Command};
 use std::alloc::{AllocError, Global};
 
-/// The version that `--version` names.
+/// The version that `--version` prints.
 const VERSION: &str = "0.1";
 
-/// How a word stands among the words.
+/// The form of an argument.
 #[derive(Clone, Copy)]
 enum Form {
-    /// It has to be there, and is known by its place.
+    /// A required argument, found by its position.
     Word,
-    /// It is the value of an option that has to be there; the value's name.
+    /// An option that is required. The name of its value.
     Needed(&'static str),
-    /// It is the value of an option that may be missing; the value's name.
+    /// An optional option. The name of its value.
     Free(&'static str),
-    /// It is an option without a value.
+    /// An option without a value.
     Flag,
-    /// It is known by its place, and has to be there where this option is not.
+    /// An argument found by its position. It is required unless this option is given.
     Unless(&'static str),
-    /// It is known by its place, and may be missing.
+    /// An optional argument, found by its position.
     Maybe,
-    /// It is the value of an option that may be missing and has a letter too: the letter, and the value's name.
+    /// An optional option that also has a letter. The letter and the name of its value.
     Lettered(char, &'static str),
 }
 
-/// A word: its id, how it stands, and what it says.
+/// An argument: its id, its form and its help text.
 type WordRow = (&'static str, Form, &'static str);
 
-/// A command, or a verb of `files`: its name, what it does, and its words.
+/// A command or a verb of `files`: its name, its help text and its arguments.
 type CommandRow = (&'static str, &'static str, &'static [WordRow]);
 
 const LIMIT: WordRow = (
@@ -116,10 +116,10 @@ const PRINTER: WordRow = (
     "Write the printer's output to this file, replacing its contents",
 );
 
-/// The option `--image`, which stands before a verb or behind it.
+/// The option `--image`. It is accepted before and after a verb.
 const IMAGE: WordRow = ("image", Form::Free("PATH"), "Disk image to work on");
 
-/// The option `--form`, which stands there too.
+/// The option `--form`. It is accepted before and after a verb.
 const FORM: WordRow = (
     "form",
     Form::Free("FORM"),
@@ -128,7 +128,7 @@ const FORM: WordRow = (
 
 const FILE: WordRow = ("NAME", Form::Word, "File name, in upper or lower case");
 
-/// The file's name, or else its slot.
+/// The name of the file. Required unless `--slot` is given.
 const FILE_OR_SLOT: WordRow = (
     "NAME",
     Form::Unless("slot"),
@@ -454,17 +454,17 @@ const BLOCKS: WordRow = (
     "Print statements in blocks: IF, ELSE, WHILE, REPEAT, CASE; cannot be used with --names, --list or --indent",
 );
 
-/// The file that is read.
+/// The input file.
 const READ: WordRow = (
     "FILE",
     Form::Maybe,
     "Read this file instead of standard input; with --image, a file on that volume",
 );
 
-/// The image that has the file that is read.
+/// The image that contains the input file.
 const ON_IMAGE: WordRow = ("image", Form::Free("PATH"), "Disk image that contains FILE");
 
-/// The file that is written.
+/// The output file.
 const WRITTEN: WordRow = (
     "output",
     Form::Lettered('o', "PATH"),
@@ -533,7 +533,7 @@ fn args<'a>(alloc: Global, rows: &[WordRow]) -> Result<Vec<Arg<'a>>, AllocError>
     Ok(args)
 }
 
-/// The option that each command has.
+/// An option of each command.
 const QUIET: WordRow = (
     "quiet",
     Form::Flag,
@@ -547,7 +547,7 @@ fn command_of<'a>(alloc: Global, row: CommandRow) -> Result<Command<'a>, AllocEr
     Command::new(alloc, name).about(about).args(words)
 }
 
-/// Adds the commands of these rows.
+/// Adds the commands of these table rows.
 fn add<'a>(
     alloc: Global,
     commands: &mut Vec<Command<'a>>,
@@ -569,7 +569,7 @@ fn add_files<'a>(alloc: Global, commands: &mut Vec<Command<'a>>) -> Result<(), A
     Ok(commands.push(files)?)
 }
 
-/// Adds `debug`, whose limit has no effect.
+/// Adds `debug`. Its option `--limit` has no effect.
 fn add_debug<'a>(alloc: Global, commands: &mut Vec<Command<'a>>) -> Result<(), AllocError> {
     let debug = command_of(alloc, DEBUG)?.after_help(DEBUG_HELP);
     Ok(commands.push(debug)?)
@@ -585,7 +585,7 @@ fn commands<'a>(alloc: Global) -> Result<Vec<Command<'a>>, AllocError> {
     Ok(commands)
 }
 
-/// All commands, as clap is told of them.
+/// Returns all commands for clap.
 pub fn all_commands<'a>(alloc: Global) -> Result<Command<'a>, AllocError> {
     let commands = commands(alloc)?;
     Command::new(alloc, "pmach")

@@ -1,4 +1,4 @@
-//! The words of `files`.
+//! The arguments of `files`.
 ghost use Rattle.std.specs.Prelude.{◌≡◌, ◌≤◌, ◌↔◌, ℕ, Err, None, Some, IfErr, IfOk, IfSome, IsOk, IsOkUnless, IsSome};
 ghost use Rattle.std.specs.Prelude.{SomeIff, codes, is_some, option_map, string_bytes, ◌≢◌};
 ghost use Rattle.std.specs.Str.Parse.{digits_value};
@@ -15,41 +15,41 @@ use clap::ArgMatches;
 use pm_filer::kind_word;
 use std::alloc::Global;
 
-/// What is wrong with the word for a slot.
+/// The message for an invalid slot.
 const SLOT: &str = "invalid --slot: it must be a decimal number, at most 65535";
 
-/// A command on the image that a file has, or a new image for it.
+/// A verb of `files` with its image file and its output.
 #[derive(Drop)]
 pub struct FilesPlan {
-    /// The file's path.
+    /// The path of the image file.
     pub path: String,
-    /// What is to be done.
+    /// The verb.
     pub verb: Verb,
-    /// The path of the file that gets what is written, in the place of standard output.
+    /// The path of the file that gets the output instead of standard output. `None` for standard output.
     pub output: Option<String>,
 }
 
-/// The files of an image that are saved into a new volume.
+/// The arguments of `salvage`: the files of an image are saved in a new volume.
 #[derive(Drop)]
 pub struct SalvagePlan {
     /// The path of the image.
     pub path: String,
     /// The path of the new volume.
     pub target: String,
-    /// Whether it goes by the second copy of the directory.
+    /// Whether the second copy of the directory is used.
     pub second: bool,
 }
 
-/// What is to be done with an image.
+/// A verb of `files`.
 #[derive(Drop)]
 pub enum Verb {
-    /// A command on the volume that the image is.
+    /// A command on the volume in the image.
     Command(pm_filer::FileCommand),
-    /// A new volume of this name and so many blocks.
+    /// A new volume with this name and this number of blocks.
     New(String, u16),
-    /// The image with its first copy of the directory repaired.
+    /// Repairs the first copy of the image's directory.
     Repair,
-    /// What is wrong with the image.
+    /// Reports the faults of the image.
     Check,
 }
 
@@ -74,7 +74,8 @@ impl Verb {
     }
 }
 
-/// The kind that a word names, from 0 to 15. `None` where it names none.
+/// Returns the number of a kind of file, from 0 to 15. `text` is the name of the kind or its decimal number. `None` if
+/// it is neither.
 fn kind(text: &str) -> Option<u8>
     ensures value { IfSome result (λ kind. IsKind (Some text.now) kind) }
     ensures accepted { IsSome result ↔ ((kind : ℕ) × (kind ≤ 15) × IsKind (Some text.now) kind) }
@@ -88,14 +89,14 @@ fn kind(text: &str) -> Option<u8>
     if kind < 16 { Some(kind as u8) } else { None }
 }
 
-/// The number that a word is, of blocks or of a slot. `None` where it is no number up to 65,535.
+/// Returns the decimal number of blocks or of a slot. `None` if `text` is no number up to 65,535.
 fn short_number(text: &str) -> Option<u16>
     ensures exact { SomeIff result (IsNumberUpTo 65535 text.now) (digits_value 10 text.now) }
 {
     u16::try_from(number(text)?).ok()
 }
 
-/// A word that the command line has to have.
+/// Returns a copy of a required argument. `NoCommand` if it is missing, and `NoMemory` if memory is exhausted.
 pub(crate) fn word(alloc: Global, matches: &ArgMatches<'_>, id: &str) -> Result<String, WordsError>
     ensures value { IfOk result (λ text. word_found (words_of matches.now) id.now ≡ Some (string_bytes text)) }
     ensures taken { IsThere (word_found (words_of matches.now) id.now) → IsOkUnless result NoMemory }
@@ -103,7 +104,7 @@ pub(crate) fn word(alloc: Global, matches: &ArgMatches<'_>, id: &str) -> Result<
     Ok(String::from_str(alloc, needed(matches, id)?)?)
 }
 
-/// A part of a date. Refused where it is no number up to 255.
+/// Returns a part of a date. `Wrong` if it is no decimal number up to 255, and `NoCommand` if it is missing.
 fn part(matches: &ArgMatches<'_>, id: &str) -> Result<u8, WordsError>
     ensures value { IfOk result (λ part. IsSpelled (word_found (words_of matches.now) id.now) part) }
     ensures accepted { IsOk result ↔ IsNumberWord 255 (word_found (words_of matches.now) id.now) }
@@ -115,7 +116,7 @@ fn part(matches: &ArgMatches<'_>, id: &str) -> Result<u8, WordsError>
     }
 }
 
-/// The kind of a file. Refused where it is none.
+/// Returns the kind of a file. `Wrong` if the argument names none, and `NoCommand` if it is missing.
 fn kind_of(matches: &ArgMatches<'_>, id: &str) -> Result<u8, WordsError>
     ensures value { IfOk result (λ kind. IsKind (word_found (words_of matches.now) id.now) kind) }
     ensures accepted { IsOk result ↔ IsKindWord (word_found (words_of matches.now) id.now) }
@@ -126,7 +127,8 @@ fn kind_of(matches: &ArgMatches<'_>, id: &str) -> Result<u8, WordsError>
     ))
 }
 
-/// The number of a new volume's blocks. Refused where it is no number up to 65,535.
+/// Returns the number of blocks of a new volume. `Wrong` if it is no decimal number up to 65,535, and `NoCommand` if it
+/// is missing.
 fn blocks_of(matches: &ArgMatches<'_>) -> Result<u16, WordsError>
     ensures value { IfOk result (λ blocks. IsSpelled (word_found (words_of matches.now) (codes "BLOCKS")) blocks) }
     ensures accepted { IsOk result ↔ IsNumberWord 65535 (word_found (words_of matches.now) (codes "BLOCKS")) }
@@ -157,17 +159,23 @@ fn new(alloc: Global, matches: &ArgMatches<'_>) -> Result<Verb, WordsError>
     Ok(Verb::New(name, blocks))
 }
 
-/// A name, or the slot that stands in its place.
+/// A file, selected by its name or by its slot.
 #[derive(Drop)]
 enum Chosen {
-    /// This name.
+    /// The file with this name.
     Named(String),
     /// The file in this slot.
     InSlot(u16),
 }
 
-/// The name that is found for an id, or the slot. Refused where the words have both or neither, or where the slot is no
-/// number up to 65,535.
+/// Returns the name under `id`, or the slot.
+///
+/// # Errors
+///
+/// - A name and a slot are given: `Wrong`.
+/// - The slot is no decimal number up to 65,535: `Wrong`.
+/// - Neither is given: `NoCommand`.
+/// - Out of memory: `NoMemory`.
 fn name_or_slot(alloc: Global, matches: &ArgMatches<'_>, id: &str) -> Result<Chosen, WordsError>
     ensures named { IfOk result (λ chosen. AsksEither id.now (words_of matches.now) chosen) }
     ensures good { IsOk result → IsNameOrSlot (word_found (words_of matches.now) id.now)
@@ -210,7 +218,7 @@ fn get_text(alloc: Global, matches: &ArgMatches<'_>) -> Result<Verb, WordsError>
     }))
 }
 
-/// The files are listed: all, all with what else the directory says, or those that fit a pattern.
+/// Lists all files, all with further details of the directory, or those that match a pattern.
 fn list(alloc: Global, matches: &ArgMatches<'_>) -> Result<Verb, WordsError>
     ensures asked { IfOk result (λ verb. AsksVerb (codes "list") (words_of matches.now) verb) }
     ensures good { IsOk result → MeetAll (words_of matches.now) (verb_needs (codes "list")) }
@@ -228,7 +236,7 @@ fn list(alloc: Global, matches: &ArgMatches<'_>) -> Result<Verb, WordsError>
     }
 }
 
-/// The files that fit a pattern are removed, or listed in place of that.
+/// Removes the files that match a pattern. With `--dry-run` it lists them instead.
 fn remove_fitting(
     alloc: Global,
     matches: &ArgMatches<'_>,
@@ -270,7 +278,7 @@ fn remove(alloc: Global, matches: &ArgMatches<'_>) -> Result<Verb, WordsError>
     }))
 }
 
-/// Beside a slot the one name is the new one.
+/// With `--slot`, the only name is the new name.
 fn change(alloc: Global, matches: &ArgMatches<'_>) -> Result<Verb, WordsError>
     ensures asked { IfOk result (λ verb. AsksVerb (codes "change") (words_of matches.now) verb) }
     ensures good { IsOk result → MeetAll (words_of matches.now) (verb_needs (codes "change")) }
@@ -284,7 +292,7 @@ fn change(alloc: Global, matches: &ArgMatches<'_>) -> Result<Verb, WordsError>
     }))
 }
 
-/// Beside a slot the one word is the kind.
+/// With `--slot`, the only argument is the kind.
 fn set_kind(alloc: Global, matches: &ArgMatches<'_>) -> Result<Verb, WordsError>
     ensures asked { IfOk result (λ verb. AsksVerb (codes "kind") (words_of matches.now) verb) }
     ensures good { IsOk result → MeetAll (words_of matches.now) (verb_needs (codes "kind")) }
@@ -298,7 +306,7 @@ fn set_kind(alloc: Global, matches: &ArgMatches<'_>) -> Result<Verb, WordsError>
     }))
 }
 
-/// The slot that the words name, if they do. Refused where it is no number up to 65,535.
+/// Returns the slot if it is given. `Wrong` if it is no decimal number up to 65,535.
 fn slot_of(matches: &ArgMatches<'_>) -> Result<Option<u16>, WordsError>
     ensures value { IfOk result (λ slot. IsSlot (word_found (words_of matches.now) (codes "slot")) slot) }
     ensures accepted { IsOk result ↔ IsSlotWord (word_found (words_of matches.now) (codes "slot")) }
@@ -313,7 +321,7 @@ fn slot_of(matches: &ArgMatches<'_>) -> Result<Option<u16>, WordsError>
     }
 }
 
-/// The slot is one of the volume that standard input has.
+/// The slot selects a file of the volume that standard input contains.
 fn copy(alloc: Global, matches: &ArgMatches<'_>) -> Result<Verb, WordsError>
     ensures asked { IfOk result (λ verb. AsksVerb (codes "copy") (words_of matches.now) verb) }
     ensures good { IsOk result → MeetAll (words_of matches.now) (verb_needs (codes "copy")) }
@@ -357,8 +365,8 @@ fn verb_of(alloc: Global, verb: &str, words: &ArgMatches<'_>) -> Result<Verb, Wo
     Ok(Verb::Command(command))
 }
 
-/// The path of the image, which stands before the verb or behind it. Refused where it stands at neither place, or at
-/// both.
+/// Returns the path of the image, which is given before the verb or after it. `Wrong` if it is given at neither
+/// position, or at both.
 fn path_of(before: Option<String>, behind: Option<String>) -> Result<String, WordsError>
     ensures path { IfOk result (λ path. IsPath (option_map string_bytes before) (option_map string_bytes behind)
         (string_bytes path)) }
@@ -373,7 +381,17 @@ fn path_of(before: Option<String>, behind: Option<String>) -> Result<String, Wor
     }
 }
 
-/// What the words of `files` ask for.
+/// Returns the job that the arguments of `files` specify.
+///
+/// # Errors
+///
+/// - There is no verb: `NoCommand`.
+/// - The path after `--image` is empty: `NoValue`.
+/// - The image is given twice, or not at all: `Wrong`.
+/// - The path after `--output` is empty: `NoValue`.
+/// - The verb is unknown: `NoCommand`.
+/// - The arguments of the verb are invalid: as its function states.
+/// - Out of memory at any of these steps: `NoMemory`.
 pub fn files_plan(alloc: Global, matches: &ArgMatches<'_>) -> Result<FilesPlan, WordsError>
     ensures asked { IfOk result (λ plan. AsksFiles matches.now plan) }
     ensures good { IsOk result → AreGoodBefore (words_of matches.now) (subcommand_rows_of matches.now) }
@@ -391,7 +409,7 @@ pub fn files_plan(alloc: Global, matches: &ArgMatches<'_>) -> Result<FilesPlan, 
     Ok(FilesPlan { path, verb, output })
 }
 
-/// Whether the verb of `files` is `salvage`, which has words of its own.
+/// Whether the verb of `files` is `salvage`, which has arguments of its own.
 pub fn is_salvage(matches: &ArgMatches<'_>) -> bool
     ensures value { result ≡ is_salvage (subcommand_rows_of matches.now) }
 {
@@ -401,7 +419,15 @@ pub fn is_salvage(matches: &ArgMatches<'_>) -> bool
     }
 }
 
-/// What the words of `files` with the verb `salvage` ask for.
+/// Returns the job that the arguments of `files` with the verb `salvage` specify.
+///
+/// # Errors
+///
+/// - The verb is another one, or is missing: `NoCommand`.
+/// - The path after `--image` is empty: `NoValue`.
+/// - The image is given twice, or not at all: `Wrong`.
+/// - The path of the new volume is missing: `NoCommand`.
+/// - Out of memory: `NoMemory`.
 pub fn salvage_plan(alloc: Global, matches: &ArgMatches<'_>) -> Result<SalvagePlan, WordsError>
     ensures asked { IfOk result (λ plan. AsksSalvage matches.now plan) }
     ensures good { IsOk result → IsGoodSalvage (words_of matches.now) (subcommand_rows_of matches.now) }

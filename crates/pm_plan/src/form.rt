@@ -1,4 +1,4 @@
-//! The form of the images: how an image stands in its file.
+//! The form of the images: how an image is stored in its file.
 ghost use Rattle.std.specs.Prelude.{◌≡◌, IfErr, IfOk, IsOk, IsOkUnless, codes, option_map};
 ghost use Rattle.pm_plan.specs.Asked.{IsForm, word_below, word_found, words_of};
 ghost use Rattle.pm_plan.specs.Forms.{form_named};
@@ -10,21 +10,21 @@ use crate::words::{WordsError, found};
 use clap::ArgMatches;
 use pm_check::Order;
 
-/// What is wrong with the word for a form.
+/// The message for an invalid form.
 const FORM: &str =
     "invalid --form: it must be blocks, dos, swapped or 2mg; examples/form.sh converts images in other formats";
 
-/// How an image stands in its file.
+/// How an image is stored in its file.
 #[derive(Clone, Copy)]
 pub enum Form {
-    /// The image alone, its bytes in this order.
+    /// Only the image, with its bytes in this order.
     In(Order),
-    /// A file of kind .2mg, whose header says where the image stands, and in which order.
+    /// A .2mg file. Its header states the position and the order of the image.
     Headed,
 }
 
 impl Form {
-    /// The form of a word. `None` where it names none.
+    /// Returns the form with the name `word`. `None` if there is none.
     pub fn named(word: &str) -> Option<Form>
         ensures value { result ≡ form_named word.now }
     {
@@ -38,7 +38,7 @@ impl Form {
     }
 }
 
-/// The word for the form that stands behind a verb, if there is one.
+/// Returns the value of `--form` after a verb, if there is one.
 fn word_below<'a>(matches: &ArgMatches<'a>) -> Option<&'a str>
     ensures word { option_map (λ word. word.now) result ≡ word_below (subcommand_rows_of matches.now) }
 {
@@ -48,8 +48,12 @@ fn word_below<'a>(matches: &ArgMatches<'a>) -> Option<&'a str>
     }
 }
 
-/// The form of the images that the words of a command name: blocks in their order where they name none. Refused where
-/// the word is none, or stands before a verb and behind it too.
+/// Returns the form of the images that the arguments of a command specify. The default is blocks in order.
+///
+/// # Errors
+///
+/// - The form is unknown: `Wrong`.
+/// - The form is given both before and after a verb: `Wrong`.
 #[tactic(auto, unfolding(crate::specs::Asked::IsForm, crate::specs::Needed::IsGoodForm))]
 pub fn form_asked(matches: &ArgMatches<'_>) -> Result<Form, WordsError>
     ensures asked { IfOk result (λ form. IsForm matches.now form) }

@@ -1,5 +1,5 @@
-//! Files of which the images have another form: what is read of them is a volume in blocks, and what is written is
-//! brought back into the form.
+//! Files whose images have another form. An image is converted to a volume in blocks when it is read, and back to its
+//! form when it is written.
 ghost use Rattle.std.specs.Prelude.{◌≡◌, Bool, IfErr, IfOk, OnErr, OnOk, Some, option_map, string_bytes};
 ghost use Rattle.pm_files.specs.Held.{Puts};
 ghost use Rattle.pm_plan.specs.Forms.{volume_of};
@@ -11,24 +11,23 @@ use pm_files::{DiskFault, IMAGE_LIMIT, Store};
 use std::alloc::Global;
 use std::io::ErrorKind;
 
-/// The files of a store, whose images have this form. Two files are no images, and stay as they are: those whose paths
-/// are spelled as that of the system's code file and as that of the printer's file, or of what else a job reads and
-/// writes.
+/// The files of a store, whose images have this form. Two files are not converted: those at the paths `system` and
+/// `printer`. A path is one of these two only if it is spelled the same.
 #[derive(Drop)]
 pub struct InForm<S> {
-    /// The files as they are.
+    /// The unconverted files.
     pub store: S,
     /// The form of the images.
     pub form: Form,
-    /// The path of the system's code file.
+    /// The path of the system's code file, or of another file that is not converted.
     pub system: Option<String>,
-    /// The path of the printer's file.
+    /// The path of the printer's file, or of another file that is not converted.
     pub printer: Option<String>,
-    /// Where the memory for an image that is turned comes from.
+    /// The allocator for converted images.
     pub alloc: Global,
 }
 
-/// Whether a path is this one, if there is one.
+/// Whether `path` is spelled the same as `one`. `false` if there is no `one`.
 fn is_path(path: &str, one: &Option<String>) -> bool
     ensures value { result ≡ is_path path.now (option_map string_bytes one.now) }
 {
@@ -38,7 +37,8 @@ fn is_path(path: &str, one: &Option<String>) -> bool
     }
 }
 
-/// The form of a path's file.
+/// Returns the form of the file at `path`: blocks in order if it is the system's or the printer's file, and `form`
+/// otherwise.
 fn form_at(form: Form, system: &Option<String>, printer: &Option<String>, path: &str) -> Form
     ensures value { result ≡ form_at form (option_map string_bytes system.now)
         (option_map string_bytes printer.now) path.now }
@@ -50,7 +50,7 @@ fn form_at(form: Form, system: &Option<String>, printer: &Option<String>, path: 
     }
 }
 
-/// The volume in a file of a form, its blocks in their order.
+/// Returns the volume in a file of this form, with its blocks in order. The only error is `NoMemory`.
 #[tactic(auto, using(pm_check::proofs::OrderLaws::turned_blocks))]
 fn volume_of(alloc: Global, form: Form, file: Vec<u8>) -> Result<Vec<u8>, DiskFault>
     ensures value { IfOk result (λ volume. volume.items ≡ volume_of form file.items) }
@@ -63,7 +63,7 @@ fn volume_of(alloc: Global, form: Form, file: Vec<u8>) -> Result<Vec<u8>, DiskFa
     }
 }
 
-/// The bytes of a path's file, none where there is no file.
+/// Returns the bytes of the file at `path`, or none if there is no file. No file changes.
 #[tactic(auto, using(crate::proofs::InFormLaws::found_held, crate::proofs::InFormLaws::found_none))]
 fn found<S: Store>(store: &mut S, alloc: Global, path: &str) -> Result<Vec<u8>, DiskFault>
     ensures stays { S.files store.new ≡ S.files store.old }
@@ -76,8 +76,13 @@ fn found<S: Store>(store: &mut S, alloc: Global, path: &str) -> Result<Vec<u8>, 
     }
 }
 
-/// Writes a volume into a file of kind .2mg: what stands around the blocks of the file that is there stays where it has
-/// as many; else the file is a new one.
+/// Writes a volume into a .2mg file. The data around the blocks of the old file are unchanged if it has as many blocks.
+/// Otherwise a new file replaces it. On an error, no file has changed.
+///
+/// # Errors
+///
+/// - The volume has more than `IMAGE_LIMIT` bytes: `TooLong`.
+/// - The old file cannot be read, memory is exhausted, or the file cannot be written.
 #[tactic(auto, using(crate::proofs::InFormLaws::puts_volume))]
 fn put_headed<S: Store>(
     store: &mut S,

@@ -1,4 +1,4 @@
-//! The words of the command line, and what they ask for.
+//! The arguments of the command line, and the job that they specify.
 #![tactic(auto)]
 
 mod commands;

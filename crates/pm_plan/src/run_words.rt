@@ -1,4 +1,4 @@
-//! The words of `run`, `trace` and `debug`.
+//! The arguments of `run`, `trace` and `debug`.
 ghost use Rattle.std.specs.Prelude.{◌≡◌, ◌↔◌, IfErr, IfOk, IsOk, IsOkUnless, Some, codes, string_bytes};
 ghost use Rattle.pm_plan.specs.Asked.{AsksChoices, AsksProgram, IsRunLimit, IsRunLimitWord, IsSaving};
 ghost use Rattle.pm_plan.specs.Asked.{all_own, is_set, other_words, paths_in, word_found, words_of};
@@ -12,36 +12,41 @@ use clap::ArgMatches;
 use pm_jobs::Saving;
 use std::alloc::Global;
 
-/// The files that have the images of the disks on the units 5, 9, 10, 11 and 12, in their order.
+/// The paths of the image files for the units 5, 9, 10, 11 and 12, in this order. `None` for a unit without a disk.
 pub type Others = [Option<String>; 5];
 
 /// A program to be run.
 #[derive(Drop)]
 pub struct Program {
-    /// The file that has the image of the disk on unit 4.
+    /// The path of the image file for unit 4.
     pub disk: String,
-    /// Those of the other disks.
+    /// The paths of the image files for the other units.
     pub others: Others,
     /// The name of the code file on unit 4.
     pub name: String,
-    /// The most steps that are made: 18,446,744,073,709,551,615 where there is no limit.
+    /// The maximal number of steps: 18,446,744,073,709,551,615 if there is no limit.
     pub limit: u64,
-    /// The file whose slot 0 stands in for the program's empty slot 0.
+    /// The path of the code file whose segment in slot 0 replaces the program's empty slot 0.
     pub system: Option<String>,
 }
 
-/// What the words of `run` say beside the program.
+/// The options of `run` that do not specify the program.
 #[derive(Drop)]
 pub struct RunChoices {
-    /// Which images are written back.
+    /// The images that are saved.
     pub saving: Saving,
-    /// The path that gets the printer's bytes.
+    /// The path of the file for the printer's output.
     pub printer: Option<String>,
-    /// Whether Ctrl-D is a byte of the program's on a terminal.
+    /// Whether Ctrl-D is a byte of the program's input on a terminal.
     pub escape: bool,
 }
 
-/// The limit of a run. Refused where the word for it is no number up to 4,294,967,295, or stands beside `--unlimited`.
+/// Returns the maximal number of steps of a run.
+///
+/// # Errors
+///
+/// - `--unlimited` and `--limit` are both given: `Wrong`.
+/// - The value of `--limit` is no decimal number up to 4,294,967,295: `Wrong`.
 fn run_limit_of(matches: &ArgMatches<'_>) -> Result<u64, WordsError>
     ensures value { IfOk result (λ limit. IsRunLimit (is_set (word_found (words_of matches.now) (codes "unlimited")))
         (word_found (words_of matches.now) (codes "limit")) limit) }
@@ -58,7 +63,13 @@ fn run_limit_of(matches: &ArgMatches<'_>) -> Result<u64, WordsError>
     }
 }
 
-/// The file that has the image of the disk on unit 4.
+/// Returns the path of the image file for unit 4.
+///
+/// # Errors
+///
+/// - The path is empty: `NoValue`.
+/// - Memory is exhausted: `NoMemory`.
+/// - The path is missing: `NoCommand`.
 fn disk_of(alloc: Global, matches: &ArgMatches<'_>) -> Result<String, WordsError>
     ensures disk { IfOk result (λ disk. word_found (words_of matches.now) (codes "d4") ≡ Some (string_bytes disk)) }
     ensures good { IsOk result → IsGiven (word_found (words_of matches.now) (codes "d4")) }
@@ -67,7 +78,7 @@ fn disk_of(alloc: Global, matches: &ArgMatches<'_>) -> Result<String, WordsError
     given(alloc, matches, "d4")?.ok_or(WordsError::NoCommand)
 }
 
-/// The files that have the images of the disks on the other units.
+/// Returns the paths of the image files for the other units. `NoValue` if one of them is empty.
 fn others_of(alloc: Global, matches: &ArgMatches<'_>) -> Result<Others, WordsError>
     ensures asked { IfOk result (λ others. paths_in others ≡ other_words (words_of matches.now)) }
     ensures good { IsOk result → MeetEach (words_of matches.now) others_needs }
@@ -82,7 +93,11 @@ fn others_of(alloc: Global, matches: &ArgMatches<'_>) -> Result<Others, WordsErr
     ])
 }
 
-/// The program that the words name.
+/// Returns the program that the arguments specify.
+///
+/// # Errors
+///
+/// In this order: as `disk_of`, `others_of`, `word` (for `NAME`), `run_limit_of`, and `given` (for `--system`) state.
 pub fn program_of(alloc: Global, matches: &ArgMatches<'_>) -> Result<Program, WordsError>
     ensures asked { IfOk result (λ program. AsksProgram (words_of matches.now) program) }
     ensures good { IsOk result → MeetEach (words_of matches.now) program_needs }
@@ -102,7 +117,8 @@ pub fn program_of(alloc: Global, matches: &ArgMatches<'_>) -> Result<Program, Wo
     })
 }
 
-/// Which images `--save-all` writes back: beside `--system` not that of unit 4, which has the system's segment.
+/// Returns which images `--save-all` saves. With `--system`, the image of unit 4 is not saved, since it contains the
+/// system's segment.
 fn all_own(matches: &ArgMatches<'_>) -> Saving
     ensures value { result ≡ all_own (word_found (words_of matches.now) (codes "system")) }
 {
@@ -112,7 +128,7 @@ fn all_own(matches: &ArgMatches<'_>) -> Saving
     }
 }
 
-/// Which images are written back. Refused where `--save` and `--save-all` both are given.
+/// Returns which images are saved. `Wrong` if both `--save` and `--save-all` are given.
 fn saving_of(matches: &ArgMatches<'_>) -> Result<Saving, WordsError>
     ensures asked { IfOk result (λ saving. IsSaving (is_set (word_found (words_of matches.now) (codes "save")))
         (is_set (word_found (words_of matches.now) (codes "save-all")))
@@ -129,7 +145,7 @@ fn saving_of(matches: &ArgMatches<'_>) -> Result<Saving, WordsError>
     }
 }
 
-/// Refuses `--save` beside `--system`: the image that would be saved has the system's segment.
+/// Returns `Wrong` if both `--save` and `--system` are given: the saved image would contain the system's segment.
 fn unsaved(matches: &ArgMatches<'_>) -> Result<(), WordsError>
     ensures good { IsOk result ↔ IsAlone (is_set (word_found (words_of matches.now) (codes "save")))
         (word_found (words_of matches.now) (codes "system")) }
@@ -143,8 +159,14 @@ fn unsaved(matches: &ArgMatches<'_>) -> Result<(), WordsError>
     Ok(())
 }
 
-/// What the words of `run` say beside the program. Refused where they save an image with the system's segment, or say
-/// twice what is saved.
+/// Returns the options of `run` that do not specify the program.
+///
+/// # Errors
+///
+/// - `--save` and `--system` are both given: `Wrong`.
+/// - `--save` and `--save-all` are both given: `Wrong`.
+/// - The path of `--printer` is empty: `NoValue`.
+/// - Out of memory: `NoMemory`.
 pub fn choices_of(alloc: Global, matches: &ArgMatches<'_>) -> Result<RunChoices, WordsError>
     ensures asked { IfOk result (λ choices. AsksChoices (words_of matches.now) choices) }
     ensures good { IsOk result → MeetEach (words_of matches.now) choices_needs }

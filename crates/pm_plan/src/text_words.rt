@@ -8,28 +8,33 @@ use crate::words::{WordsError, given};
 use clap::ArgMatches;
 use std::alloc::Global;
 
-/// What `asm` and `dis` read.
+/// The input of `asm` and `dis`.
 #[derive(Drop)]
 pub enum TextInput {
     /// Standard input.
     Standard,
-    /// The file of a path.
+    /// The file at a path.
     File(String),
-    /// The file of a name on the volume whose image the file of a path has.
+    /// The file `name` on the volume whose image is at the path `image`.
     OnImage { image: String, name: String },
 }
 
-/// What `asm` and `dis` read, and where they write.
+/// The input and the output of `asm` and `dis`.
 #[derive(Drop)]
 pub struct TextFiles {
-    /// What is read.
+    /// The input.
     pub input: TextInput,
-    /// The path of the file that gets what is written, in the place of standard output.
+    /// The path of the file that gets the output instead of standard output. `None` for standard output.
     pub output: Option<String>,
 }
 
-/// What the words of `asm` or `dis` say is read. Refused where a word is empty, or an image has no name of a file
-/// beside it.
+/// Returns the input that the arguments of `asm` or `dis` specify.
+///
+/// # Errors
+///
+/// - A path or the file name is empty: `NoValue`.
+/// - `--image` is given without a file name: `Wrong`.
+/// - Out of memory: `NoMemory`.
 fn text_input(alloc: Global, matches: &ArgMatches<'_>) -> Result<TextInput, WordsError>
     ensures asked { IfOk result (AsksTextInput (words_of matches.now)) }
     ensures good { IsOk result → MeetEach (words_of matches.now) input_needs }
@@ -47,8 +52,14 @@ fn text_input(alloc: Global, matches: &ArgMatches<'_>) -> Result<TextInput, Word
     }
 }
 
-/// What the words of `asm` or `dis` say is read and written. Refused where a word is empty, or an image has no name of
-/// a file beside it.
+/// Returns the input and the output that the arguments of `asm` or `dis` specify.
+///
+/// # Errors
+///
+/// - The path of the image, or of the file, is empty: `NoValue`.
+/// - `--image` is given without a file name: `Wrong`.
+/// - The path after `--output` is empty: `NoValue`.
+/// - Out of memory at any of these steps: `NoMemory`.
 pub fn text_files(alloc: Global, matches: &ArgMatches<'_>) -> Result<TextFiles, WordsError>
     ensures asked { IfOk result (λ files. AsksTextFiles (words_of matches.now) files) }
     ensures good { IsOk result → MeetEach (words_of matches.now) text_files_needs }

@@ -1,4 +1,4 @@
-//! The words of `raw` and `trace` that select lines.
+//! The arguments of `raw` and `trace` that select lines.
 ghost use Rattle.std.specs.Prelude.{◌↔◌, IfErr, IfOk, IfSome, IsOk, IsSome, SomeIff, codes, option_map};
 ghost use Rattle.std.specs.Str.Parse.{digits_value};
 ghost use Rattle.pm_plan.specs.Asked.{AsksSelection, IsCode, IsFirst, IsLimitWord, IsNumberUpTo, word_found, words_of};
@@ -8,14 +8,15 @@ use crate::words::{WordsError, flag, found, number};
 use clap::ArgMatches;
 use pm_jobs::{Code, Selection};
 
-/// The number of a segment or a procedure. `None` where a word is no number up to 255.
+/// Returns the number of a segment or a procedure. `None` if `text` is no decimal number up to 255.
 fn small(text: &str) -> Option<u8>
     ensures exact { SomeIff result (IsNumberUpTo 255 text.now) (digits_value 10 text.now) }
 {
     u8::try_from(number(text)?).ok()
 }
 
-/// The first step whose line is shown. Refused where there is a word for it that is no number up to 4,294,967,295.
+/// Returns the first step whose line is shown, 0 by default. `Wrong` if `--from` is no decimal number up to
+/// 4,294,967,295.
 fn first_of(matches: &ArgMatches<'_>) -> Result<u32, WordsError>
     ensures value { IfOk result (λ first. IsFirst (word_found (words_of matches.now) (codes "from")) first) }
     ensures accepted { IsOk result ↔ IsLimitWord (word_found (words_of matches.now) (codes "from")) }
@@ -29,8 +30,8 @@ fn first_of(matches: &ArgMatches<'_>) -> Result<u32, WordsError>
     }
 }
 
-/// The code that is asked for by the words for a segment and for a procedure. `None` where one of them is no number up
-/// to 255, or there is a procedure without a segment.
+/// Returns the code that the arguments for a segment and a procedure select. `None` if one of them is no decimal number
+/// up to 255, or if there is a procedure without a segment.
 fn code_by(segment: Option<&str>, procedure: Option<&str>) -> Option<Code>
     ensures value { IfSome result (λ code. IsCode (option_map (λ word. word.now) segment.entry)
         (option_map (λ word. word.now) procedure.entry) code) }
@@ -50,7 +51,7 @@ fn code_by(segment: Option<&str>, procedure: Option<&str>) -> Option<Code>
     }
 }
 
-/// The code in which the steps stand whose lines are shown.
+/// Returns the code whose steps are shown. `Wrong` if the arguments select none, as `code_by` states.
 fn code_of(matches: &ArgMatches<'_>) -> Result<Code, WordsError>
     ensures value { IfOk result (λ code. IsCode (word_found (words_of matches.now) (codes "segment"))
         (word_found (words_of matches.now) (codes "procedure")) code) }
@@ -64,7 +65,12 @@ fn code_of(matches: &ArgMatches<'_>) -> Result<Code, WordsError>
     ))
 }
 
-/// Which lines of a trace the words select.
+/// Returns which lines of a trace the arguments select.
+///
+/// # Errors
+///
+/// - `--from` is invalid: `Wrong`.
+/// - `--segment` or `--procedure` is invalid: `Wrong`.
 pub fn selection_of(matches: &ArgMatches<'_>) -> Result<Selection, WordsError>
     ensures asked { IfOk result (λ selection. AsksSelection (words_of matches.now) selection) }
     ensures accepted { IsOk result ↔ MeetEach (words_of matches.now) selection_needs }

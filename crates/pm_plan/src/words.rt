@@ -1,4 +1,4 @@
-//! The words of the command line.
+//! The arguments of the command line.
 ghost use Rattle.std.specs.Prelude.{◌≡◌, ◌↔◌, Err, IfErr, IfOk, IsOk, IsOkUnless, None, Some, SomeIff, [], false};
 ghost use Rattle.std.specs.Prelude.{option_map, string_bytes, codes};
 ghost use Rattle.std.specs.Str.Parse.{digits_value};
@@ -22,68 +22,69 @@ use std::alloc::{AllocError, Global};
 use std::env::Args;
 use std::{fmt, io};
 
-/// The most steps of a run where no limit is given.
+/// The maximal number of steps of a run by default.
 const LIMIT: u32 = 10_000_000;
 
-/// What is wrong with the words of a date.
+/// The message for an invalid date.
 pub(crate) const DATE: &str = "invalid date: Y, M and D must be decimal numbers, at most 255";
 
-/// What the words ask for.
+/// A job that the arguments specify.
 #[derive(Drop)]
 pub enum Plan {
-    /// The program that standard input spells is run and traced, at most so many steps, of which the lines that are
-    /// selected are written.
+    /// Runs and traces the program in standard input for at most `limit` steps. `selection` selects the lines that are
+    /// written.
     Raw { limit: u32, selection: Selection },
-    /// What `asm` writes of the text that it reads.
+    /// Assembles a text: the output that is requested, and the files.
     Asm(AsmOutput, TextFiles),
-    /// What `dis` writes of the code file that it reads.
+    /// Disassembles a code file: the output that is requested, and the files.
     Dis(DisOutput, TextFiles),
-    /// A command on the image that a file has, or a new image for it.
+    /// Executes a verb of `files`.
     Files(FilesPlan),
-    /// A program to be run.
+    /// Runs a program.
     Run(Program, RunChoices),
-    /// A program whose trace is written, the lines that are selected, and the path of the file that gets it in the
-    /// place of standard output, where there is one.
+    /// Traces a program. The selection states which lines are written. The path names the file that gets the trace
+    /// instead of standard output, if there is one.
     Trace(Program, Selection, Option<String>),
-    /// A program that is debugged, and the path of the file whose bytes wait on its console, where there is one.
+    /// Debugs a program. The path names the file whose bytes are in the console's input queue at the start, if there is
+    /// one.
     Debug(Program, Option<String>),
-    /// The files of an image that are saved into a new volume.
+    /// Saves the files of an image in a new volume.
     Salvage(SalvagePlan),
 }
 
-/// What the words ask for, and on which images.
+/// The job, and the form of its images.
 #[derive(Drop)]
 pub struct Asked {
     pub plan: Plan,
-    /// The form of the images that it is done on.
+    /// The form of the images.
     pub form: Form,
-    /// Whether nothing is said on standard error.
+    /// Whether nothing is printed on standard error.
     pub is_quiet: bool,
 }
 
-/// Why the words are no job.
+/// Why the command line specifies no job.
 #[derive(Drop)]
 pub enum WordsError {
-    /// They are not those of a command, or ask for help.
+    /// The arguments do not match a command, or they ask for help.
     Usage(clap::Error),
-    /// They are not those of a command, and this line says what may be meant.
+    /// The arguments do not match a command. The line is a hint.
     Tried(clap::Error, &'static str),
-    /// They are not those of a command, and a terminal is told by this line what may be meant.
+    /// The arguments do not match a command. The line is a hint that is printed only on a terminal.
     Meant(clap::Error, &'static str),
     /// There are options, but no command.
     NoCommand,
     /// An option has no value, as in `--image=`.
     NoValue,
-    /// A word is not what it has to be, or an option is missing or given twice: which.
+    /// An argument is invalid, or an option is missing or given twice. The text states which.
     Wrong(&'static str),
-    /// They ask for the version.
+    /// The arguments ask for the version.
     Version(clap::Error),
-    /// A word is not UTF-8, or the words cannot be read.
+    /// An argument is not UTF-8, or the arguments cannot be read.
     NotText,
     NoMemory,
 }
 
-/// The text for standard error, with its line feeds.
+/// The message for standard error, with its line feeds.
 impl fmt::Display for WordsError {
     fn fmt<W: fmt::Write>(&self, f: &mut fmt::Formatter<W>) -> fmt::Result {
         match self {
@@ -104,7 +105,7 @@ impl fmt::Display for WordsError {
 }
 
 impl WordsError {
-    /// What a terminal is told beside the text: what may be meant, if that is known.
+    /// Returns the hint that a terminal shows after the message, if there is one.
     pub fn hint(&self) -> Option<&'static str> {
         match self {
             WordsError::Meant(_, line) => Some(line),
@@ -143,8 +144,8 @@ impl From<AllocError> for WordsError {
     }
 }
 
-/// The number that decimal digits alone spell, leading zeros among them. `None` for any other text, as one with a sign
-/// or without a digit, and for a number above 4,294,967,295.
+/// Returns the number that `text` spells with decimal digits only; leading zeros are allowed. `None` for any other
+/// text, for example with a sign or without a digit, and for a number above 4,294,967,295.
 pub fn number(text: &str) -> Option<u32>
     ensures exact { SomeIff result (IsNumberUpTo 4294967295 text.now) (digits_value 10 text.now) }
 {
@@ -154,14 +155,14 @@ pub fn number(text: &str) -> Option<u32>
     text.parse().ok()
 }
 
-/// The word that is found for an id, where there is one.
+/// Returns the argument under `id`, if there is one.
 pub fn found<'a>(matches: &ArgMatches<'a>, id: &str) -> Option<&'a str>
     ensures word { option_map (λ word. word.now) result ≡ word_found (words_of matches.now) id.now }
 {
     matches.get_str(id)
 }
 
-/// Whether the word that is found for an id is that of an option without a value that is given.
+/// Whether the argument under `id` is an option without a value that is given.
 pub fn is_set(matches: &ArgMatches<'_>, id: &str) -> bool
     ensures value { result ≡ is_set (word_found (words_of matches.now) id.now) }
 {
@@ -175,7 +176,7 @@ pub fn flag(matches: &ArgMatches<'_>, id: &str) -> bool
     matches.get_flag(id)
 }
 
-/// A word that has to be there.
+/// Returns a required argument. `NoCommand` if it is missing.
 pub fn needed<'a>(matches: &ArgMatches<'a>, id: &str) -> Result<&'a str, WordsError>
     ensures word { IfOk result (λ word. word_found (words_of matches.now) id.now ≡ Some word.now) }
     ensures refusal { IfErr result (λ error. (error ≡ NoCommand) × (word_found (words_of matches.now) id.now ≡ None)) }
@@ -183,7 +184,12 @@ pub fn needed<'a>(matches: &ArgMatches<'a>, id: &str) -> Result<&'a str, WordsEr
     found(matches, id).ok_or(WordsError::NoCommand)
 }
 
-/// The value of an option, if it is given. Refused where it is empty.
+/// Returns a copy of the value of an option, if the option is given.
+///
+/// # Errors
+///
+/// - The value is empty: `NoValue`.
+/// - Out of memory: `NoMemory`.
 pub fn given(
     alloc: Global,
     matches: &ArgMatches<'_>,
@@ -201,7 +207,7 @@ pub fn given(
     }
 }
 
-/// The limit that the words give. Refused where there is a word for it that is no number up to 4,294,967,295.
+/// Returns the value of `--limit`, or the default. `Wrong` if it is no decimal number up to 4,294,967,295.
 pub fn limit_of(matches: &ArgMatches<'_>) -> Result<u32, WordsError>
     ensures value { IfOk result (λ limit. IsLimit (word_found (words_of matches.now) (codes "limit")) limit) }
     ensures accepted { IsOk result ↔ IsLimitWord (word_found (words_of matches.now) (codes "limit")) }
@@ -215,7 +221,7 @@ pub fn limit_of(matches: &ArgMatches<'_>) -> Result<u32, WordsError>
     }
 }
 
-/// What the words of `files` ask for.
+/// Returns the job that the arguments of `files` specify.
 fn files_asked(alloc: Global, matches: &ArgMatches<'_>) -> Result<Plan, WordsError>
     ensures asked { IfOk result (λ plan. Asks (codes "files") matches.now plan) }
     ensures good { IsOk result → AreGood (codes "files") matches.now }
@@ -228,7 +234,8 @@ fn files_asked(alloc: Global, matches: &ArgMatches<'_>) -> Result<Plan, WordsErr
     }
 }
 
-/// What `asm` is asked to write. Refused where it is more than one of the listing, all faults and symbols.
+/// Returns the output that is requested from `asm`. `Wrong` if more than one of `--all`, `--list` and `--symbols` is
+/// given.
 fn asm_output(matches: &ArgMatches<'_>) -> Result<AsmOutput, WordsError>
     ensures asked { IfOk result (IsAsm (is_set (word_found (words_of matches.now) (codes "all")))
         (is_set (word_found (words_of matches.now) (codes "list")))
@@ -246,8 +253,15 @@ fn asm_output(matches: &ArgMatches<'_>) -> Result<AsmOutput, WordsError>
     }
 }
 
-/// What `dis` is asked to write. Refused where they ask for more than one of names, the listing and statements, as
-/// which those behind blanks and in blocks count; and for both of these.
+/// Returns the output that is requested from `dis`.
+///
+/// # Errors
+///
+/// `Wrong` for each of these, in this order:
+///
+/// - `--blocks` together with `--names`, `--list` or `--indent`;
+/// - `--indent` together with `--names` or `--list`;
+/// - without `--blocks` and `--indent`: more than one of `--names`, `--list` and `--statements`.
 fn dis_output(matches: &ArgMatches<'_>) -> Result<DisOutput, WordsError>
     ensures asked { IfOk result (IsDis (is_set (word_found (words_of matches.now) (codes "names")))
         (is_set (word_found (words_of matches.now) (codes "list")))
@@ -286,8 +300,12 @@ fn dis_output(matches: &ArgMatches<'_>) -> Result<DisOutput, WordsError>
     }
 }
 
-/// What a command and its words ask for. Refused where it is none of the seven, or where its words are not what it
-/// needs.
+/// Returns the job that a command and its arguments specify.
+///
+/// # Errors
+///
+/// - The command is none of the seven: `NoCommand`.
+/// - The arguments are invalid: as the function of the command states.
 fn plan_by(alloc: Global, command: &str, matches: &ArgMatches<'_>) -> Result<Plan, WordsError>
     ensures asked { IfOk result (λ plan. Asks command.now matches.now plan) }
     ensures good { IsOk result → AreGood command.now matches.now }
@@ -312,7 +330,7 @@ fn plan_by(alloc: Global, command: &str, matches: &ArgMatches<'_>) -> Result<Pla
     }
 }
 
-/// Whether `--quiet` stands behind a verb.
+/// Whether `--quiet` is given after a verb.
 fn is_quiet_below(matches: &ArgMatches<'_>) -> bool
     ensures value { result ≡ is_quiet_below (subcommand_rows_of matches.now) }
 {
@@ -322,7 +340,7 @@ fn is_quiet_below(matches: &ArgMatches<'_>) -> bool
     }
 }
 
-/// Whether nothing is to be said, by the words of a command and those of its verb.
+/// Whether `--quiet` is given before or after a verb.
 #[tactic(auto, unfolding(crate::specs::Asked::is_quiet))]
 fn is_quiet(matches: &ArgMatches<'_>) -> bool
     ensures value { result ≡ is_quiet matches.now }
@@ -330,7 +348,7 @@ fn is_quiet(matches: &ArgMatches<'_>) -> bool
     is_set(matches, "quiet") || is_quiet_below(matches)
 }
 
-/// What the words ask for that clap has found.
+/// Returns the job that the arguments found by clap specify. `NoCommand` if there is no command.
 fn plan_asked(alloc: Global, matches: &ArgMatches<'_>) -> Result<Asked, WordsError>
     ensures asked { IfOk result (λ asked. IsAsked matches.now asked) }
     ensures taken { AreAllGood matches.now → IsOkUnless result NoMemory }
@@ -449,7 +467,15 @@ fn parsed<'a>(alloc: Global, words: &'a [String]) -> Result<Asked, WordsError> {
     plan_asked(alloc, &matches)
 }
 
-/// What the words ask for, the program's name before them.
+/// Returns the job that the arguments specify. The first argument is the program's name. Without further arguments, the
+/// job is `raw`.
+///
+/// # Errors
+///
+/// - The arguments cannot be read, or one is not UTF-8: `NotText`.
+/// - clap rejects the arguments, or they ask for help or the version: `Usage`, `Tried`, `Meant` or `Version`.
+/// - The arguments of the command are invalid: `NoCommand`, `NoValue` or `Wrong`.
+/// - Out of memory: `NoMemory`.
 pub fn plan_of(alloc: Global, args: io::Result<Args>) -> Result<Asked, WordsError> {
     let words: Vec<String> = args?.collect(alloc)?;
     if words.len() <= 1 {

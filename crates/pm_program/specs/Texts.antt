@@ -1,4 +1,4 @@
--- What a job on a text or a code file leaves behind, where files stand in the place of its streams.
+-- The results of a job on an assembler text or a code file, whose input and output may be files.
 use Rattle.std.specs.Prelude.{◌≡◌, ⊤, ℕ, Bool, true, false, List, [], Option, None, Some, IfSome, string_bytes}
 use Rattle.std.specs.Io.KnownBytes.{Appends}
 use Rattle.pm_files.specs.Held.{Files, HoldsFile, Locks, Saves}
@@ -17,63 +17,65 @@ use Rattle.pm_tool.specs.declared.outcome.Job.{Job}
 use Rattle.pm_tool.specs.declared.outcome.Job.TheVariants as jobs
 use Rattle.pm_tool.specs.declared.outcome.Outcome.{Outcome}
 
--- A job comes to what is said: its outcome, and all that it writes.
+-- The outcome and the output of a job are those that the specification states.
 abbrev pub Comes : Outcome → List ℕ → Said → Type 0
 Comes outcome bytes told = IsOutcome outcome told × (bytes ≡ told.written)
 
--- what is written, of a job that was done: that has ended well, or whose program has run, however that ended
+-- The output that is saved of a job: all of it if the job ended well or its program has run, and none otherwise.
 abbrev pub written_by : Exit → List ℕ → Option (List ℕ)
 written_by exits.Ended bytes = Some bytes
 written_by exits.ExecutionError bytes = Some bytes
 written_by exits.Stopped bytes = Some bytes
 written_by _ bytes = None
 
--- A path holds all that a job writes, if it was done; nothing else has changed.
+-- The file at the path contains the whole output of the job, if that is saved. No other file changes.
 abbrev pub SavesText : Files → Files → List ℕ → Outcome → Said → Type 0
 SavesText old new path outcome told = IsOutcome outcome told × Saves old new path (written_by told.exit told.written)
 
--- What a job writes stands behind what the output had, and no file has changed; or else it is kept under a path.
+-- Without a path, the output is appended to the stream and no file changes. With a path, it is saved there.
 abbrev pub Delivers : Files → Files → Option (List ℕ) → Outgoing → Outgoing → Outcome → Said → Type 0
 Delivers old new None before after outcome told =
     IsOutcome outcome told × Appends before.contents after.contents told.written × (new ≡ old)
 Delivers old new (Some path) before after outcome told = SavesText old new path outcome told
 
--- Where a path has what is written, nothing is written to the output.
+-- If the output goes to a path, nothing is written to the stream.
 abbrev pub LeavesOutput : Option (List ℕ) → Outgoing → Outgoing → Type 0
 LeavesOutput None before after = ⊤
 LeavesOutput (Some path) before after = after ≡ before
 
--- Where no path has what is written, no file changes, and none is held.
+-- If the output does not go to a path, no file changes and no file is locked.
 abbrev pub LeavesFiles : Option (List ℕ) → Files → Files → Locks → Locks → Type 0
 LeavesFiles None old new before after = (new ≡ old) × (after ≡ before)
 LeavesFiles (Some path) old new before after = ⊤
 
--- ---- what is read
+-- ---- input
 
--- Where a file is read, nothing is read of the input.
+-- If the input is a file, nothing is read from the stream.
 abbrev pub LeavesInput : TextInput → Incoming → Incoming → Type 0
 LeavesInput inputs.Standard before after = ⊤
 LeavesInput (inputs.File path) before after = after ≡ before
 LeavesInput (inputs.OnImage path name) before after = after ≡ before
 
--- a job reads a text, and no code file
+-- A job reads an assembler text. Otherwise it reads a code file.
 abbrev pub reads_text : Job → Bool
 reads_text (jobs.Asm what) = true
 reads_text job = false
 
--- the command that gets the text of a file, or its bytes
+-- The command that reads a file: as text, or as bytes.
 abbrev pub getting : Bool → List ℕ → Order
 getting true name = GetText name
 getting false name = Get name
 
--- a file of the volume whose image a path holds is got, or it is refused, as that command says
+-- A file of the volume whose image is at the path is read, or it is refused, as the specification of the command
+-- states.
 abbrev pub IsGot : Files → List ℕ → Order → Got → Type 0
 IsGot files path order (gots.Bytes bytes) = (image : List ℕ) × HoldsFile files path image
     × ((said_files image order []).exit ≡ exits.Ended) × (bytes.items ≡ (said_files image order []).written)
 IsGot files path order (gots.Nothing outcome) = (image : List ℕ) × HoldsFile files path image
     × ((said_files image order []).exit ≡ exits.Refused) × IsOutcome outcome (said_files image order [])
 
--- A job is told to what was got; where that was refused it is answered, and nothing has changed.
+-- The job is executed on the bytes of the file read. If that file is refused, the outcome of the refusal is returned,
+-- and nothing changes.
 abbrev pub DeliversGot : Exit → Files → Files → Option (List ℕ) → Outgoing → Outgoing → Outcome → (List ℕ → Said) → Said
     → Type 0
 DeliversGot exits.Ended old new output before after outcome text told =
@@ -81,8 +83,8 @@ DeliversGot exits.Ended old new output before after outcome text told =
 DeliversGot _ old new output before after outcome text told =
     IsOutcome outcome told × (after ≡ before) × (new ≡ old)
 
--- A job is told to the input, where it is known; to the bytes that a path holds; or to what is got of an image, a text
--- or bytes as the job reads.
+-- The job is executed on one of three inputs: the stream, if its bytes are known; the bytes of a file; or a file of a
+-- volume. The job determines whether that is read as text or as bytes.
 abbrev pub DeliversOf : Files → Files → Job → TextInput → Option (List ℕ) → Option (List ℕ) → Outgoing → Outgoing
     → Outcome → Type 0
 DeliversOf old new job inputs.Standard output input before after outcome =

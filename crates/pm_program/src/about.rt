@@ -7,7 +7,7 @@ use pm_volume::VolumeFault;
 use std::alloc::{AllocError, Global};
 use std::fmt;
 
-/// The most characters of a file's name that a message repeats.
+/// The maximal number of characters of a file name that a message prints.
 const MOST: usize = 120;
 
 /// A file's name in a message, cut after 120 characters.
@@ -86,7 +86,7 @@ fn image_of(plan: &Plan) -> Option<&str> {
     }
 }
 
-/// Returns the files of a plan that a refusal can be about. `None` if there are none, or if memory is refused.
+/// Returns the files of a plan that a refusal can be about. `None` if there are none, or if memory is exhausted.
 pub fn named_in(alloc: Global, plan: &Plan) -> Option<Named> {
     match plan {
         Plan::Run(program, _) | Plan::Trace(program, ..) | Plan::Debug(program, _) => {
@@ -96,7 +96,8 @@ pub fn named_in(alloc: Global, plan: &Plan) -> Option<Named> {
     }
 }
 
-/// Returns the path of the image on a unit, with the unit.
+/// Returns the path of the image on a unit, together with the unit. `None` if there is no image, or if memory is
+/// exhausted.
 fn on_unit(alloc: Global, disks: &Disks, unit: u8) -> Option<String> {
     let path = match unit {
         4 => disks.paths[0].as_ref()?,
@@ -110,7 +111,7 @@ fn on_unit(alloc: Global, disks: &Disks, unit: u8) -> Option<String> {
 }
 
 /// Returns the file that a refusal is about: its path, and its unit if it is a disk of a program. `None` if it is about
-/// none, or if memory is refused.
+/// no file, or if memory is exhausted.
 pub fn about(alloc: Global, named: &Named, outcome: &Outcome) -> Option<String> {
     match (named, outcome.about, outcome.refusal) {
         (Named::Program(disks), Some(About::Unit(unit)), _) => on_unit(alloc, disks, unit),
@@ -134,7 +135,7 @@ fn form_option(form: Form) -> &'static str {
 }
 
 /// Returns the message for a program that is not found (`refused boot 1`) or is not a code file (`refused boot 2`),
-/// with the command that helps. `None` for any other refusal, or if memory is refused.
+/// with the command that helps. `None` for any other refusal, or if memory is exhausted.
 pub fn no_program(alloc: Global, named: &Named, form: Form, outcome: &Outcome) -> Option<String> {
     let (Named::Program(disks), Some(Refusal::Boot(fault))) = (named, outcome.refusal) else {
         return None;

@@ -1,29 +1,29 @@
-//! Standard input and output as they are on a terminal.
+//! Standard input and output on a terminal.
 ghost use Rattle.std.specs.Io.{ReadsAtMost, WritesAtMost};
 
 use std::io;
 use std::io::{Read, Write};
 
-/// The byte that ends the input of a terminal whose keys come at once: Ctrl-D.
+/// The byte that ends the input of a terminal that delivers each key at once: Ctrl-D.
 pub const END: u8 = 4;
 
-/// The byte that ends it where Ctrl-D is a byte of the program's: Ctrl-].
+/// The byte that ends the input if Ctrl-D is input for the program: Ctrl-].
 pub const ESCAPE: u8 = 29;
 
-/// A reader that says something on standard error before it reads: before the first byte of each line, or once.
+/// A reader that prints a prompt on standard error: before the first byte of each line, or once.
 #[derive(Drop)]
 pub struct Prompted<'a, E, R> {
     rt: &'a E,
     inner: R,
     prompt: &'a str,
-    /// Whether a prompt stands before each line.
+    /// Whether a prompt is printed before each line.
     repeats: bool,
-    /// Whether one is due.
+    /// Whether a prompt must be printed before the next read.
     due: bool,
 }
 
 impl<'a, E: Eprint, R: Read> Prompted<'a, E, R> {
-    /// A reader that prompts before each line.
+    /// Returns a reader that prints a prompt before each line.
     pub fn each_line(rt: &'a E, inner: R, prompt: &'a str) -> Prompted<'a, E, R> {
         Prompted {
             rt,
@@ -34,7 +34,7 @@ impl<'a, E: Eprint, R: Read> Prompted<'a, E, R> {
         }
     }
 
-    /// A reader that prompts once, if the prompt has a text.
+    /// Returns a reader that prints a prompt once. It prints none if `prompt` is empty.
     pub fn once(rt: &'a E, inner: R, prompt: &'a str) -> Prompted<'a, E, R> {
         Prompted {
             rt,
@@ -62,7 +62,7 @@ impl<E: Eprint, R: Read> Read for Prompted<'_, E, R> {
     }
 }
 
-/// A reader that ends at a byte where it is a terminal, and again gives bytes after it.
+/// A reader that, on a terminal, ends at a certain byte. After that it can return further bytes.
 #[derive(Drop)]
 pub struct Keys<R> {
     inner: R,
@@ -71,7 +71,7 @@ pub struct Keys<R> {
 }
 
 impl<R: Read> Keys<R> {
-    /// A reader that is a terminal or not, and the byte that ends it.
+    /// Returns a reader. `is_terminal`: whether it reads from a terminal. `end`: the byte that ends its input.
     pub fn new(inner: R, is_terminal: bool, end: u8) -> Keys<R> {
         Keys {
             inner,
@@ -80,7 +80,8 @@ impl<R: Read> Keys<R> {
         }
     }
 
-    /// Reads one byte of a terminal, so that none behind the end is read.
+    /// Reads one byte of a terminal into `buf`. It reads only one byte, so that none after `end` is read. Returns 0 at
+    /// the end of the input.
     fn key(&mut self, buf: &mut [u8]) -> io::Result<usize>
         ensures bound { ReadsAtMost result buf.new }
     {
@@ -107,40 +108,41 @@ impl<R: Read> Read for Keys<R> {
     }
 }
 
-/// What a writer does with the bytes.
+/// What a writer does with bytes.
 #[derive(Clone, Copy, PartialEq, Eq)]
 pub enum Lines {
-    /// It writes them as they are.
+    /// It writes them unchanged.
     Plain,
-    /// It adds a line feed to each carriage return.
+    /// It writes a line feed after each carriage return.
     Added,
-    /// It writes none that belong to no text, and fails there.
+    /// It writes only bytes that can be in a text, and fails at the first other byte.
     TextAlone,
     /// It writes `?` for each control character that is not a tab, a line feed or a carriage return.
     Shown,
 }
 
-/// Why a writer failed, where that is known.
+/// Why a writer failed, if that is known.
 #[derive(Clone, Copy, PartialEq, Eq)]
 pub enum Failed {
-    /// Nobody reads any more.
+    /// The reader of the output has closed it.
     Closed,
-    /// A byte belongs to no text.
+    /// A byte cannot be in a text.
     NoText,
 }
 
-/// Whether a byte belongs to no text: a control character but for those that move to a column or a line.
+/// Whether a byte cannot be in a text. That is so for control characters, except backspace, tab, line feed, vertical
+/// tab, form feed and carriage return.
 fn is_binary(byte: u8) -> bool {
     byte < 8 || (14..32).contains(&byte) || byte == 127
 }
 
-/// Whether a terminal may take a byte for the beginning of a command, such as one that sets its title: a control
-/// character that is not a tab, a line feed or a carriage return. Those from 128 to 159 are among them.
+/// Whether a terminal can interpret a byte as the start of a command, for example one that sets its title. That is so
+/// for a control character, except tab, line feed and carriage return. Bytes from 128 to 159 are control characters.
 fn is_control(byte: u8) -> bool {
     byte < 9 || (11..13).contains(&byte) || (14..32).contains(&byte) || (127..160).contains(&byte)
 }
 
-/// A writer that knows whether a line has begun, and what goes to a terminal.
+/// A writer that records whether a line is unfinished, and adapts bytes for a terminal.
 #[derive(Drop)]
 pub struct Lined<W> {
     inner: W,
@@ -150,7 +152,7 @@ pub struct Lined<W> {
 }
 
 impl<W: Write> Lined<W> {
-    /// A writer that does this with the bytes.
+    /// Returns a writer that treats the bytes as `lines` states.
     pub fn new(inner: W, lines: Lines) -> Lined<W> {
         Lined {
             inner,
@@ -160,17 +162,18 @@ impl<W: Write> Lined<W> {
         }
     }
 
-    /// Why it failed, where that is known.
+    /// Returns why the writer failed, if that is known.
     pub fn failed(&self) -> Option<Failed> {
         self.failed
     }
 
-    /// Whether the last byte that was written is no line feed.
+    /// Whether a line is unfinished: the last byte written is not a line feed, nor a carriage return to which a line
+    /// feed was added.
     pub fn has_begun(&self) -> bool {
         self.begun
     }
 
-    /// Writes bytes that belong to a text.
+    /// Writes `buf` if all its bytes can be in a text. Fails with `InvalidData` otherwise.
     fn write_text(&mut self, buf: &[u8]) -> io::Result<usize>
         ensures bound { WritesAtMost result buf.now }
     {
@@ -181,7 +184,7 @@ impl<W: Write> Lined<W> {
         self.inner.write(buf)
     }
 
-    /// Writes bytes in its own way.
+    /// Writes bytes as its `lines` states.
     fn write_some(&mut self, buf: &[u8]) -> io::Result<usize>
         ensures bound { WritesAtMost result buf.now }
     {
@@ -193,7 +196,7 @@ impl<W: Write> Lined<W> {
         }
     }
 
-    /// Writes up to the first control character, or `?` for that one.
+    /// Writes the bytes before the first control character. If `buf` begins with one, it writes `?` for that character.
     fn write_shown(&mut self, buf: &[u8]) -> io::Result<usize>
         ensures bound { WritesAtMost result buf.now }
     {
@@ -207,7 +210,8 @@ impl<W: Write> Lined<W> {
         Ok(1)
     }
 
-    /// Writes up to the first carriage return, and a line feed behind it.
+    /// Writes the bytes before the first carriage return. If `buf` begins with one, it writes that byte and a line
+    /// feed.
     fn write_lines(&mut self, buf: &[u8]) -> io::Result<usize>
         ensures bound { WritesAtMost result buf.now }
     {

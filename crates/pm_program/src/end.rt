@@ -24,7 +24,7 @@ pub enum Conflict {
 }
 
 impl Conflict {
-    /// The line that reports it on standard error.
+    /// Returns the line that reports it on standard error.
     pub fn text(self) -> &'static str {
         match self {
             Conflict::SavedTwice =>
@@ -45,7 +45,7 @@ impl Conflict {
     }
 }
 
-/// How the program ends: gives its exit status and its message on standard error.
+/// How the program ends. It determines the exit status and the message on standard error.
 #[derive(Drop)]
 pub enum End {
     /// The result of a job, and the file (with its unit) that its refusal is about, if known.
@@ -57,7 +57,7 @@ pub enum End {
 }
 
 impl End {
-    /// The exit status.
+    /// Returns the exit status.
     pub fn status(&self) -> u8 {
         match self {
             End::Outcome(outcome, _) => outcome.exit.number(),

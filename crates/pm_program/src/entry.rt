@@ -1,4 +1,4 @@
-//! The whole program, over any runtime.
+//! The whole program. It runs on any runtime.
 ghost use Rattle.std.specs.Prelude.{◌≡◌};
 
 use crate::end::End;
@@ -10,7 +10,8 @@ use pm_tool::Exit;
 use std::env::Env;
 use std::io::{ErrorKind, Input};
 
-/// How words end that are no job: want of memory is told from words that are wrong.
+/// Returns the exit status of a command line that specifies no job. Out of memory has its own status, different from
+/// that of an invalid command line.
 fn exit_of(error: &WordsError) -> Exit
     ensures memory { error.now ≡ WordsError.NoMemory → result ≡ Exit.NoMemory }
 {
@@ -21,8 +22,8 @@ fn exit_of(error: &WordsError) -> Exit
     }
 }
 
-/// Says what is wrong with the words. They are repeated as they are; on a terminal but for what would act there, and
-/// with what may be meant.
+/// Prints on standard error why the command line is invalid. It quotes the arguments unchanged, except on a terminal:
+/// there it replaces control characters, and adds a hint if there is one.
 fn tell<R: Host + Eprint + AllocGlobal>(rt: &R, error: &WordsError) {
     if !rt.is_terminal(Stream::Error) {
         let _ = eprint!(rt; "{error}");
@@ -37,7 +38,7 @@ fn tell<R: Host + Eprint + AllocGlobal>(rt: &R, error: &WordsError) {
     }
 }
 
-/// Says why the words are no job, or the version. The status.
+/// Prints why the command line specifies no job, or prints the version. Returns the exit status.
 fn refuse<R: Host + Print + Eprint + AllocGlobal>(rt: &R, error: &WordsError) -> u8 {
     if let WordsError::Version(_) = error {
         return match print!(rt; "{error}") {
@@ -59,9 +60,9 @@ fn refuse<R: Host + Print + Eprint + AllocGlobal>(rt: &R, error: &WordsError) ->
     exit_of(error).number()
 }
 
-/// Does what the words of the command line ask for, and answers the exit status.
+/// Executes the job that the command line specifies, and returns the exit status.
 ///
-/// Nothing is read or written where the words are wrong: the text says why, and the status is 1.
+/// If the command line is invalid, nothing is read or written. The program prints why, and the status is 1.
 pub fn program<R: Host + Env + Input + Print + Eprint + AllocGlobal>(rt: &R) -> u8 {
     let asked = match plan_of(rt.alloc(), std::env::args(rt)) {
         Ok(asked) => asked,

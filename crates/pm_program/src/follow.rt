@@ -1,4 +1,4 @@
-//! A plan is followed: its streams, its files, its job.
+//! Executing a plan: its streams, its files and its job.
 ghost use Rattle.std.specs.Prelude.{◌≡◌, IfSome, Some, option_map, string_bytes};
 ghost use Rattle.pm_jobs.specs.Streams.{AreWell, both};
 ghost use Rattle.pm_plan.specs.Asked.{paths_in};
@@ -27,7 +27,7 @@ use std::io::{Input, Read};
 const HEADLESS: &str =
     "the file does not begin with a valid .2mg header, or the header gives fewer than 6 blocks";
 
-/// The name of standard output's file.
+/// The path of the file that is standard output.
 const OUTPUT: &str = "/dev/stdout";
 
 /// Which streams are terminals.
@@ -39,7 +39,7 @@ struct Terminals {
 }
 
 impl Terminals {
-    /// Where nothing is to be said, standard error is as if it were none.
+    /// Returns which standard streams are terminals. If `is_quiet`, standard error counts as no terminal.
     fn of<R: Host>(rt: &R, is_quiet: bool) -> Terminals {
         Terminals {
             input: rt.is_terminal(Stream::Input),
@@ -48,7 +48,7 @@ impl Terminals {
         }
     }
 
-    /// What is done with the bytes that a plan's job writes.
+    /// Returns what a writer does with the output of a plan's job.
     fn lines_of(self, plan: &Plan) -> Lines {
         match plan {
             Plan::Run(_, _) if self.output => Lines::Added,
@@ -59,7 +59,7 @@ impl Terminals {
         }
     }
 
-    /// The prompt for the input of a plan.
+    /// Returns the prompt for the input of a plan. It is empty unless standard input and standard error are terminals.
     fn prompt(self, plan: &Plan) -> Prompt {
         if self.input && self.error {
             prompt_of(plan)
@@ -77,7 +77,7 @@ fn gets_text(verb: &Verb) -> bool {
     )
 }
 
-/// A prompt on standard error, before input is read from a terminal.
+/// A prompt on standard error before input is read from a terminal.
 #[derive(Clone, Copy)]
 enum Prompt {
     Once(&'static str),
@@ -126,14 +126,14 @@ fn prompted<'a, E: Eprint, R: Read>(rt: &'a E, keys: R, prompt: Prompt) -> Promp
     }
 }
 
-/// What is done.
+/// The result of a plan.
 #[derive(Drop)]
 pub struct Done {
     pub end: End,
-    /// Whether the last line that was written has not ended.
+    /// Whether the last line of the output is unfinished and both output and standard error are terminals.
     pub begun: bool,
-    /// Whether nothing is said of it: the words ask for that, or who read the output has closed it, as `head` does,
-    /// before a terminal.
+    /// Whether no message is printed. That is so if the options request it. It is also so if standard error is a
+    /// terminal and the reader of the output has closed it, as `head` does.
     pub is_silent: bool,
     /// Whether the system's segment was put into the program.
     pub has_system: bool,
@@ -147,7 +147,7 @@ fn has_system(plan: &Plan) -> bool {
     }
 }
 
-/// Does a verb of `files`; a command's output becomes the file of the plan's path, if it has one.
+/// Executes a verb of `files`. The output of a command is saved as the file of the plan's output path, if there is one.
 fn act_on_files<S: Store, I: Source, O: Sink>(
     alloc: Global,
     store: &mut S,
@@ -173,7 +173,7 @@ fn act_on_files<S: Store, I: Source, O: Sink>(
     }
 }
 
-/// Does the job of a plan on its streams and files.
+/// Executes the job of a plan on its streams and files.
 fn act<S: Store, I: Source, O: Sink>(
     alloc: Global,
     store: &mut S,
@@ -207,7 +207,8 @@ fn act<S: Store, I: Source, O: Sink>(
     Ok(pm_tool::run(alloc, source, sink, job))
 }
 
-/// Where the printer's bytes go: a path of standard output's file is standard output.
+/// Returns which images are saved, and where the printer's output goes. A path that names the file of standard output
+/// means standard output.
 fn saved_of<S: Store>(store: &S, choices: RunChoices) -> SavedOfRun {
     let RunChoices {
         saving,
@@ -226,7 +227,7 @@ fn saved_of<S: Store>(store: &S, choices: RunChoices) -> SavedOfRun {
     SavedOfRun { saving, printing }
 }
 
-/// Whether a path names the file of an image, if there is one.
+/// Whether `path` names the file of `image`. `false` if there is no image.
 fn names_image<S: Store>(store: &S, path: &str, image: &Option<String>) -> bool
     ensures value { IfSome (S.same store.now) (λ same.
         result ≡ names_image same path.now (option_map string_bytes image.now)) }
@@ -237,7 +238,7 @@ fn names_image<S: Store>(store: &S, path: &str, image: &Option<String>) -> bool
     }
 }
 
-/// Whether a path names the file of one of some images.
+/// Whether `path` names the file of one of the images.
 fn is_other<S: Store>(store: &S, path: &str, images: &[Option<String>]) -> bool
     ensures value { IfSome (S.same store.now) (λ same. result ≡ is_other same path.now (paths_in images.now)) }
 {
@@ -247,7 +248,7 @@ fn is_other<S: Store>(store: &S, path: &str, images: &[Option<String>]) -> bool
     }
 }
 
-/// Whether two of some images are one file.
+/// Whether two of the images are the same file.
 fn are_shared<S: Store>(store: &S, images: &[Option<String>]) -> bool
     ensures value { IfSome (S.same store.now) (λ same. result ≡ are_shared same (paths_in images.now)) }
 {
@@ -258,7 +259,11 @@ fn are_shared<S: Store>(store: &S, images: &[Option<String>]) -> bool
     }
 }
 
-/// What is wrong with the printer's path, if something is.
+/// Returns the conflict of the printer's path, if there is one. It checks in this order:
+///
+/// - the path names an image of the run;
+/// - it names the system's code file;
+/// - it names a directory.
 fn printer_conflict<S: Store>(
     store: &S,
     program: &Program,
@@ -283,7 +288,7 @@ fn printer_conflict<S: Store>(
     None
 }
 
-/// Whether writing the file of a path would take away one that may be named.
+/// Whether writing the file at `path` would remove the file `other`. `false` if there is no `other`.
 fn takes<S: Store>(store: &S, path: &str, other: &Option<String>) -> bool
     ensures value { IfSome (S.beside store.now) (λ beside.
         result ≡ names_image beside path.now (option_map string_bytes other.now)) }
@@ -294,7 +299,7 @@ fn takes<S: Store>(store: &S, path: &str, other: &Option<String>) -> bool
     }
 }
 
-/// Whether writing the file of a path would take away one of some images.
+/// Whether writing the file at `path` would remove one of the images.
 fn takes_other<S: Store>(store: &S, path: &str, images: &[Option<String>]) -> bool
     ensures value { IfSome (S.beside store.now) (λ beside. result ≡ is_other beside path.now (paths_in images.now)) }
 {
@@ -304,7 +309,8 @@ fn takes_other<S: Store>(store: &S, path: &str, images: &[Option<String>]) -> bo
     }
 }
 
-/// Whether writing a file, if there is one, would take away one of the run.
+/// Whether writing the file at `path` would remove a file of the run: an image, the system's code file or the printer's
+/// file. `false` if there is no path.
 fn takes_away<S: Store>(
     store: &S,
     path: &Option<String>,
@@ -320,7 +326,7 @@ fn takes_away<S: Store>(
     }
 }
 
-/// The same of a file that there is.
+/// Whether writing the file at `path` would remove a file of the run.
 fn takes_away_at<S: Store>(
     store: &S,
     path: &str,
@@ -336,7 +342,7 @@ fn takes_away_at<S: Store>(
         || takes(store, path, printer)
 }
 
-/// Whether writing one of some images would take away a file of the run.
+/// Whether writing one of the images would remove a file of the run.
 fn others_take_away<S: Store>(
     store: &S,
     images: &[Option<String>],
@@ -355,7 +361,7 @@ fn others_take_away<S: Store>(
     }
 }
 
-/// Whether writing one of the files that a run writes would take away another of its files.
+/// Whether writing one of the files that a run writes would remove another of its files.
 fn is_taken_away<S: Store>(
     store: &S,
     program: &Program,
@@ -370,14 +376,19 @@ fn is_taken_away<S: Store>(
         || takes_away(store, printer, program, printer)
 }
 
-/// Whether a path names a file or a folder: one names the same file as itself.
+/// Whether a file or directory is at `path`: a path names the same file as itself only if the file exists.
 fn is_there<S: Store>(store: &S, path: &str) -> bool
     ensures value { IfSome (S.same store.now) (λ same. result ≡ same path.now path.now) }
 {
     store.is_same(path, path)
 }
 
-/// What is wrong with the paths of `run`, if something is.
+/// Returns the first conflict of the paths of `run`, if there is one. It checks in this order:
+///
+/// - an image is saved and the image of unit 4 is also on another unit: `SavedTwice`;
+/// - the images of other units are saved and two of them are the same file: `SavedTwice`;
+/// - the printer's path has a conflict;
+/// - writing a file of the run would remove another of its files: `FileInTheWay`.
 fn conflict<S: Store>(store: &S, program: &Program, choices: &RunChoices) -> Option<Conflict>
     ensures value { IfSome (S.same store.now) (λ same. IfSome (S.beside store.now) (λ beside.
         IfSome (S.folders store.now) (λ folders. result ≡ conflict_of same beside folders program.now choices.now))) }
@@ -400,7 +411,7 @@ fn conflict<S: Store>(store: &S, program: &Program, choices: &RunChoices) -> Opt
     None
 }
 
-/// What is wrong with the paths of `asm` or `dis`, if something is.
+/// Returns the conflict of the paths of `asm` or `dis`, if there is one.
 fn text_conflict<S: Store>(store: &S, files: &TextFiles) -> Option<Conflict> {
     match &files.input {
         TextInput::Standard => None,
@@ -410,7 +421,10 @@ fn text_conflict<S: Store>(store: &S, files: &TextFiles) -> Option<Conflict> {
     }
 }
 
-/// What is wrong with the path of the file that is written, if there is one, beside that of the one that is read.
+/// Returns the conflict of the output path with the path that is read, if there is one:
+///
+/// - both name the same file: `OutputIsInput`;
+/// - writing the output would remove the file that is read: `FileInTheWay`.
 fn output_conflict<S: Store>(store: &S, input: &str, output: &Option<String>) -> Option<Conflict> {
     let output = output.as_ref()?.as_str();
     if store.is_same(output, input) {
@@ -422,7 +436,10 @@ fn output_conflict<S: Store>(store: &S, input: &str, output: &Option<String>) ->
     None
 }
 
-/// What is wrong with the path of the file that gets a trace, if something is.
+/// Returns the conflict of the path of a trace, if there is one:
+///
+/// - it names an image or the system's code file: `OutputIsInput`;
+/// - writing it would remove a file of the run: `FileInTheWay`.
 fn trace_conflict<S: Store>(
     store: &S,
     program: &Program,
@@ -441,7 +458,7 @@ fn trace_conflict<S: Store>(
     None
 }
 
-/// What is wrong with the paths of a plan, if something is.
+/// Returns the first conflict of the paths of a plan, if there is one.
 fn conflict_in<S: Store>(store: &S, plan: &Plan) -> Option<Conflict> {
     match plan {
         Plan::Run(program, choices) => conflict(store, program, choices),
@@ -458,8 +475,8 @@ fn conflict_in<S: Store>(store: &S, plan: &Plan) -> Option<Conflict> {
     }
 }
 
-/// Returns the end of a job with the file that its refusal is about. If an image with `--form 2mg` is too short for a
-/// volume, its header may be missing.
+/// Returns the end of a job, together with the file that its refusal is about. If an image with `--form 2mg` is too
+/// short for a volume, its header may be missing.
 fn end_of_job(alloc: Global, named: &Option<Named>, form: Form, mut outcome: Outcome) -> End {
     if let (Form::Headed, Some(Refusal::Volume(VolumeFault::TooShort))) = (form, outcome.refusal) {
         outcome.line = String::from_str(alloc, HEADLESS).ok();
@@ -476,12 +493,14 @@ fn end_of_job(alloc: Global, named: &Option<Named>, form: Form, mut outcome: Out
     End::Outcome(outcome, about)
 }
 
-/// The paths of the files of a plan that are no images: that of the system's code file, and that of the printer's file
-/// or, of `debug`, of the file that is typed; of `asm` and `dis` that of the file that is read; and that of the file of
+/// Two paths of a plan that name no image.
+///
+/// The first one is the path of the system's code file; for `asm` and `dis`, the file that is read. The second one is
+/// the path of the printer's file; for `debug`, the file with console input; for the other commands, the file of
 /// `--output`.
 type OwnPaths = (Option<String>, Option<String>);
 
-/// Those of a plan.
+/// Returns these two paths of a plan.
 fn own_paths(alloc: Global, plan: &Plan) -> Result<OwnPaths, AllocError> {
     match plan {
         Plan::Run(program, choices) => {
@@ -504,7 +523,7 @@ fn own_paths(alloc: Global, plan: &Plan) -> Result<OwnPaths, AllocError> {
     }
 }
 
-/// The files of a plan, in the form of its images.
+/// Returns the files of a plan, with the form of its images. `AllocError` if memory is exhausted.
 fn in_form<S: Drop>(
     alloc: Global,
     store: S,
@@ -524,7 +543,8 @@ fn in_form<S: Drop>(
     })
 }
 
-/// Does the job of a plan and returns its end; with the file that a refusal is about if standard error is a terminal.
+/// Executes the job of a plan and returns its end. The end names the file that a refusal is about if `is_told`, that
+/// is, if standard error is a terminal.
 fn end_of_plan<R: Host + AllocGlobal, I: Source, O: Sink>(
     rt: &R,
     store: HostStore<R>,
@@ -551,7 +571,7 @@ fn end_of_plan<R: Host + AllocGlobal, I: Source, O: Sink>(
     }
 }
 
-/// Does the job of a plan, with the standard streams and the files of the system.
+/// Executes the job of a plan with the standard streams and the files of the system.
 pub fn follow<R: Host + Input + Print + Eprint + AllocGlobal>(rt: &R, asked: Asked) -> Done {
     let plan = &asked.plan;
     let is_quiet = asked.is_quiet;
@@ -583,7 +603,7 @@ pub fn follow<R: Host + Input + Print + Eprint + AllocGlobal>(rt: &R, asked: Ask
     };
     Done {
         end,
-        // A line that output has begun is one of standard error too.
+        // A line that the output has begun is also unfinished on standard error.
         begun: lined.has_begun() && at.output && at.error,
         is_silent: is_quiet || at.error && lined.failed() == Some(Failed::Closed),
         has_system,

@@ -1,4 +1,4 @@
-//! What is got of a volume, into a file.
+//! Reading a file of a volume into a file of the host.
 ghost use Rattle.std.specs.Prelude.{◌≡◌, false, IfOk, IfSome, OnErr, OnOk, Some};
 ghost use Rattle.pm_filer.specs.Filed.{order_of};
 ghost use Rattle.pm_tool.specs.Said.{IsCutShort, IsSoundExit};
@@ -12,10 +12,13 @@ use pm_jobs::Source;
 use pm_tool::{Job, Outcome};
 use std::alloc::Global;
 
-/// Does a command on the volume whose image a path holds; what it writes becomes the file of another path, which is
-/// held. Where the command is done that file has all of it, and no other file has changed; else none has, nor where one
-/// cannot be read, held or written: an image that a command would change is left as it is. The source may not have
-/// failed before.
+/// Executes a command on the volume whose image is at `path`. Its output is saved as the file at `output`, which is
+/// locked. `source` must not have failed.
+///
+/// If the command ends well, the file at `output` contains all its output. No other file changes: the image at `path`
+/// is unchanged even if the command would change it. If the command is refused or cut short, no file changes.
+///
+/// On an error, a file could not be read, locked or written, and no file has changed.
 pub fn do_get<S: Store, I: Source>(
     alloc: Global,
     store: &mut S,

@@ -1,4 +1,4 @@
-//! The program over any runtime: files, streams, messages and status.
+//! The program on any runtime: files, streams, messages and exit status.
 #![tactic(auto)]
 
 mod about;

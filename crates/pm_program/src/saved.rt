@@ -1,4 +1,4 @@
-//! Jobs with files: what is read before them, and what is written behind them.
+//! Jobs with files: what they read first, and what they save at the end.
 ghost use Rattle.std.specs.Prelude.{◌≡◌, ◌∷◌, false, IfOk, IfSome, OnErr, OnOk, Some, string_bytes, option_map};
 ghost use Rattle.std.specs.Prelude.{vec_items};
 ghost use Rattle.pm_tool.specs.Said.{IsCutShort, IsSoundExit};
@@ -23,27 +23,27 @@ use pm_tool::{Exit, Job, OtherImages, Outcome};
 use std::alloc::Global;
 use std::io::ErrorKind;
 
-/// Where the printer's bytes go.
+/// Where the printer's output goes.
 #[derive(Drop)]
 pub enum Printing {
-    /// They are not wanted.
+    /// The output is discarded.
     Nowhere,
-    /// To standard output, behind the console's bytes.
+    /// To standard output, after the output of the console.
     Output,
     /// To a file.
     File(String),
 }
 
-/// What is saved of a run.
+/// What is saved after a run.
 #[derive(Drop)]
 pub struct SavedOfRun {
-    /// Which images are written back.
+    /// The images that are saved.
     pub saving: Saving,
-    /// Where the printer's bytes go.
+    /// Where the printer's output goes.
     pub printing: Printing,
 }
 
-/// Whether a verb takes the lock of its file: whether it may write it.
+/// Whether a verb locks its file, because it may write it.
 fn takes_lock(verb: &Verb) -> bool
     ensures value { result ≡ takes_lock verb.now }
 {
@@ -57,7 +57,8 @@ fn takes_lock(verb: &Verb) -> bool
     )
 }
 
-/// The job of a verb. Its file is held from here on where it is going to be written, and read.
+/// Returns the job of a verb. It locks the file at `path` if the verb may write it. Then it reads the file, except for
+/// `New`. No file changes.
 fn files_job<S: Store>(
     alloc: Global,
     store: &mut S,
@@ -88,10 +89,14 @@ fn files_job<S: Store>(
     }
 }
 
-/// Does a command on the image of a file, and writes the image back where the outcome has one: then it is the file, and
-/// no other file has changed. Neither stream may have failed before. Where a file cannot be read, held or written, or
-/// the job is cut short, no file has changed. A file that may be written is held. Where the input is known, the image
-/// that is saved is the one that is said of the input and of the image that the file had.
+/// Executes a verb on the image at `path`, and saves the image of the outcome there, if the outcome has one. A verb
+/// that may write the file locks it first. `source` and `sink` must not have failed.
+///
+/// No other file changes. If the job is cut short by a stream failure or out of memory, no file changes. Otherwise, if
+/// the input is known, the saved image is the one that the specification of the verb states for the input and the image
+/// read.
+///
+/// On an error, the file could not be read, locked or written, and no file has changed.
 pub fn do_files<S: Store, I: Source, O: Sink>(
     alloc: Global,
     store: &mut S,
@@ -115,9 +120,13 @@ pub fn do_files<S: Store, I: Source, O: Sink>(
     Ok(outcome)
 }
 
-/// Saves the files of an image into a new volume under another path, which is held. No other file has changed, and no
-/// file at all where one cannot be read, held or written, or the job is cut short. Neither stream may have failed
-/// before. Where the input is known, the volume that is saved is the one that is said of the image that the file had.
+/// Saves the files of the image at `plan.path` in a new volume at `plan.target`, which is locked first. `source` and
+/// `sink` must not have failed.
+///
+/// No other file changes. If the job is cut short by a stream failure or out of memory, no file changes. Otherwise, if
+/// the input is known, the new volume is the one that the specification of `salvage` states for the image read.
+///
+/// On an error, a file could not be read, locked or written, and no file has changed.
 pub fn do_salvage<S: Store, I: Source, O: Sink>(
     alloc: Global,
     store: &mut S,
@@ -147,7 +156,7 @@ pub fn do_salvage<S: Store, I: Source, O: Sink>(
     Ok(outcome)
 }
 
-/// Reads the image of a disk, where there is one.
+/// Reads the file at `path`, if there is a path. No file changes.
 fn image<S: Store>(
     alloc: Global,
     store: &mut S,
@@ -164,10 +173,10 @@ fn image<S: Store>(
     }
 }
 
-/// The images of the disks in the order of their units.
+/// The images of the disks, in the order of their units. `None` for a unit without a disk.
 type Images = [Option<Vec<u8>>; 6];
 
-/// Reads the images of the disks in the order of their units.
+/// Reads the images of the disks, in the order of their units. No file changes.
 fn images<S: Store>(
     alloc: Global,
     store: &mut S,
@@ -190,7 +199,8 @@ fn images<S: Store>(
     ])
 }
 
-/// Reads the images of the disks in the order of their units, and then the system's code file, where there is one.
+/// Reads the images of the disks, in the order of their units, and then the system's code file, if there is one. No
+/// file changes.
 fn inputs<S: Store>(
     alloc: Global,
     store: &mut S,
@@ -210,14 +220,14 @@ fn inputs<S: Store>(
     Ok((images, system))
 }
 
-/// Whether a program came to an end of its own, of its steps or of its input.
+/// Whether a program was run to its end, to its limit of steps, to the end of its input, or to an execution error.
 fn has_run(exit: Exit) -> bool
     ensures value { result ≡ has_run exit }
 {
     matches!(exit, Exit::Ended | Exit::ExecutionError | Exit::Stopped)
 }
 
-/// Writes the printer's bytes behind the console's.
+/// Writes the printer's output after the output of the console. `Write` if `sink` fails or has failed.
 fn print_out<O: Sink>(sink: &mut O, bytes: &[u8]) -> Result<(), DiskFault> {
     if sink.failed() || write_all(sink, bytes).is_err() {
         return Err(DiskFault::Write(ErrorKind::Other));
@@ -225,7 +235,7 @@ fn print_out<O: Sink>(sink: &mut O, bytes: &[u8]) -> Result<(), DiskFault> {
     Ok(())
 }
 
-/// Writes an image, where there is one.
+/// Saves `image` at `path`, if there is an image. On an error, no file has changed.
 fn save_image<S: Store>(store: &mut S, path: &str, image: &Option<Vec<u8>>) -> Result<(), DiskFault>
     ensures saved { OnOk result (
         Saves (S.files store.old) (S.files store.new) path.now (option_map vec_items image.now)) }
@@ -238,7 +248,7 @@ fn save_image<S: Store>(store: &mut S, path: &str, image: &Option<Vec<u8>>) -> R
     }
 }
 
-/// Writes the printer's bytes where they are wanted, if the program has run.
+/// Writes the printer's output to its destination, if the program has run. On an error, no file has changed.
 fn save_printer<S: Store, O: Sink>(
     store: &mut S,
     sink: &mut O,
@@ -261,7 +271,8 @@ fn save_printer<S: Store, O: Sink>(
     }
 }
 
-/// Makes the bytes those of a file, which is written only if it has others, or if there is no memory to see that.
+/// Replaces the content of the file at `path` with `bytes`. The file is not written if it contains them already. If
+/// there is not enough memory to compare, it is written. On an error, no file has changed.
 fn put_changed<S: Store>(
     alloc: Global,
     store: &mut S,
@@ -279,7 +290,8 @@ fn put_changed<S: Store>(
     }
 }
 
-/// Saves the image of a unit under its path, where there are both. A file that has it is not written.
+/// Saves `image` at `path`, if there are both. The file is not written if it contains the image already. On an error,
+/// no file has changed.
 fn save_at<S: Store>(
     alloc: Global,
     store: &mut S,
@@ -297,7 +309,8 @@ fn save_at<S: Store>(
     }
 }
 
-/// Saves the images of the other units than 4 under their paths.
+/// Saves the images of the units other than 4 at their paths, in the order of the units. On an error, the images of the
+/// first units may be saved, and no other file has changed.
 fn save_others<S: Store>(
     alloc: Global,
     store: &mut S,
@@ -325,7 +338,8 @@ fn save_others<S: Store>(
     save_at(alloc, store, twelfth, twelfth_image)
 }
 
-/// Saves the images of all units under their paths: first that of unit 4.
+/// Saves the images of all units at their paths, in the order of the units: unit 4 is first. On an error, the images of
+/// the first units may be saved, and no other file has changed.
 fn save_all<S: Store>(
     alloc: Global,
     store: &mut S,
@@ -345,7 +359,8 @@ fn save_all<S: Store>(
     save_others(alloc, store, others, &outcome.others)
 }
 
-/// Saves the images of a run that are to be saved.
+/// Saves those images of a run that `saving` selects, in the order of the units. On an error, the images of the first
+/// units may be saved, and no other file has changed.
 fn save_images<S: Store>(
     alloc: Global,
     store: &mut S,
@@ -370,7 +385,7 @@ fn save_images<S: Store>(
     }
 }
 
-/// Holds the file of an image on another unit than 4, where there is one.
+/// Locks the file at `path`, if there is a path. No file changes.
 fn hold_at<S: Store>(store: &mut S, path: &Option<String>) -> Result<(), DiskFault>
     ensures stays { S.files store.new ≡ S.files store.old }
     ensures held { OnOk result (
@@ -382,7 +397,7 @@ fn hold_at<S: Store>(store: &mut S, path: &Option<String>) -> Result<(), DiskFau
     }
 }
 
-/// Holds the files of the images on the other units than 4.
+/// Locks the files of the images on the units other than 4. No file changes.
 fn hold_others<S: Store>(store: &mut S, others: &Others) -> Result<(), DiskFault>
     ensures stays { S.files store.new ≡ S.files store.old }
     ensures held { OnOk result (S.held store.new ≡ held_each (paths_in others.now) (S.held store.old)) }
@@ -395,7 +410,7 @@ fn hold_others<S: Store>(store: &mut S, others: &Others) -> Result<(), DiskFault
     hold_at(store, twelfth)
 }
 
-/// Holds the files of the images that are going to be saved.
+/// Locks the files of the images that `saving` selects. No file changes.
 fn hold_images<S: Store>(
     store: &mut S,
     disk: &str,
@@ -417,7 +432,7 @@ fn hold_images<S: Store>(
     }
 }
 
-/// Holds the files of the images that are going to be saved, and makes ready for the printer's file.
+/// Locks the files of the images that will be saved, and prepares the printer's file for writing. No file changes.
 fn make_ready<S: Store>(
     store: &mut S,
     disk: &str,
@@ -435,7 +450,8 @@ fn make_ready<S: Store>(
     Ok(())
 }
 
-/// Makes ready for what a run saves, and reads its images and the system's code file.
+/// Locks and prepares the files that a run saves, and then reads its images and the system's code file. No file
+/// changes.
 fn run_inputs<S: Store>(
     alloc: Global,
     store: &mut S,
@@ -456,7 +472,8 @@ fn run_inputs<S: Store>(
     inputs(alloc, store, disk, &program.others, &program.system)
 }
 
-/// Saves what is wanted of a run: its images, and then the printer's bytes.
+/// Saves the selected images of a run, and then the printer's output. On an error, the images of the first units may be
+/// saved, and no other file has changed.
 fn save_run<S: Store, O: Sink>(
     alloc: Global,
     store: &mut S,
@@ -477,11 +494,18 @@ fn save_run<S: Store, O: Sink>(
     save_printer(store, sink, &saved.printing, outcome)
 }
 
-/// Runs a program, and then writes the images that are to be saved, as far as the outcome has them, and the printer's
-/// bytes, where the program has run and they are wanted. No other file changes, and none at all where the job is cut
-/// short. Each image that may be written is held. Neither stream may have failed before. Where a file cannot be read,
-/// held or written, nothing has changed but that the first of the images may be written. Where the input is known, what
-/// is saved, all or the first, is what is said of it and of the images that the files had, each on its unit.
+/// Runs a program, and then saves its results. `source` and `sink` must not have failed.
+///
+/// - It locks each image file that it may write, before it reads the files.
+/// - It saves the images that `saved.saving` selects, as far as the outcome has them.
+/// - It writes the printer's output as `saved.printing` states, if the program has run.
+///
+/// No other file changes. If the job is cut short by a stream failure or out of memory, no file changes. Otherwise, if
+/// the input is known, the saved images and the printer's output are the specified ones. They depend on the input and
+/// the images read.
+///
+/// On an error, a file could not be read, locked or written. The images of the first units may be saved, and no other
+/// file has changed. If the input is known, these images are the specified ones.
 pub fn do_run<S: Store, I: Source, O: Sink>(
     alloc: Global,
     store: &mut S,
@@ -523,10 +547,16 @@ pub fn do_run<S: Store, I: Source, O: Sink>(
     save_run(alloc, store, sink, disk.as_str(), &others, &saved, &outcome).and(Ok(outcome))
 }
 
-/// Writes the trace of a program, the lines that are selected, to the sink, and no file changes; or, where there is a
-/// path, into its file, which is held, whole where the program has run, and nothing to the sink. Neither stream may
-/// have failed before. Where the input is known, what is written, answered and left unread is what is said of it and of
-/// the images that the files had, each on its unit.
+/// Runs a program and writes the selected lines of its trace. `source` and `sink` must not have failed.
+///
+/// The trace goes to `sink`, and no file changes. If there is an `output` path, its file is locked and gets the whole
+/// trace, if the program has run. Then nothing is written to `sink`.
+///
+/// If the job is cut short by a stream failure or out of memory, no file changes. Otherwise, if the input is known, the
+/// output is the one that the specification of the trace states for the input and the images read. Without an `output`
+/// path, this also covers the bytes that are left unread.
+///
+/// On an error, no file has changed, and nothing was written to `sink`.
 pub fn do_trace<S: Store, I: Source, O: Sink>(
     alloc: Global,
     store: &mut S,
@@ -565,7 +595,8 @@ pub fn do_trace<S: Store, I: Source, O: Sink>(
     }
 }
 
-/// The bytes that wait on the console from the start on: those of a file, where there is a path.
+/// Returns the bytes that are in the console's input queue at the start: those of the file at `path`, or none if there
+/// is no path. No file changes.
 fn typed_of<S: Store>(
     alloc: Global,
     store: &mut S,
@@ -582,9 +613,11 @@ fn typed_of<S: Store>(
     }
 }
 
-/// Debugs a program, by the commands of the source; the bytes of a file wait on its console, where there is a path. No
-/// file changes. Neither stream may have failed before. Where the input is known, what is written, answered and left
-/// unread is what is said of it, of these bytes and of the images that the files had, each on its unit.
+/// Debugs a program by the commands that it reads from `source`. If there is a `typed` path, the bytes of its file are
+/// in the console's input queue at the start. No file changes. `source` and `sink` must not have failed.
+///
+/// If the input is known and the job is not cut short by a stream failure or out of memory, the output and the bytes
+/// left unread are the specified ones. They depend on the input, the typed bytes and the images read.
 pub fn do_debug<S: Store, I: Source, O: Sink>(
     alloc: Global,
     store: &mut S,

@@ -1,4 +1,4 @@
-//! What the program says on standard error at its end.
+//! The messages of the program on standard error at its end.
 ghost use Rattle.std.specs.Prelude.{◌≡◌, true, []};
 
 use crate::end::End;
@@ -20,7 +20,7 @@ impl fmt::Display for Plain<'_> {
     }
 }
 
-/// The same of a text of some lines, each with its line feed.
+/// A text of several lines, each with its line feed, with the same replacements.
 #[derive(Clone, Copy)]
 pub struct PlainLines<'a>(pub &'a str);
 
@@ -34,7 +34,7 @@ impl fmt::Display for PlainLines<'_> {
     }
 }
 
-/// The most characters of a quoted line that a message prints.
+/// The maximal number of characters of a quoted line that a message prints.
 const MOST: usize = 120;
 
 /// The space before a quoted line and before its mark.
@@ -123,7 +123,7 @@ impl fmt::Display for Refused<'_> {
     }
 }
 
-/// The message of an end; none where nothing is to be said. It may be empty.
+/// Returns the message of an end. It can be empty. It is empty if `is_silent`.
 fn message(end: &End, is_silent: bool) -> &str
     ensures silent { is_silent ≡ true → result.now ≡ [] }
 {
@@ -135,7 +135,7 @@ fn message(end: &End, is_silent: bool) -> &str
     }
 }
 
-/// Says why a run ended short of the program's end, and where an error stopped it.
+/// Prints why a run ended before the end of the program, and where an error stopped it.
 fn explain_run<R: Eprint>(rt: &R, outcome: &Outcome, has_system: bool) {
     let Some(ending) = outcome.ending else {
         return;
@@ -154,7 +154,7 @@ fn explain_run<R: Eprint>(rt: &R, outcome: &Outcome, has_system: bool) {
     }
 }
 
-/// Says why an input was refused.
+/// Prints why an input was refused.
 fn explain_refusal<R: Eprint>(rt: &R, outcome: &Outcome, about: &Option<String>) {
     let Some(refusal) = outcome.refusal else {
         return;
@@ -167,7 +167,7 @@ fn explain_refusal<R: Eprint>(rt: &R, outcome: &Outcome, about: &Option<String>)
     let _ = eprintln!(rt; "pmach: {refused}");
 }
 
-/// Says more of an end: which file it was about and why, why the input was refused, or why a run ended.
+/// Prints more about an end: the file and the reason, why the input was refused, or why a run ended.
 fn explain<R: Eprint>(rt: &R, end: &End, has_system: bool) {
     let _ = match end {
         End::File(fault, Some(path)) => eprintln!(rt;
@@ -185,12 +185,12 @@ fn explain<R: Eprint>(rt: &R, end: &End, has_system: bool) {
     };
 }
 
-/// How standard error is written.
+/// How messages are written to standard error.
 #[derive(Clone, Copy)]
 pub struct Manner {
-    /// Whether it is a terminal: then a second line says more.
+    /// Whether standard error is a terminal. Then a second line explains the message.
     pub explains: bool,
-    /// Whether a line has begun on the same terminal, which is to be ended first.
+    /// Whether an unfinished line is on the same terminal. It must be ended first.
     pub begun: bool,
     /// Whether the system's segment was put into the program.
     pub has_system: bool,
@@ -198,7 +198,7 @@ pub struct Manner {
     pub is_silent: bool,
 }
 
-/// Says on standard error what the program came to, where there is something to say.
+/// Prints the message of an end on standard error, if there is one.
 pub fn say<R: Eprint>(rt: &R, end: &End, manner: Manner) {
     let message = message(end, manner.is_silent);
     if message.is_empty() {

@@ -1,4 +1,4 @@
-//! Jobs on texts and code files: what is read, and where it is written.
+//! Jobs on assembler texts and code files: what they read, and where they write.
 ghost use Rattle.std.specs.Prelude.{◌≡◌, false, IfOk, IfSome, None, OnErr, OnOk, Some, option_map, string_bytes};
 ghost use Rattle.pm_jobs.specs.Streams.{AreWell, both};
 ghost use Rattle.pm_tool.specs.Said.{IsCutShort, IsSoundExit, job_said};
@@ -15,7 +15,8 @@ use pm_plan::{TextFiles, TextInput};
 use pm_tool::{Exit, Job, Kept, Outcome};
 use std::alloc::Global;
 
-/// Does a job whose output is kept in memory. The source may not have failed before.
+/// Executes `job` and returns its outcome and its output. The output is stored in memory. `source` must not have
+/// failed.
 fn into_memory<I: Source>(alloc: Global, source: &mut I, job: Job) -> (Outcome, Vec<u8>)
     requires well { (I.seen source.old).failed ≡ false }
     ensures said { IsSoundExit result.0.exit → IfSome (I.seen source.old).remaining (λ input.
@@ -27,8 +28,13 @@ fn into_memory<I: Source>(alloc: Global, source: &mut I, job: Job) -> (Outcome, 
     (outcome, bytes)
 }
 
-/// Makes what a job has written the file of a path, if it was done. `NoMemory` where there was none to keep all that
-/// it wrote.
+/// Saves the output of a job as the file at `path`, if the job ran to an end: `Ended`, `ExecutionError` or `Stopped`.
+/// Otherwise no file changes. On an error, no file has changed.
+///
+/// # Errors
+///
+/// - The output did not fit into memory: `NoMemory`.
+/// - The file cannot be written: as `Store::put` states.
 fn keep<S: Store>(store: &mut S, path: &str, exit: Exit, bytes: &[u8]) -> Result<(), DiskFault>
     ensures kept { OnOk result (Saves (S.files store.old) (S.files store.new) path.now (written_by exit bytes.now)) }
     ensures held { S.held store.new ≡ S.held store.old }
@@ -36,14 +42,16 @@ fn keep<S: Store>(store: &mut S, path: &str, exit: Exit, bytes: &[u8]) -> Result
 {
     match exit {
         Exit::Ended | Exit::ExecutionError | Exit::Stopped => store.put(path, bytes),
-        // Nothing but want of memory keeps a list from growing.
+        // A list fails to grow only if memory is exhausted.
         Exit::WriteFault => Err(DiskFault::NoMemory),
         _ => Ok(()),
     }
 }
 
-/// Does a job whose output is the file of a path, which is held: where the job is done the file has all that is
-/// written, and else no file has changed. The source may not have failed before.
+/// Locks the file at `path`, executes `job`, and saves its output as that file. The file changes only if the job ran to
+/// an end. No other file changes. `source` must not have failed.
+///
+/// On an error, no file has changed.
 #[tactic(auto, using(crate::proofs::TextLaws::cut_keeps_none))]
 pub(crate) fn into_file<S: Store, I: Source>(
     alloc: Global,
@@ -65,8 +73,10 @@ pub(crate) fn into_file<S: Store, I: Source>(
     Ok(outcome)
 }
 
-/// Does a job whose output is the sink's, or the file of a path where there is one. Neither stream may have failed
-/// before.
+/// Executes `job`. Its output goes to the file at `path` if there is one, which is locked first, and to `sink`
+/// otherwise. `source` and `sink` must not have failed.
+///
+/// On an error, no file has changed, and nothing was written to `sink`.
 fn deliver<S: Store, I: Source, O: Sink>(
     alloc: Global,
     store: &mut S,
@@ -91,23 +101,23 @@ fn deliver<S: Store, I: Source, O: Sink>(
     }
 }
 
-/// What is got of a volume.
+/// The result of reading a file of a volume.
 #[derive(Drop)]
 pub(crate) enum Got {
     /// The bytes of a file, or its text.
     Bytes(Vec<u8>),
-    /// Nothing: the image, or the file, is refused.
+    /// No bytes, because the image or the file was refused. The outcome says why.
     Nothing(Outcome),
 }
 
-/// Whether a job reads a text, and no code file.
+/// Whether a job reads an assembler text. Otherwise it reads a code file.
 fn reads_text(job: &Job) -> bool
     ensures text { result ≡ reads_text job.now }
 {
     matches!(job, Job::Asm(_))
 }
 
-/// The command that gets the text of a file, or its bytes.
+/// Returns the command that reads the file `name`: as text if `is_text`, and as bytes otherwise.
 fn getting(is_text: bool, name: String) -> FileCommand
     ensures order { order_of result ≡ getting is_text (string_bytes name) }
 {
@@ -118,7 +128,8 @@ fn getting(is_text: bool, name: String) -> FileCommand
     }
 }
 
-/// Gets a file of the volume whose image a path holds, its text or its bytes, as `files` does.
+/// Reads the file `name` of the volume whose image is at `path`: as text if `is_text`, and as bytes otherwise. No file
+/// changes.
 fn get_file<S: Store>(
     alloc: Global,
     store: &mut S,
@@ -137,12 +148,15 @@ fn get_file<S: Store>(
     match outcome.exit {
         Exit::Ended => Ok(Got::Bytes(page)),
         Exit::Refused => Ok(Got::Nothing(outcome)),
-        // Nothing but want of memory breaks it off.
+        // Only out of memory stops this job early.
         _ => Err(DiskFault::NoMemory),
     }
 }
 
-/// Does a job on bytes.
+/// Executes `job` on `bytes`. Its output goes to the file at `path` if there is one, which is locked first, and to
+/// `sink` otherwise. `sink` must not have failed.
+///
+/// On an error, no file has changed, and nothing was written to `sink`.
 fn deliver_bytes<S: Store, O: Sink>(
     alloc: Global,
     store: &mut S,
@@ -165,12 +179,21 @@ fn deliver_bytes<S: Store, O: Sink>(
     deliver(alloc, store, &mut source, sink, path, job)
 }
 
-/// Does a job on standard input, on a file in its place, or on a file of a volume, its text or its bytes as the job
-/// reads; and with a file in the place of the sink, where there is one, which is held. Where the job ends well, and a
-/// file is in the place of the sink, it has all that is written, and no other file has changed; else none has, nor
-/// where one cannot be read, held or written. Neither stream may have failed before. What is written is what is said of
-/// the bytes that are read; where the file of a volume is refused, that is answered, and nothing is held or written. Of
-/// a stream in whose place a file stands nothing is read, and nothing is written to it.
+/// Executes a job on an assembler text or a code file. `source` and `sink` must not have failed.
+///
+/// The input is one of three, as `files.input` states:
+///
+/// - `source`;
+/// - a file, and `source` is not read;
+/// - a file of a volume, and `source` is not read. The job determines whether it is read as text or as bytes.
+///
+/// The output goes to `sink`, or to the file `files.output` if there is one. That file is locked, and nothing is
+/// written to `sink`. It contains the whole output if the job ends well. No other file changes. If the job is cut short
+/// by a stream failure or out of memory, no file changes.
+///
+/// If the file of a volume is refused, the outcome of that refusal is returned, and nothing is locked or written.
+///
+/// On an error, a file could not be read, locked or written. No file has changed, and nothing was written to `sink`.
 pub fn do_text<S: Store, I: Source, O: Sink>(
     alloc: Global,
     store: &mut S,

@@ -2,13 +2,13 @@
 //! and calls no stream again. A helper that runs out of memory ends the test.
 ghost use Rattle.std.specs.Prelude.{◌≡◌, length, sum};
 
-use crate::streams::raw;
-use test_parts::programs::{ADDITION, ADDITION_TRACE, ECHO, EXITS, LETTERS};
 use crate::recorder::{Call, Kind, Manner, Recorded, recorded_run};
+use crate::streams::raw;
 use pm_tool::{Job, Saving, Selection};
 use pm_volume::Volume;
 use std::alloc::Global;
 use std::process::Abort;
+use test_parts::programs::{ADDITION, ADDITION_TRACE, ECHO, EXITS, LETTERS};
 
 /// The trace of the program that leaves a segment by EXIT from another one.
 const EXITS_TRACE: &str = "\

@@ -1,9 +1,9 @@
 //! Streams that fail at each of their calls in turn.
 use crate::streams::{Full, ShortReader, ShortWriter, raw};
-use test_parts::programs::{ADDITION, ADDITION_TRACE};
 use pm_tool::{Outcome, Reader, Sink, Source, Writer, run};
 use std::alloc::Global;
 use std::process::Abort;
+use test_parts::programs::{ADDITION, ADDITION_TRACE};
 
 /// The result of a run of the addition: its outcome, whether its input and its output failed, and what it wrote.
 #[derive(Drop)]

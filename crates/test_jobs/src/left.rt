@@ -4,11 +4,11 @@ ghost use Rattle.std.specs.Prelude.{◌≡◌, length, sum};
 
 use crate::jobs::{Told, job_run, tells};
 use crate::streams::raw;
-use test_parts::programs::{ADDITION, ADDITION_TRACE, ECHO, LETTERS};
 use pm_filer::FileCommand;
 use pm_tool::{AsmOutput, DisOutput, Job, Saving};
 use std::alloc::Global;
 use std::process::Abort;
+use test_parts::programs::{ADDITION, ADDITION_TRACE, ECHO, LETTERS};
 
 fn text(rt: &impl Abort, alloc: Global, text: &str) -> String {
     String::from_str(alloc, text).expect(rt, "memory")

@@ -1,7 +1,7 @@
 //! When output is written. No clause can state it, because a sink has no information about steps.
 use crate::broken::{COMMANDS, Tried, image};
-use crate::streams::raw;
 use crate::recorder::{Call, Kind, Manner, Recorded, recorded_run};
+use crate::streams::raw;
 use pm_tool::{Job, Saving};
 use std::alloc::Global;
 use std::process::Abort;

@@ -5,22 +5,24 @@ ghost use Rattle.pm_words.specs.Errors.{number_of};
 
 use thiserror::Error;
 
-/// An execution error: it stops the machine, which stands as before the instruction. The numbers 0,
-/// 5, 8, 12 and 15 of the system (system error, integer overflow, user break, floating point, bad
-/// block) never arise.
+/// An execution error. It stops the machine in the state before the instruction.
+///
+/// The numbers 0, 5, 8, 12 and 15 of the p-System (system error, integer overflow, user break, floating point, bad
+/// block) do not occur.
 #[derive(Clone, Copy, Debug, Drop, Error, PartialEq, Eq)]
 pub enum ExecError {
     /// 1: an index or a member outside its bounds.
     #[error("invalid index")]
     InvalidIndex,
-    /// 2: a segment, a procedure or a static link that is not there, a table at an odd address or
-    /// with an odd size, a wrong level, or a bad code file.
+    /// 2: a segment, a procedure or a static link does not exist; a table has an odd address or an odd size; a level
+    /// is wrong; or a code file is invalid.
     #[error("no segment or bad code file")]
     NoSegment,
     /// 3: EXIT from a procedure that is not active.
     #[error("procedure not present at exit time")]
     NoProcedure,
-    /// 4: SP would be below NP, a segment has no room, or is called for a 65,536th time.
+    /// 4: SP would be below NP; a segment does not fit into memory; or a segment has 65,535 calls in progress and is
+    /// called again.
     #[error("stack overflow")]
     StackOverflow,
     /// 6: a division by zero.
@@ -38,7 +40,7 @@ pub enum ExecError {
     /// 11: an opcode or a procedure that this machine does not have.
     #[error("unimplemented instruction")]
     Unimplemented,
-    /// 13: a string longer than its place.
+    /// 13: a string is longer than the variable that it is assigned to.
     #[error("string too long")]
     StringTooLong,
     /// 14: the program halted.

@@ -1,0 +1,4 @@
+pub mod Names
+pub mod Contents
+pub mod Folder
+pub mod Worked

@@ -7,7 +7,7 @@ use crate::fault::DiskFault;
 use crate::host::{Host, Kind, Node};
 use crate::image::{fault_of_open, read_file};
 use crate::place::by_number;
-use crate::replacing::make_there;
+use crate::replacing::{ORDINARY, fill, remove_own};
 use std::alloc::{AllocError, Global};
 use std::fs;
 use std::fs::{File, OpenOptions};
@@ -46,6 +46,8 @@ pub trait Folder {
 struct Opened<F> {
     /// The folder. While it is open, its number leads to it, even if it is moved or replaced.
     folder: F,
+    /// What the folder is.
+    node: Node,
     /// The path of the folder by its number.
     path: String,
 }
@@ -68,6 +70,8 @@ fn joined(alloc: Global, folder: &str, name: &str) -> Result<String, DiskFault> 
 /// Returns the folder at a path, opened. `Replaced` if a link or another file is at the path by then, or if the system
 /// has no paths by number.
 fn open_folder<R: Host + AllocGlobal>(rt: &R, path: &str) -> Result<Opened<R::File>, DiskFault> {
+    // With a slash at its end, a path would lead through a link.
+    let path = path.trim_end_matches('/');
     // A pipe at this path would block; with a full stop after it, it is refused.
     let inside = joined(rt.alloc(), path, ".")?;
     let folder = File::open(rt, inside.as_str()).map_err(DiskFault::of_read)?;
@@ -77,9 +81,26 @@ fn open_folder<R: Host + AllocGlobal>(rt: &R, path: &str) -> Result<Opened<R::Fi
         return Err(DiskFault::Replaced);
     }
     match by_number(rt, &folder)? {
-        Some(path) => Ok(Opened { folder, path }),
+        Some(path) => Ok(Opened { folder, node, path }),
         None => Err(DiskFault::Replaced),
     }
+}
+
+/// Creates a file of a folder, with its contents. `Replaced` if the file has another owner than the folder: then the
+/// folder is another user's, who put it in the place of the new one. The file is removed after an error.
+fn add_file<R: Host>(rt: &R, folder: Node, path: &str, bytes: &[u8]) -> Result<(), DiskFault> {
+    let mut file = rt.make(path, ORDINARY).map_err(DiskFault::of_write)?;
+    let done = match rt.node(&file) {
+        Ok(node) if node.owner == folder.owner => fill(&mut file, bytes).map_err(
+            DiskFault::of_write,
+        ),
+        Ok(_) => Err(DiskFault::Replaced),
+        Err(error) => Err(DiskFault::of_write(error)),
+    };
+    if done.is_err() {
+        remove_own(rt, path, &file);
+    }
+    done
 }
 
 /// Opens a regular file to read it, without waiting. A pipe that is put at its path is not waited for if the file may
@@ -113,14 +134,6 @@ impl<'a, R: Host + AllocGlobal> HostFolder<'a, R> {
     pub fn new(rt: &'a R) -> HostFolder<'a, R> {
         HostFolder { rt, opened: None }
     }
-
-    /// Returns the path of a file of the folder.
-    fn path_of(&self, name: &str) -> Result<String, DiskFault> {
-        match &self.opened {
-            Some(opened) => joined(self.rt.alloc(), opened.path.as_str(), name),
-            None => Err(DiskFault::Read(ErrorKind::NotFound)),
-        }
-    }
 }
 
 impl<R: Host + AllocGlobal> Folder for HostFolder<'_, R> {
@@ -138,12 +151,18 @@ impl<R: Host + AllocGlobal> Folder for HostFolder<'_, R> {
     }
 
     fn add(&mut self, name: &str, bytes: &[u8]) -> Result<(), DiskFault> {
-        let path = self.path_of(name)?;
-        make_there(self.rt, path.as_str(), bytes)
+        let Some(opened) = &self.opened else {
+            return Err(DiskFault::Write(ErrorKind::NotFound));
+        };
+        let path = joined(self.rt.alloc(), opened.path.as_str(), name)?;
+        add_file(self.rt, opened.node, path.as_str(), bytes)
     }
 
     fn read(&mut self, alloc: Global, name: &str) -> Result<Vec<u8>, DiskFault> {
-        let path = self.path_of(name)?;
+        let Some(opened) = &self.opened else {
+            return Err(DiskFault::Read(ErrorKind::NotFound));
+        };
+        let path = joined(self.rt.alloc(), opened.path.as_str(), name)?;
         let mut file = regular(self.rt, path.as_str())?;
         read_file(alloc, &mut file)
     }

@@ -14,7 +14,7 @@ use std::{fs, io};
 const PRIVATE: u32 = 0o600;
 
 /// The mode of a new file that replaces none. The system removes the bits of the umask from it.
-const ORDINARY: u32 = 0o666;
+pub(crate) const ORDINARY: u32 = 0o666;
 
 /// The bit in the mode of a directory that prevents users from removing files of others.
 const STICKY: u32 = 0o1000;
@@ -164,7 +164,7 @@ fn dress<R: Host>(rt: &R, file: &R::File, old: Option<Node>) -> io::Result<()> {
 }
 
 /// Writes the bytes of a new file to the disk.
-fn fill<F: Write + OpenFile>(file: &mut F, bytes: &[u8]) -> io::Result<()> {
+pub(crate) fn fill<F: Write + OpenFile>(file: &mut F, bytes: &[u8]) -> io::Result<()> {
     file.write_all(bytes)?;
     file.sync_all()
 }
@@ -258,7 +258,7 @@ fn take_place<R: Host>(
 }
 
 /// Removes a file that this program created, if `path` still names it.
-fn remove_own<R: Host>(rt: &R, path: &str, file: &R::File) {
+pub(crate) fn remove_own<R: Host>(rt: &R, path: &str, file: &R::File) {
     if let (Ok(own), Ok(Some(now))) = (rt.node(file), rt.node_at(path, false)) {
         if now.is(own) {
             let _ = fs::remove_file(rt, path);
@@ -312,7 +312,7 @@ fn put_beside<R: Host>(
 }
 
 /// Creates a file with `bytes` at its own path, without a temporary file.
-pub(crate) fn make_there<R: Host>(rt: &R, path: &str, bytes: &[u8]) -> Result<(), DiskFault> {
+fn make_there<R: Host>(rt: &R, path: &str, bytes: &[u8]) -> Result<(), DiskFault> {
     let mut file = rt.make(path, ORDINARY).map_err(DiskFault::of_write)?;
     let done = fill(&mut file, bytes);
     if done.is_err() {

@@ -1,0 +1,113 @@
+//! The files of a volume, written to a folder.
+ghost use Rattle.std.specs.Prelude.{◌≡◌, ◌++◌, ◌∷◌, [], IfOk, OnErr, OnOk, codes, map, string_bytes};
+ghost use Rattle.pm_export.specs.Exported.{Adds, AddsOne, AddsSome, FillsFolder, IsBrokenOff, names_of};
+ghost use Rattle.pm_folder.specs.Folder.{folder_of, seen};
+
+use pm_files::{DiskFault, Folder};
+use pm_folder::{Ends, FolderFile, Wanted, first_line, folder_of};
+use pm_volume::Volume;
+use std::alloc::Global;
+
+/// The name of the list of the files in a folder.
+const LIST: &str = "LIST";
+
+/// A file of a folder that could not be written.
+#[derive(Drop)]
+pub struct Unwritten {
+    /// The file's name in the folder.
+    pub host: String,
+    /// Why it could not be written.
+    pub fault: DiskFault,
+}
+
+/// Appends a file that could not be written.
+fn push_unwritten(
+    alloc: Global,
+    unwritten: &mut Vec<Unwritten>,
+    host: &str,
+    fault: DiskFault,
+) -> Result<(), DiskFault>
+    ensures named { OnOk result (names_of unwritten.new.items ≡ names_of unwritten.old.items ++ host.now ∷ []) }
+{
+    let host = String::from_str(alloc, host)?;
+    match unwritten.push(Unwritten { host, fault }) {
+        Ok(()) => Ok(()),
+        Err(_) => Err(DiskFault::NoMemory),
+    }
+}
+
+/// Adds files to a folder. Appends the lines of those that were added to `list`, and the others to `unwritten`.
+#[tactic(auto, using(crate::proofs::AddedFiles::adds_none))]
+fn add_files<F: Folder>(
+    alloc: Global,
+    folder: &mut F,
+    files: &[FolderFile],
+    list: &mut String,
+    unwritten: &mut Vec<Unwritten>,
+) -> Result<(), DiskFault>
+    ensures adds { OnOk result (Adds (F.files folder.old) (F.files folder.new) (map seen files.now)
+        (string_bytes list.old) (string_bytes list.new) (names_of unwritten.old.items)
+        (names_of unwritten.new.items)) }
+    ensures some { OnErr result (AddsSome (F.files folder.old) (F.files folder.new) (map seen files.now)) }
+{
+    match files {
+        [] => Ok(()),
+        [file, more @ ..] => {
+            match folder.add(file.host.as_str(), &file.contents) {
+                Ok(()) => list.push_str(file.line.as_str())?,
+                Err(fault) => push_unwritten(alloc, unwritten, file.host.as_str(), fault)?,
+            }
+            add_files(alloc, folder, more, list, unwritten)
+        }
+    }
+}
+
+/// Adds the list to a folder, or appends it to `unwritten`.
+fn add_list<F: Folder>(
+    alloc: Global,
+    folder: &mut F,
+    list: &str,
+    unwritten: &mut Vec<Unwritten>,
+) -> Result<(), DiskFault>
+    ensures adds { OnOk result (AddsOne (F.files folder.old) (F.files folder.new) (codes "LIST") list.now
+        (names_of unwritten.old.items) (names_of unwritten.new.items)) }
+    ensures unchanged { OnErr result (F.files folder.new ≡ F.files folder.old) }
+{
+    match folder.add(LIST, list.as_bytes()) {
+        Ok(()) => Ok(()),
+        Err(fault) => push_unwritten(alloc, unwritten, LIST, fault),
+    }
+}
+
+/// Creates a folder, and writes the files of a volume to it, and then the list of those that were written. Returns
+/// those that could not be written, in order. Each file is written whole, or does not exist.
+///
+/// With `text`, files of kind text that have a header are written as plain text with these line ends. Memory for the
+/// files is requested before the folder is created.
+///
+/// # Errors
+///
+/// - `NoMemory`: the folder, if it was created, has some of the files.
+/// - The fault of creating the folder. There is no new folder then, or an empty one.
+#[tactic(auto, using(crate::proofs::AddedFiles::adds_none, crate::proofs::AddedFiles::adds_some))]
+pub fn export<F: Folder>(
+    alloc: Global,
+    folder: &mut F,
+    volume: &Volume,
+    path: &str,
+    text: Option<Ends>,
+    wanted: &Wanted,
+) -> Result<Vec<Unwritten>, DiskFault>
+    ensures filled { IfOk result (λ unwritten. FillsFolder (F.files folder.new) volume.now
+        (folder_of text wanted.now volume.now) (names_of unwritten.items)) }
+    ensures broken { OnErr result (IsBrokenOff (F.files folder.old) (F.files folder.new)
+        (folder_of text wanted.now volume.now)) }
+{
+    let files = folder_of(alloc, volume, text, wanted)?;
+    let mut list = first_line(alloc, volume)?;
+    let mut unwritten = Vec::new(alloc);
+    folder.create(path)?;
+    add_files(alloc, folder, &files, &mut list, &mut unwritten)?;
+    add_list(alloc, folder, list.as_str(), &mut unwritten)?;
+    Ok(unwritten)
+}

@@ -21,6 +21,10 @@ use Rattle.pm_jobs.specs.declared.saving.Saving.TheVariants as savings
 use Rattle.pm_jobs.specs.declared.selection.Code.{Code}
 use Rattle.pm_jobs.specs.declared.selection.Code.TheVariants as code
 use Rattle.pm_jobs.specs.declared.selection.Selection.{Selection}
+use Rattle.pm_folder.specs.declared.folder.Wanted.{Wanted}
+use Rattle.pm_folder.specs.declared.folder.Wanted.TheVariants as wanted
+use Rattle.pm_plan.specs.FolderWords.{IsText}
+use Rattle.pm_plan.specs.declared.folder_words.ExportPlan.{ExportPlan}
 use Rattle.pm_plan.specs.declared.file_words.FilesPlan.{FilesPlan}
 use Rattle.pm_plan.specs.declared.file_words.SalvagePlan.{SalvagePlan}
 use Rattle.pm_plan.specs.declared.file_words.Verb.{Verb}
@@ -241,6 +245,22 @@ AsksSalvage m plan = (rows : List Row) × (subcommand_rows_of m ≡ Some (codes 
     × (word_found rows (codes "NEWPATH") ≡ Some (string_bytes plan.target))
     × IsFlag (one_of (codes "second") rows) plan.second
 
+-- Which files are exported: all, those that match a pattern, or that of a slot.
+abbrev pub AsksWanted : List Row → Wanted → Type 0
+AsksWanted rows wanted.All = (word_found rows (codes "only") ≡ None) × (word_found rows (codes "slot") ≡ None)
+AsksWanted rows (wanted.Matching pattern) =
+    (word_found rows (codes "only") ≡ Some (string_bytes pattern)) × (word_found rows (codes "slot") ≡ None)
+AsksWanted rows (wanted.Slot slot) =
+    (word_found rows (codes "only") ≡ None) × IsSpelled (word_found rows (codes "slot")) slot
+
+-- The words of files with the verb export, which name a new folder too.
+abbrev pub AsksExport : ArgMatches → ExportPlan → Type 0
+AsksExport m plan = (rows : List Row) × (subcommand_rows_of m ≡ Some (codes "export", rows))
+    × IsPath (word_found (words_of m) (codes "image")) (word_found rows (codes "image")) (string_bytes plan.path)
+    × (word_found rows (codes "FOLDER") ≡ Some (string_bytes plan.folder))
+    × IsText (is_set (word_found rows (codes "text"))) (word_found rows (codes "ends")) plan.text
+    × AsksWanted rows plan.wanted
+
 -- ---- lines of a trace
 
 -- The first step whose line is shown. The default is 0: all steps.
@@ -337,6 +357,7 @@ Asks command m (plans.Trace program selection output) =
 Asks command m (plans.Debug program typed) = (command ≡ codes "debug") × AsksProgram (words_of m) program
     × (word_found (words_of m) (codes "input") ≡ option_map string_bytes typed)
 Asks command m (plans.Salvage plan) = (command ≡ codes "files") × AsksSalvage m plan
+Asks command m (plans.Export plan) = (command ≡ codes "files") × AsksExport m plan
 
 -- The command among all arguments, and the arguments found for it.
 abbrev pub IsCommand : ArgMatches → List ℕ → ArgMatches → Type 0

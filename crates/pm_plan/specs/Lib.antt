@@ -1,4 +1,5 @@
 pub mod Asked
+pub mod FolderWords
 pub mod Forms
 pub mod InForm
 pub mod Needed

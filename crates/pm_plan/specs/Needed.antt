@@ -8,6 +8,7 @@ use Rattle.clap.specs.Words.{Row, subcommand_rows_of}
 use Rattle.clap.specs.declared.parser.matches.ArgMatches.{ArgMatches}
 use Rattle.pm_plan.specs.Asked.{IsCommand, IsKind, IsLimitWord, IsNumberUpTo, IsNumberWord, IsRunLimitWord, is_set}
 use Rattle.pm_plan.specs.Asked.{word_below, word_found, words_of}
+use Rattle.pm_plan.specs.FolderWords.{IsGoodText}
 use Rattle.pm_plan.specs.Forms.{IsFormWord}
 use Rattle.pm_plan.specs.declared.words.WordsError.{WordsError}
 use Rattle.pm_plan.specs.declared.words.WordsError.TheVariants as errors
@@ -244,10 +245,10 @@ AreGoodBefore rows (Some behind) =
     IsOnePath (word_found rows (codes "image")) (word_found behind.1 (codes "image"))
     × IsOptional (word_found behind.1 (codes "output")) × MeetAll behind.1 (verb_needs behind.0)
 
--- Whether a verb is salvage.
-abbrev pub is_salvage : Option (List ℕ × List Row) → Bool
-is_salvage None = false
-is_salvage (Some behind) = bytes_eq behind.0 (codes "salvage")
+-- Whether the verb has this name.
+abbrev pub is_verb : List ℕ → Option (List ℕ × List Row) → Bool
+is_verb name None = false
+is_verb name (Some after) = bytes_eq after.0 name
 
 -- The arguments before `salvage`, the verb and the arguments after it are valid. They specify the new volume.
 abbrev pub IsGoodSalvage : List Row → Option (List ℕ × List Row) → Type 0
@@ -256,9 +257,25 @@ IsGoodSalvage rows (Some behind) = (behind.0 ≡ codes "salvage")
     × IsOnePath (word_found rows (codes "image")) (word_found behind.1 (codes "image"))
     × IsThere (word_found behind.1 (codes "NEWPATH"))
 
+-- A pattern and a slot are not both given, and a slot is a number.
+abbrev pub IsGoodWanted : Option (List ℕ) → Option (List ℕ) → Type 0
+IsGoodWanted None slot = IsSlotWord slot
+IsGoodWanted (Some pattern) None = ⊤
+IsGoodWanted (Some pattern) (Some slot) = ⊥
+
+-- The words before the verb export, the verb, and the words after it are accepted.
+abbrev pub IsGoodExport : List Row → Option (List ℕ × List Row) → Type 0
+IsGoodExport rows None = ⊥
+IsGoodExport rows (Some after) = (after.0 ≡ codes "export")
+    × IsOnePath (word_found rows (codes "image")) (word_found after.1 (codes "image"))
+    × IsThere (word_found after.1 (codes "FOLDER"))
+    × IsGoodText (is_set (word_found after.1 (codes "text"))) (word_found after.1 (codes "ends"))
+    × IsGoodWanted (word_found after.1 (codes "only")) (word_found after.1 (codes "slot"))
+
 -- The arguments of `files` are valid for its verb.
 abbrev pub AreGoodFiles : List Row → Option (List ℕ × List Row) → Type 0
-AreGoodFiles rows behind = MatchBool (is_salvage behind) (IsGoodSalvage rows behind) (AreGoodBefore rows behind)
+AreGoodFiles rows after = MatchBool (is_verb (codes "salvage") after) (IsGoodSalvage rows after)
+    (MatchBool (is_verb (codes "export") after) (IsGoodExport rows after) (AreGoodBefore rows after))
 
 -- The arguments of a command are valid.
 abbrev pub AreGood : List ℕ → ArgMatches → Type 0

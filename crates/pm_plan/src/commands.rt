@@ -189,6 +189,35 @@ const VERBS: &[CommandRow] = &[
         &[IMAGE, FORM, FILE],
     ),
     (
+        "export",
+        "Copy the files to a new folder, with a list of them in the file LIST",
+        &[
+            IMAGE,
+            FORM,
+            (
+                "FOLDER",
+                Form::Word,
+                "Folder to create, which must not exist",
+            ),
+            (
+                "text",
+                Form::Flag,
+                "Write text files as plain text, as gettext prints it",
+            ),
+            (
+                "ends",
+                Form::Free("ENDS"),
+                "Line ends of plain text: lf, crlf or cr; requires --text [default: lf]",
+            ),
+            (
+                "only",
+                Form::Free("PATTERN"),
+                "Copy only the files whose names match PATTERN; = matches any characters",
+            ),
+            SLOT,
+        ],
+    ),
+    (
         "krunch",
         "Move the files together; bad blocks are not moved, and gaps may remain between them",
         &[IMAGE, FORM],
@@ -247,7 +276,7 @@ const VERBS: &[CommandRow] = &[
             (
                 "NEW",
                 Form::Unless("slot"),
-                "New name; cannot be used with --slot",
+                "New name; with --slot, write only the new name: change --slot N NEW",
             ),
             SLOT,
         ],
@@ -266,7 +295,7 @@ const VERBS: &[CommandRow] = &[
             (
                 "KIND",
                 Form::Unless("slot"),
-                "New kind: its name as in the list, or a number from 0 to 15; cannot be used with --slot",
+                "New kind: its name as in the list, or 0 to 15; with --slot, write only the kind: kind --slot N KIND",
             ),
             SLOT,
         ],
@@ -324,7 +353,7 @@ const VERBS: &[CommandRow] = &[
             (
                 "NEWPATH",
                 Form::Word,
-                "File for the new volume, which must not exist",
+                "File for the new volume, which must not exist; a path that ends with / is a new folder for its files",
             ),
             (
                 "second",
@@ -427,7 +456,7 @@ const DEBUG: CommandRow = (
 const NAMES: WordRow = (
     "names",
     Form::Flag,
-    "Add comments to lines: the names of what they call, and what is not p-code",
+    "Add comments to lines: which procedure they call, the kind of a segment, and which code is not p-code",
 );
 
 const OWN_LISTING: WordRow = (

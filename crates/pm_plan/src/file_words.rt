@@ -7,7 +7,7 @@ ghost use Rattle.pm_plan.specs.Asked.{AsksEither, AsksFiles, AsksSalvage, AsksVe
 ghost use Rattle.pm_plan.specs.Asked.{IsNumberWord, IsPath, IsSpelled};
 ghost use Rattle.pm_plan.specs.Asked.{word_found, words_of};
 ghost use Rattle.pm_plan.specs.Needed.{AreGoodBefore, IsGoodSalvage, IsKindWord, IsThere, IsWrong, MeetAll};
-ghost use Rattle.pm_plan.specs.Needed.{IsNameOrSlot, IsSlotWord, is_salvage, verb_needs};
+ghost use Rattle.pm_plan.specs.Needed.{IsNameOrSlot, IsSlotWord, is_verb, verb_needs};
 ghost use Rattle.pm_plan.specs.declared.words.WordsError.TheVariants.{NoCommand, NoMemory};
 
 use crate::words::{DATE, WordsError, flag, found, given, is_set, needed, number};
@@ -307,7 +307,7 @@ fn set_kind(alloc: Global, matches: &ArgMatches<'_>) -> Result<Verb, WordsError>
 }
 
 /// Returns the slot if it is given. `Wrong` if it is no decimal number up to 65,535.
-fn slot_of(matches: &ArgMatches<'_>) -> Result<Option<u16>, WordsError>
+pub(crate) fn slot_of(matches: &ArgMatches<'_>) -> Result<Option<u16>, WordsError>
     ensures value { IfOk result (λ slot. IsSlot (word_found (words_of matches.now) (codes "slot")) slot) }
     ensures accepted { IsOk result ↔ IsSlotWord (word_found (words_of matches.now) (codes "slot")) }
     ensures refusal { IfErr result IsWrong }
@@ -367,7 +367,7 @@ fn verb_of(alloc: Global, verb: &str, words: &ArgMatches<'_>) -> Result<Verb, Wo
 
 /// Returns the path of the image, which is given before the verb or after it. `Wrong` if it is given at neither
 /// position, or at both.
-fn path_of(before: Option<String>, behind: Option<String>) -> Result<String, WordsError>
+pub(crate) fn path_of(before: Option<String>, behind: Option<String>) -> Result<String, WordsError>
     ensures path { IfOk result (λ path. IsPath (option_map string_bytes before) (option_map string_bytes behind)
         (string_bytes path)) }
     ensures one { IsOk result ↔ (is_some before ≢ is_some behind) }
@@ -409,12 +409,12 @@ pub fn files_plan(alloc: Global, matches: &ArgMatches<'_>) -> Result<FilesPlan, 
     Ok(FilesPlan { path, verb, output })
 }
 
-/// Whether the verb of `files` is `salvage`, which has arguments of its own.
-pub fn is_salvage(matches: &ArgMatches<'_>) -> bool
-    ensures value { result ≡ is_salvage (subcommand_rows_of matches.now) }
+/// Whether the verb of `files` has this name.
+pub fn is_verb(matches: &ArgMatches<'_>, name: &str) -> bool
+    ensures value { result ≡ is_verb name.now (subcommand_rows_of matches.now) }
 {
     match matches.subcommand() {
-        Some((verb, _)) => verb == "salvage",
+        Some((verb, _)) => verb == name,
         None => false,
     }
 }

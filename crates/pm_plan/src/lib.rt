@@ -3,6 +3,7 @@
 
 mod commands;
 mod file_words;
+mod folder_words;
 mod form;
 mod in_form;
 mod run_words;
@@ -12,6 +13,7 @@ mod words;
 pub mod worked;
 
 pub use file_words::{FilesPlan, SalvagePlan, Verb};
+pub use folder_words::ExportPlan;
 pub use form::Form;
 pub use in_form::InForm;
 pub use pm_check::Order;

@@ -9,7 +9,8 @@ ghost use Rattle.pm_plan.specs.Needed.{AreAllGood, AreGood, IsOptional, IsWrong,
 ghost use Rattle.pm_plan.specs.declared.words.WordsError.TheVariants.{NoCommand, NoMemory, NoValue};
 
 use crate::commands::all_commands;
-use crate::file_words::{FilesPlan, SalvagePlan, files_plan, is_salvage, salvage_plan};
+use crate::file_words::{FilesPlan, SalvagePlan, files_plan, is_verb, salvage_plan};
+use crate::folder_words::{ExportPlan, export_plan};
 use crate::form::{Form, form_asked};
 use crate::run_words::{Program, RunChoices, choices_of, program_of};
 use crate::text_words::{TextFiles, text_files};
@@ -50,6 +51,8 @@ pub enum Plan {
     Debug(Program, Option<String>),
     /// Saves the files of an image in a new volume.
     Salvage(SalvagePlan),
+    /// The files of a volume that are written to a new folder.
+    Export(ExportPlan),
 }
 
 /// The job, and the form of its images.
@@ -227,8 +230,10 @@ fn files_asked(alloc: Global, matches: &ArgMatches<'_>) -> Result<Plan, WordsErr
     ensures good { IsOk result → AreGood (codes "files") matches.now }
     ensures taken { AreGood (codes "files") matches.now → IsOkUnless result NoMemory }
 {
-    if is_salvage(matches) {
+    if is_verb(matches, "salvage") {
         Ok(Plan::Salvage(salvage_plan(alloc, matches)?))
+    } else if is_verb(matches, "export") {
+        Ok(Plan::Export(export_plan(alloc, matches)?))
     } else {
         Ok(Plan::Files(files_plan(alloc, matches)?))
     }
@@ -404,6 +409,7 @@ fn command_for(word: &str) -> Option<&'static str> {
         | "single"
         | "repair"
         | "check"
+        | "export"
         | "salvage" => {
             Some(
                 "this is a verb of 'pmach files', which is used as in: pmach files --image IMAGE list",

@@ -1,2 +1,3 @@
+mod FolderLaws
 mod SavedLaws
 mod TextLaws

@@ -2,3 +2,4 @@ pub mod Saved
 pub mod Texts
 pub mod Conflicts
 pub mod Got
+pub mod Exported

@@ -1,6 +1,7 @@
 //! Standard input and output on a terminal.
 ghost use Rattle.std.specs.Io.{ReadsAtMost, WritesAtMost};
 
+use std::alloc::Global;
 use std::io;
 use std::io::{Read, Write};
 
@@ -119,7 +120,12 @@ pub enum Lines {
     TextAlone,
     /// It writes `?` for each control character that is not a tab, a line feed or a carriage return.
     Shown,
+    /// It collects them, and writes 65,536 of them at a time.
+    Paged,
 }
+
+/// How many bytes are collected before they are written.
+const PAGE: usize = 65536;
 
 /// Why a writer failed, if that is known.
 #[derive(Clone, Copy, PartialEq, Eq)]
@@ -149,17 +155,58 @@ pub struct Lined<W> {
     lines: Lines,
     begun: bool,
     failed: Option<Failed>,
+    /// The bytes that were collected, and are not written yet. It has memory for a page, or for none.
+    page: Vec<u8>,
 }
 
 impl<W: Write> Lined<W> {
-    /// Returns a writer that treats the bytes as `lines` states.
-    pub fn new(inner: W, lines: Lines) -> Lined<W> {
+    /// Returns a writer that treats the bytes as `lines` states. If memory for a page is refused, it collects none.
+    pub fn new(alloc: Global, inner: W, lines: Lines) -> Lined<W> {
+        let page = match lines {
+            Lines::Paged => Vec::with_capacity(alloc, PAGE).unwrap_or(Vec::new(alloc)),
+            _ => Vec::new(alloc),
+        };
         Lined {
             inner,
             lines,
             begun: false,
             failed: None,
+            page,
         }
+    }
+
+    /// Writes the bytes that were collected.
+    pub fn finish(&mut self) -> io::Result<()> {
+        if self.page.is_empty() {
+            return Ok(());
+        }
+        let written = self.inner.write_all(&self.page);
+        self.page.clear();
+        self.note(&written);
+        written
+    }
+
+    /// Notes why a write failed.
+    fn note<T>(&mut self, written: &io::Result<T>) {
+        if let Err(error) = written {
+            if error.kind() == io::ErrorKind::BrokenPipe {
+                self.failed = Some(Failed::Closed);
+            }
+        }
+    }
+
+    /// Collects bytes, and writes those that were collected first if there is no more memory for them.
+    fn write_paged(&mut self, buf: &[u8]) -> io::Result<usize>
+        ensures bound { WritesAtMost result buf.now }
+    {
+        if buf.len() > self.page.capacity() - self.page.len() {
+            self.inner.write_all(&self.page)?;
+            self.page.clear();
+        }
+        if buf.len() > self.page.capacity() || self.page.extend_from_slice(buf).is_err() {
+            return self.inner.write(buf);
+        }
+        Ok(buf.len())
     }
 
     /// Returns why the writer failed, if that is known.
@@ -193,6 +240,7 @@ impl<W: Write> Lined<W> {
             Lines::Added => self.write_lines(buf),
             Lines::TextAlone => self.write_text(buf),
             Lines::Shown => self.write_shown(buf),
+            Lines::Paged => self.write_paged(buf),
         }
     }
 
@@ -228,21 +276,15 @@ impl<W: Write> Lined<W> {
 
 impl<W: Write> Write for Lined<W> {
     fn write(&mut self, buf: &[u8]) -> io::Result<usize> {
-        match self.write_some(buf) {
-            Ok(count) => {
-                if let Some(last) = buf[..count].last() {
-                    let ends = self.lines == Lines::Added && *last == b'\r';
-                    self.begun = *last != b'\n' && !ends;
-                }
-                Ok(count)
-            }
-            Err(error) => {
-                if error.kind() == io::ErrorKind::BrokenPipe {
-                    self.failed = Some(Failed::Closed);
-                }
-                Err(error)
+        let written = self.write_some(buf);
+        self.note(&written);
+        if let Ok(count) = written {
+            if let Some(last) = buf[..count].last() {
+                let ends = self.lines == Lines::Added && *last == b'\r';
+                self.begun = *last != b'\n' && !ends;
             }
         }
+        written
     }
 
     fn flush(&mut self) -> io::Result<()> {

@@ -1,4 +1,5 @@
 //! The end of the program: its exit status and its message.
+use pm_export::Unwritten;
 use pm_files::DiskFault;
 use pm_tool::{Exit, Outcome};
 
@@ -17,6 +18,8 @@ pub enum Conflict {
     FileInTheWay,
     /// The file for a new volume exists.
     TargetIsThere,
+    /// The folder for the files of a volume exists.
+    FolderIsThere,
     /// The output would overwrite a file that is read.
     OutputIsInput,
     /// Binary data would be written to a terminal.
@@ -37,6 +40,8 @@ impl Conflict {
                 "error: one file is the temporary file (PATH.pmach-new) of another, and would be deleted; rename it",
             Conflict::TargetIsThere =>
                 "error: the file for the new volume exists; name a file that does not exist",
+            Conflict::FolderIsThere =>
+                "error: the folder for the files exists; name a folder that does not exist",
             Conflict::OutputIsInput =>
                 "error: --output names a file that the command reads; name another file",
             Conflict::BytesOnTerminal =>
@@ -52,6 +57,8 @@ pub enum End {
     Outcome(Outcome, Option<String>),
     /// A file could not be read or written: the reason, and its path if known.
     File(DiskFault, Option<String>),
+    /// A folder was created; these of its files could not be written.
+    Folder(String, Vec<Unwritten>),
     /// The arguments are in conflict.
     Words(Conflict),
 }
@@ -62,6 +69,10 @@ impl End {
         match self {
             End::Outcome(outcome, _) => outcome.exit.number(),
             End::File(fault, _) => Exit::of_fault(fault.fault()).number(),
+            End::Folder(_, unwritten) => match unwritten.first() {
+                Some(first) => Exit::of_fault(first.fault.fault()).number(),
+                None => Exit::Ended.number(),
+            },
             End::Words(_) => Exit::Usage.number(),
         }
     }

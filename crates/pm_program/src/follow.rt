@@ -8,14 +8,17 @@ ghost use Rattle.pm_program.specs.Conflicts.{others_take_away, printer_conflict,
 use crate::about::{Named, about, copy_of, named_in, no_program};
 use crate::console::{END, ESCAPE, Failed, Keys, Lined, Lines, Prompted};
 use crate::end::{Conflict, End};
+use crate::exported::{Exported, SavedFolder, do_export, do_salvage_folder};
 use crate::got::do_get;
 use crate::saved::{Printing, SavedOfRun, do_debug, do_files, do_run, do_salvage, do_trace};
 use crate::texts::do_text;
+use pm_export::Unwritten;
 use pm_filer::FileCommand;
-use pm_files::{DiskFault, Host, HostStore, Store, Stream};
+use pm_files::{DiskFault, Folder, Host, HostFolder, HostStore, Store, Stream};
 use pm_jobs::{AsmOutput, Reader, Saving, Sink, Source, Writer};
 use pm_plan::{
-    Asked, FilesPlan, Form, InForm, Order, Plan, Program, RunChoices, TextFiles, TextInput, Verb,
+    Asked, ExportPlan, FilesPlan, Form, InForm, Order, Plan, Program, RunChoices, SalvagePlan,
+    TextFiles, TextInput, Verb,
 };
 use pm_tool::{Job, Outcome, Refusal};
 use pm_volume::VolumeFault;
@@ -55,6 +58,7 @@ impl Terminals {
             Plan::Asm(AsmOutput::File, _) if self.output => Lines::TextAlone,
             Plan::Files(plan) if self.output && plan.verb.gets() => Lines::TextAlone,
             Plan::Files(plan) if self.output && gets_text(&plan.verb) => Lines::Shown,
+            Plan::Dis(..) if !self.output => Lines::Paged,
             _ => Lines::Plain,
         }
     }
@@ -173,38 +177,90 @@ fn act_on_files<S: Store, I: Source, O: Sink>(
     }
 }
 
-/// Executes the job of a plan on its streams and files.
-fn act<S: Store, I: Source, O: Sink>(
+/// How a plan ended.
+#[derive(Drop)]
+enum Ended {
+    /// A job was done, or refused.
+    Job(Outcome),
+    /// A folder was created; these of its files could not be written.
+    Folder(String, Vec<Unwritten>),
+}
+
+/// Writes the files of a volume to a new folder.
+fn export<S: Store, F: Folder, I: Source, O: Sink>(
     alloc: Global,
     store: &mut S,
+    folder: &mut F,
+    source: &mut I,
+    sink: &mut O,
+    plan: ExportPlan,
+) -> Result<Ended, DiskFault>
+    requires well { AreWell (both (I.seen source.old) (O.seen sink.old)) }
+{
+    match do_export(alloc, store, source, sink, folder, &plan)? {
+        Exported::Refused(outcome) => Ok(Ended::Job(outcome)),
+        Exported::Written(unwritten) => Ok(Ended::Folder(plan.folder, unwritten)),
+    }
+}
+
+/// Whether the path of a new volume asks for a folder.
+fn is_folder(target: &str) -> bool {
+    target.ends_with('/')
+}
+
+/// Saves the files of an image to a new folder.
+fn salvage<S: Store, F: Folder, I: Source, O: Sink>(
+    alloc: Global,
+    store: &mut S,
+    folder: &mut F,
+    source: &mut I,
+    sink: &mut O,
+    plan: SalvagePlan,
+) -> Result<Ended, DiskFault>
+    requires well { AreWell (both (I.seen source.old) (O.seen sink.old)) }
+{
+    let SavedFolder { outcome, unwritten } = do_salvage_folder(
+        alloc, store, source, sink, folder, &plan,
+    )?;
+    match unwritten {
+        Some(files) if !files.is_empty() => Ok(Ended::Folder(plan.target, files)),
+        _ => Ok(Ended::Job(outcome)),
+    }
+}
+
+/// Executes the job of a plan on its streams and files.
+fn act<S: Store, F: Folder, I: Source, O: Sink>(
+    alloc: Global,
+    store: &mut S,
+    folder: &mut F,
     source: &mut I,
     sink: &mut O,
     plan: Plan,
-) -> Result<Outcome, DiskFault>
+) -> Result<Ended, DiskFault>
     requires well { AreWell (both (I.seen source.old) (O.seen sink.old)) }
 {
-    let job = match plan {
-        Plan::Raw { limit, selection } => Job::Raw { limit, selection },
-        Plan::Asm(what, files) => {
-            return do_text(alloc, store, source, sink, files, Job::Asm(what));
+    let outcome = match plan {
+        Plan::Raw { limit, selection } => {
+            pm_tool::run(alloc, source, sink, Job::Raw { limit, selection })
         }
-        Plan::Dis(what, files) => {
-            return do_text(alloc, store, source, sink, files, Job::Dis(what));
-        }
-        Plan::Files(plan) => return act_on_files(alloc, store, source, sink, plan),
+        Plan::Asm(what, files) => do_text(alloc, store, source, sink, files, Job::Asm(what))?,
+        Plan::Dis(what, files) => do_text(alloc, store, source, sink, files, Job::Dis(what))?,
+        Plan::Files(plan) => act_on_files(alloc, store, source, sink, plan)?,
         Plan::Run(program, choices) => {
             let saved = saved_of(store, choices);
-            return do_run(alloc, store, source, sink, program, saved);
+            do_run(alloc, store, source, sink, program, saved)?
         }
         Plan::Trace(program, selection, output) => {
-            return do_trace(alloc, store, source, sink, program, selection, output);
+            do_trace(alloc, store, source, sink, program, selection, output)?
         }
-        Plan::Debug(program, typed) => {
-            return do_debug(alloc, store, source, sink, program, typed);
+        Plan::Debug(program, typed) => do_debug(alloc, store, source, sink, program, typed)?,
+        Plan::Salvage(plan) if is_folder(plan.target.as_str()) => {
+            return salvage(alloc, store, folder, source, sink, plan);
         }
-        Plan::Salvage(plan) => return do_salvage(alloc, store, source, sink, plan),
+        Plan::Salvage(plan) => do_salvage(alloc, store, source, sink, plan)?,
+        Plan::Export(plan) => return export(alloc, store, folder, source, sink, plan),
     };
-    Ok(pm_tool::run(alloc, source, sink, job))
+    Ok(Ended::Job(outcome))
 }
 
 /// Returns which images are saved, and where the printer's output goes. A path that names the file of standard output
@@ -466,7 +522,14 @@ fn conflict_in<S: Store>(store: &S, plan: &Plan) -> Option<Conflict> {
         Plan::Files(plan) => output_conflict(store, plan.path.as_str(), &plan.output),
         Plan::Trace(program, _, output) => trace_conflict(store, program, output),
         Plan::Salvage(plan) if is_there(store, plan.target.as_str()) => {
-            Some(Conflict::TargetIsThere)
+            if is_folder(plan.target.as_str()) {
+                Some(Conflict::FolderIsThere)
+            } else {
+                Some(Conflict::TargetIsThere)
+            }
+        }
+        Plan::Export(plan) if is_there(store, plan.folder.as_str()) => {
+            Some(Conflict::FolderIsThere)
         }
         Plan::Salvage(plan) if store.is_beside(plan.target.as_str(), plan.path.as_str()) => {
             Some(Conflict::FileInTheWay)
@@ -565,8 +628,10 @@ fn end_of_plan<R: Host + AllocGlobal, I: Source, O: Sink>(
         Ok(files) => files,
         Err(_) => return End::File(DiskFault::NoMemory, None),
     };
-    match act(rt.alloc(), &mut files, source, sink, plan) {
-        Ok(outcome) => end_of_job(rt.alloc(), &named, form, outcome),
+    let mut folder = HostFolder::new(rt);
+    match act(rt.alloc(), &mut files, &mut folder, source, sink, plan) {
+        Ok(Ended::Job(outcome)) => end_of_job(rt.alloc(), &named, form, outcome),
+        Ok(Ended::Folder(path, unwritten)) => End::Folder(path, unwritten),
         Err(fault) => End::File(fault, files.store.into_refused()),
     }
 }
@@ -592,13 +657,15 @@ pub fn follow<R: Host + Input + Print + Eprint + AllocGlobal>(rt: &R, asked: Ask
     };
     let has_keys = at.input && matches!(plan, Plan::Run(_, _));
     let keys = Keys::new(rt.reader(), has_keys, end);
-    let mut lined = Lined::new(io::writer(rt), at.lines_of(plan));
+    let mut lined = Lined::new(rt.alloc(), io::writer(rt), at.lines_of(plan));
     let mut source = Reader::new(prompted(rt, keys, at.prompt(plan)));
     let mut sink = Writer::new(&mut lined);
     let end = end_of_plan(rt, store, &mut source, &mut sink, asked, at.error);
     drop(sink);
-    let end = match lined.failed() {
-        Some(Failed::NoText) => End::Words(Conflict::BytesOnTerminal),
+    let rest = lined.finish();
+    let end = match (lined.failed(), rest) {
+        (Some(Failed::NoText), _) => End::Words(Conflict::BytesOnTerminal),
+        (_, Err(error)) => End::File(DiskFault::Write(error.kind()), None),
         _ => end,
     };
     Done {

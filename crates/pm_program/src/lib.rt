@@ -5,6 +5,7 @@ mod about;
 mod console;
 mod end;
 mod entry;
+mod exported;
 mod follow;
 mod got;
 mod saved;
@@ -12,6 +13,7 @@ mod say;
 mod texts;
 
 pub use entry::program;
+pub use exported::{Exported, SavedFolder, do_export, do_salvage_folder};
 pub use got::do_get;
 pub use saved::{Printing, SavedOfRun, do_debug, do_files, do_run, do_trace};
 pub use texts::do_text;

@@ -131,6 +131,10 @@ fn message(end: &End, is_silent: bool) -> &str
         _ if is_silent => "",
         End::Outcome(outcome, _) => outcome.text(),
         End::File(fault, _) => fault.fault().text(),
+        End::Folder(_, unwritten) => match unwritten.first() {
+            Some(first) => first.fault.fault().text(),
+            None => "",
+        },
         End::Words(conflict) => conflict.text(),
     }
 }
@@ -181,8 +185,23 @@ fn explain<R: Eprint>(rt: &R, end: &End, has_system: bool) {
             explain_refusal(rt, outcome, about);
             Ok(())
         }
-        End::Words(_) => Ok(()),
+        End::Folder(..) | End::Words(_) => Ok(()),
     };
+}
+
+/// Prints a line for each file of a folder that could not be written.
+fn name_unwritten<R: Eprint>(rt: &R, end: &End) {
+    if let End::Folder(folder, unwritten) = end {
+        let folder = folder.trim_end_matches('/');
+        for file in unwritten {
+            let _ = eprintln!(rt;
+                "pmach: {}/{}: {}",
+                Plain(folder),
+                file.host,
+                file.fault.reason()
+            );
+        }
+    }
 }
 
 /// How messages are written to standard error.
@@ -208,6 +227,7 @@ pub fn say<R: Eprint>(rt: &R, end: &End, manner: Manner) {
         let _ = eprintln!(rt; "");
     }
     let _ = eprintln!(rt; "{message}");
+    name_unwritten(rt, end);
     if manner.explains {
         explain(rt, end, manner.has_system);
     }

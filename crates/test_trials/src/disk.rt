@@ -208,6 +208,7 @@ impl Disk {
 
     /// Returns the folder and the name to which a path leads. A symbolic link is not followed.
     fn spot<'a>(&self, path: &'a str) -> Spot<'a> {
+        let path = path.strip_suffix('/').unwrap_or(path);
         if let Some((folder, name)) = path.rsplit_once('/') {
             if let Some(folder) = self.open_at(folder) {
                 let is_elsewhere = folder == OTHER_FOLDER;
@@ -219,6 +220,41 @@ impl Disk {
             is_elsewhere: self.is_moved,
             name,
         }
+    }
+
+    /// Returns the name of a folder that is a file of the disk.
+    fn folder_name(&self, number: usize) -> Option<&str> {
+        if !self.inodes.get(number)?.is_folder {
+            return None;
+        }
+        for name in self.names.iter() {
+            if name.inode == number {
+                return Some(name.path.as_str());
+            }
+        }
+        None
+    }
+
+    /// Returns a path without the number of an open folder that is a file of the disk, and without `/.` at its end.
+    pub(crate) fn through(&self, path: &str) -> io::Result<String> {
+        let path = path.strip_suffix("/.").unwrap_or(path);
+        if let Some((folder, name)) = path.rsplit_once('/') {
+            if let Some(number) = self.open_at(folder) {
+                if let Some(folder) = self.folder_name(number) {
+                    return Ok(format!(in self.alloc; "{folder}/{name}")?);
+                }
+            }
+        }
+        Ok(String::from_str(self.alloc, path)?)
+    }
+
+    /// Adds an empty folder.
+    pub(crate) fn add_folder(&mut self, path: &str) -> io::Result<()> {
+        let number = self.add(path)?;
+        if let Some(inode) = self.inodes.get_mut(number) {
+            inode.is_folder = true;
+        }
+        Ok(())
     }
 
     /// Adds a name of a file.

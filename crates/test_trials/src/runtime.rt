@@ -202,6 +202,8 @@ impl<'a> Files for FakeRuntime<'a> {
         if how.asks_create() || how.asks_create_new() || how.asks_truncate() {
             return Err(io::Error::from(ErrorKind::Unsupported));
         }
+        let whole = disk.through(path)?;
+        let path = whole.as_str();
         let inode = match disk.led_to(path)? {
             Some(inode) => inode,
             None if path == "." => disk.folder_now(),
@@ -264,6 +266,8 @@ impl<'a> Files for FakeRuntime<'a> {
             return Err(in_use());
         };
         disk.tick('u')?;
+        let whole = disk.through(path)?;
+        let path = whole.as_str();
         if disk.keeps(path) {
             return Err(closed());
         }
@@ -276,8 +280,18 @@ impl<'a> Files for FakeRuntime<'a> {
         Ok(())
     }
 
-    fn create_dir(&self, _path: &str) -> io::Result<()> {
-        Err(io::Error::from(ErrorKind::Unsupported))
+    fn create_dir(&self, path: &str) -> io::Result<()> {
+        let Ok(mut disk) = self.disk.try_borrow_mut() else {
+            return Err(in_use());
+        };
+        disk.tick('D')?;
+        if disk.find(path).is_some() {
+            return Err(io::Error::from(ErrorKind::AlreadyExists));
+        }
+        if disk.is_closed {
+            return Err(closed());
+        }
+        disk.add_folder(path)
     }
 
     fn remove_dir(&self, _path: &str) -> io::Result<()> {
@@ -368,6 +382,8 @@ impl<'a> Host for FakeRuntime<'a> {
         if path == "." {
             return Ok(Some(disk.folder(disk.folder_now())));
         }
+        let whole = disk.through(path)?;
+        let path = whole.as_str();
         let found = if follows {
             disk.led_to(path)?
         } else {
@@ -384,6 +400,8 @@ impl<'a> Host for FakeRuntime<'a> {
             return Err(in_use());
         };
         disk.tick('x')?;
+        let whole = disk.through(path)?;
+        let path = whole.as_str();
         if disk.find(path).is_some() {
             return Err(io::Error::from(ErrorKind::AlreadyExists));
         }

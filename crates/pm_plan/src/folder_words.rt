@@ -1,0 +1,111 @@
+//! The words of `files export`.
+ghost use Rattle.std.specs.Prelude.{◌≡◌, ◌↔◌, IfErr, IfOk, IsOk, IsOkUnless, codes};
+ghost use Rattle.clap.specs.Words.{subcommand_rows_of};
+ghost use Rattle.pm_plan.specs.Asked.{AsksExport, AsksWanted, is_set, word_found, words_of};
+ghost use Rattle.pm_plan.specs.FolderWords.{IsGoodText, IsText, ends_named};
+ghost use Rattle.pm_plan.specs.Needed.{IsGoodExport, IsGoodWanted, IsWrong};
+ghost use Rattle.pm_plan.specs.declared.words.WordsError.TheVariants.{NoMemory};
+
+use crate::file_words::{path_of, slot_of, word};
+use crate::words::{WordsError, found, given, is_set};
+use clap::ArgMatches;
+use pm_folder::{Ends, Wanted};
+use std::alloc::Global;
+
+/// What is wrong with the word for line ends.
+const ENDS: &str = "invalid --ends: it must be lf, crlf or cr";
+
+/// The files of a volume that are written to a new folder.
+#[derive(Drop)]
+pub struct ExportPlan {
+    /// The path of the image.
+    pub path: String,
+    /// The path of the folder.
+    pub folder: String,
+    /// The line ends of text files that are written as plain text. `None`: all files are written byte for byte.
+    pub text: Option<Ends>,
+    /// Which files are written.
+    pub wanted: Wanted,
+}
+
+/// Returns the line ends that a word names. `None` if it names none.
+fn ends_named(word: &str) -> Option<Ends>
+    ensures value { result ≡ ends_named word.now }
+{
+    match word {
+        "lf" => Some(Ends::Lf),
+        "crlf" => Some(Ends::CrLf),
+        "cr" => Some(Ends::Cr),
+        _ => None,
+    }
+}
+
+/// Returns the line ends of exported texts. `None` if texts are not asked for.
+///
+/// # Errors
+///
+/// `Wrong` for `--ends` without `--text`, and for a word that names no line ends.
+fn text_of(matches: &ArgMatches<'_>) -> Result<Option<Ends>, WordsError>
+    ensures value { IfOk result (IsText (is_set (word_found (words_of matches.now) (codes "text")))
+        (word_found (words_of matches.now) (codes "ends"))) }
+    ensures good { IsOk result ↔ IsGoodText (is_set (word_found (words_of matches.now) (codes "text")))
+        (word_found (words_of matches.now) (codes "ends")) }
+    ensures refusal { IfErr result IsWrong }
+{
+    match (is_set(matches, "text"), found(matches, "ends")) {
+        (false, None) => Ok(None),
+        (false, Some(_)) => Err(WordsError::Wrong("--ends requires --text")),
+        (true, None) => Ok(Some(Ends::Lf)),
+        (true, Some(word)) => match ends_named(word) {
+            Some(ends) => Ok(Some(ends)),
+            None => Err(WordsError::Wrong(ENDS)),
+        },
+    }
+}
+
+/// Returns which files are exported.
+///
+/// # Errors
+///
+/// `Wrong` for a slot that is no number up to 65,535, and for a pattern with a slot. `NoMemory`.
+fn wanted(alloc: Global, matches: &ArgMatches<'_>) -> Result<Wanted, WordsError>
+    ensures asked { IfOk result (AsksWanted (words_of matches.now)) }
+    ensures good { IsOk result → IsGoodWanted (word_found (words_of matches.now) (codes "only"))
+        (word_found (words_of matches.now) (codes "slot")) }
+    ensures taken { IsGoodWanted (word_found (words_of matches.now) (codes "only"))
+        (word_found (words_of matches.now) (codes "slot")) → IsOkUnless result NoMemory }
+{
+    match (found(matches, "only"), slot_of(matches)?) {
+        (None, None) => Ok(Wanted::All),
+        (None, Some(slot)) => Ok(Wanted::Slot(slot)),
+        (Some(pattern), None) => Ok(Wanted::Matching(String::from_str(alloc, pattern)?)),
+        (Some(_), Some(_)) => Err(WordsError::Wrong("--only cannot be used with --slot")),
+    }
+}
+
+/// Returns what the words of `files` with the verb `export` ask for.
+pub fn export_plan(alloc: Global, matches: &ArgMatches<'_>) -> Result<ExportPlan, WordsError>
+    ensures asked { IfOk result (AsksExport matches.now) }
+    ensures good { IsOk result → IsGoodExport (words_of matches.now) (subcommand_rows_of matches.now) }
+    ensures taken { IsGoodExport (words_of matches.now) (subcommand_rows_of matches.now)
+        → IsOkUnless result NoMemory }
+{
+    let Some((verb, words)) = matches.subcommand() else {
+        return Err(WordsError::NoCommand);
+    };
+    if verb != "export" {
+        return Err(WordsError::NoCommand);
+    }
+    let before = given(alloc, matches, "image")?;
+    let behind = given(alloc, words, "image")?;
+    let path = path_of(before, behind)?;
+    let folder = word(alloc, words, "FOLDER")?;
+    let text = text_of(words)?;
+    let wanted = wanted(alloc, words)?;
+    Ok(ExportPlan {
+        path,
+        folder,
+        text,
+        wanted,
+    })
+}

@@ -304,35 +304,175 @@ mkdir u/d/x.pmach-new
 said=$(echo hi | within 9 "$pmach" files --image u/d/x put N data)
 comes "a folder there" "4 write fault, $base" "$said, $(cksum <u/d/x)"
 
-# The new directory of export.sh, salvage.sh or site.sh is exchanged for a link as soon as it exists: nothing is made or
-# overwritten in the directory that the link names.
-if has "a new directory that is exchanged" python3; then
-    cat >exchange.py <<'END'
+# The new directory of site.sh, or the new folder of export or salvage, is exchanged for a link as soon as it exists:
+# nothing is made or overwritten in the directory that the link names.
+into_link='import os, sys
+os.symlink(sys.argv[1], "u/out")'
+# exchange DEED: the other user does this in Python, once the folder u/out exists and was renamed to u/moved
+exchange() {
+    cat >exchange.py <<END
 import os, sys, time
 end = time.monotonic() + 20
 while time.monotonic() < end:
     try:
         os.rename("u/out", "u/moved")
-        os.symlink(sys.argv[1], "u/out")
         break
     except OSError:
         pass
+else:
+    sys.exit(1)
+$1
 END
-    for script in export.sh "export.sh --text" salvage.sh site/site.sh; do
+    setpriv --reuid 1234 --regid 1234 --clear-groups "$python" exchange.py "$scratch/etc" &
+}
+# outside: a folder u of the other user, and the folder etc with a file of root's, which no command may change
+outside() {
+    rm -rf etc u
+    mkdir etc u
+    echo "root file" >etc/HANOI
+    chown 1234:1234 u
+}
+# unharmed: whether etc is as `outside` made it
+unharmed() { [ "$(ls etc)" = HANOI ] && [ "$(cat etc/HANOI)" = "root file" ]; }
+# to_folder VERB OPTION..: runs files export or files salvage into u/out, with SLOW before the program
+slow=()
+to_folder() {
+    case $1 in
+        export) within 60 "${slow[@]}" "$pmach" files --image base "$@" u/out ;;
+        salvage) within 60 "${slow[@]}" "$pmach" files --image base salvage u/out/ ;;
+    esac
+}
+if has "a new directory that is exchanged" "${python:-python3}"; then
+    for command in export "export --text" salvage site/site.sh; do
         harmed=0
         for ((n = 0; n < 5; n++)); do
-            rm -rf etc u
-            mkdir etc u
-            echo "root file" >etc/HANOI
-            chown 1234:1234 u
-            setpriv --reuid 1234 --regid 1234 --clear-groups "$python" exchange.py "$scratch/etc" &
-            within 60 "$here/examples/${script%% *}" ${script#"${script%% *}"} base u/out >/dev/null
+            outside
+            exchange "$into_link"
+            # shellcheck disable=SC2086 # a verb and its options
+            if [ "$command" = site/site.sh ]; then
+                within 60 "$here/examples/site/site.sh" base u/out >/dev/null
+            else
+                to_folder $command >/dev/null
+            fi
             { kill $! && wait $!; } 2>/dev/null
-            [ "$(ls etc)" = HANOI ] && [ "$(cat etc/HANOI)" = "root file" ] || harmed=$((harmed + 1))
+            unharmed || harmed=$((harmed + 1))
         done
-        comes "$script into a directory that is exchanged for a link, 5 times" 0 "$harmed"
+        comes "$command into a directory that is exchanged for a link, 5 times" 0 "$harmed"
     done
 fi
+
+# The same exchange at each step of the program, which strace holds up: before the new folder is opened, before it is
+# compared with what is at its path, and before the first file. In the last case the files are in the folder that was
+# created, wherever it is by then.
+if has "a new folder that is exchanged at a given step" strace && has "the same" "${python:-python3}"; then
+    for command in export salvage; do
+        "$pmach" files --image base list | sed '1d;$d' | cut -c1-15 | tr -d ' ' | cat - <(echo LIST) | LC_ALL=C sort >names
+        # held_up NAME STEP DEED WANTED: the deed, done while the program is held up at this step; what the message was, and
+        # how many files of the volume and LIST are in u/moved
+        held_up() {
+            outside
+            slow=(strace -o trace -e "trace=mkdir,mkdirat,openat" -e "$2")
+            exchange "$3"
+            said=$(to_folder $command)
+            wait $!
+            slow=()
+            comes "$command, $1" "$4, unharmed" \
+                "$said, $(LC_ALL=C ls u/moved | comm -12 - names | wc -l), $(unharmed && echo unharmed)"
+        }
+        all=$(wc -l <names)
+        held_up "a link for the new folder, before it is opened" inject=mkdir,mkdirat:delay_exit=400000 \
+            "$into_link" "4 write fault, 0"
+        held_up "no folder there" inject=mkdir,mkdirat:delay_exit=400000 pass "4 read fault, 0"
+        held_up "a link that leads back to the folder" inject=mkdir,mkdirat:delay_exit=400000 \
+            'os.symlink("moved", "u/out")' "4 write fault, 0"
+        held_up "a pipe there" inject=mkdir,mkdirat:delay_exit=400000 'os.mkfifo("u/out")' "4 read fault, 0"
+        # (a folder of another user gets no file)
+        held_up "another folder there" inject=mkdir,mkdirat:delay_exit=400000 'os.mkdir("u/out")' "4 write fault, 0"
+        held_up "another folder there with links" inject=mkdir,mkdirat:delay_exit=400000 'os.mkdir("u/out")
+os.symlink(sys.argv[1] + "/HANOI", "u/out/HANOI")
+os.symlink(sys.argv[1] + "/NEW", "u/out/LIST")' "4 write fault, 0"
+        # (after the folder was opened and compared, each file is held up)
+        slow_files() {
+            outside
+            (
+                for ((n = 0; n < 200 && $(ls u/out 2>/dev/null | wc -l) == 0; n++)); do sleep 0.02; done
+                other sh -c "mv u/out u/moved && ln -s '$scratch/etc' u/out"
+            ) &
+            slow=(strace -o trace -e trace=openat -e inject=openat:delay_exit=100000)
+            said=$(to_folder $command)
+            wait $!
+            slow=()
+            comes "$command, a link for the new folder, between two files" "0 , $all, unharmed" \
+                "$said, $(LC_ALL=C ls u/moved | comm -12 - names | wc -l), $(unharmed && echo unharmed)"
+        }
+        slow_files
+    done
+
+    # A folder that others may write: links, pipes and files of theirs at the names of the files are not followed, opened
+    # or replaced. Each such file is named, and LIST has the others.
+    for deed in "ln -s '$scratch/etc/HANOI' u/out/HANOI" "ln -s '$scratch/etc/NEW' u/out/HANOI" "mkfifo u/out/HANOI" \
+        "echo mine >u/out/HANOI" "mkdir u/out/HANOI"; do
+        outside
+        (
+            for ((n = 0; n < 200 && $(ls -d u/out 2>/dev/null | wc -l) == 0; n++)); do sleep 0.02; done
+            other sh -c "$deed"
+        ) &
+        slow=(strace -o trace -e trace=mkdir,mkdirat -e inject=mkdir,mkdirat:delay_exit=400000)
+        said=$(umask 0 && to_folder export)
+        wait $!
+        slow=()
+        comes "export, in a folder that all may write: ${deed%% *} at the name of a file" \
+            "4 write fault, pmach: u/out/HANOI: it exists already, 0, $(($(wc -l <names) - 2)), unharmed" \
+            "$said, $(sed -n 2p err), $(grep -c '^HANOI' u/out/LIST), $(tail -n +2 u/out/LIST | wc -l), $(unharmed && echo unharmed)"
+    done
+
+    # Killed at each call that opens or writes a file: if LIST has bytes, the folder has all files, each of them whole.
+    "$pmach" files --image base export whole
+    for command in export salvage; do
+        early=0 wrong=0
+        for call in openat write fsync close; do
+            for ((n = 1; n < 99; n++)); do
+                rm -rf u
+                mkdir u
+                slow=(strace -o trace -e "trace=$call" -e "inject=$call:signal=KILL:when=$n")
+                said=$(to_folder $command 2>/dev/null)
+                slow=()
+                [ "${said%% *}" != 0 ] || break
+                early=$((early + 1))
+                [ ! -s u/out/LIST ] || diff -rq -x LIST whole u/out >/dev/null || wrong=$((wrong + 1))
+            done
+        done
+        comes "$command, killed at $early calls: LIST with a file that is missing or cut" 0 "$wrong"
+    done
+fi
+
+# No folder by number, a parent that may not be written, and paths at which something exists.
+if has "a new folder without /proc" unshare; then
+    for command in export salvage; do
+        outside
+        slow=(unshare -m sh -c 'mount -t tmpfs none /proc && exec "$@"' sh)
+        said=$(to_folder $command)
+        slow=()
+        comes "$command without /proc: no file, and no other folder" "4 write fault, 0, unharmed" \
+            "$said, $(ls -A u/out | wc -l), $(unharmed && echo unharmed)"
+    done
+fi
+outside
+chmod 755 . etc
+said=$(within 9 setpriv --reuid 1234 --regid 1234 --clear-groups "$pmach" files --image base export etc/out)
+comes "export into a folder that the user may not write" "4 write fault, unharmed" "$said, $(unharmed && echo unharmed)"
+said=$(within 9 setpriv --reuid 1234 --regid 1234 --clear-groups "$pmach" files --image base salvage etc/out/)
+comes "salvage into a folder that the user may not write" "4 write fault, unharmed" "$said, $(unharmed && echo unharmed)"
+for deed in "mkdir u/out" "echo mine >u/out" "mkfifo u/out" "ln -s ../etc u/out" "ln -s ../etc/none u/out"; do
+    for command in export salvage; do
+        outside
+        sh -c "$deed"
+        before=$(ls -lR u etc | cksum)
+        said=$(to_folder $command)
+        comes "$command, after: $deed" "refused, same" \
+            "$([[ $said = "1 error: the folder for the files exists"* || $said = "4 write fault" ]] && echo refused || echo "$said"), $([ "$(ls -lR u etc | cksum)" = "$before" ] && echo same)"
+    done
+done
 
 # A directory of pages with links, pipes or a mark of somebody else is refused, and nothing is written through it.
 if has "pages through links" python3; then
@@ -415,9 +555,9 @@ fi
 
 # No temporary directory, and one that is full: nothing is written elsewhere, and no file is cut with status 0.
 before=$(ls -A / | cksum)
-for words in "form.sh base" "form.sh base new" "salvage.sh --form blocks base sv" "import.sh fo n.img"; do
+for words in "form.sh base" "form.sh base new" "import.sh fo n.img"; do
     said=$(TMPDIR=$scratch/none within 9 "$here/examples/${words%% *}" ${words#"${words%% *}"})
-    comes "$words without a temporary directory" "1, none, same" "${said%% *}, $([ -e new ] || [ -e sv ] && echo made || echo none), $([ "$(ls -A / | cksum)" = "$before" ] && echo same)"
+    comes "$words without a temporary directory" "1, none, same" "${said%% *}, $([ -e new ] && echo made || echo none), $([ "$(ls -A / | cksum)" = "$before" ] && echo same)"
 done
 mkdir -p tm
 if mount -t tmpfs -o size=880k tmpfs tm 2>/dev/null; then
@@ -435,15 +575,26 @@ if mount -t tmpfs -o size=880k tmpfs tm 2>/dev/null; then
     comes "form.sh --back with ten sizes of a full temporary directory: files cut with status 0" 0 "$cut"
     "$pmach" files --image t.img new T 1000
     awk 'BEGIN { for (n = 0; n < 20000; n++) print "                    line" n }' | "$pmach" files --image t.img puttext A.TEXT
+    echo small | "$pmach" files --image t.img put B data
     cut=0
     for size in 300 400 500 600 700 800 900; do
         mount -o "remount,size=${size}k" tm
-        within 30 "$here/examples/export.sh" --text t.img tm/out >said
-        # (without space for the text, the file comes out as its bytes, and LIST says so)
-        [ "$(cut -d' ' -f1 said)" != 0 ] || [ "$(grep -c . tm/out/A.TEXT)" = 20000 ] || grep -q bytes tm/out/LIST || cut=$((cut + 1))
+        within 30 "$pmach" files --image t.img export --text tm/out >said
+        # (what could not be written is named and is not there, and LIST, if there is space for it, has the others)
+        case $(cut -d' ' -f1 said) in
+            0) [ "$(grep -c . tm/out/A.TEXT)" = 20000 ] && [ "$(wc -l <tm/out/LIST)" = 3 ] ;;
+            4)
+                for name in A.TEXT B LIST; do
+                    [ -e "tm/out/$name" ] && grep -q "^pmach: tm/out/$name: " err && break
+                    [ -e "tm/out/$name" ] || [ ! -e tm/out ] || grep -q "^pmach: tm/out/$name: no space left" err || break
+                done && { [ ! -e tm/out/A.TEXT ] || [ "$(grep -c . tm/out/A.TEXT)" = 20000 ]; } &&
+                    { [ ! -e tm/out/LIST ] || [ "$(tail -n +2 tm/out/LIST | cut -f 1)" = "$(LC_ALL=C ls tm/out | grep -vx LIST)" ]; }
+                ;;
+            *) false ;;
+        esac || cut=$((cut + 1))
         rm -rf tm/*
     done
-    comes "export.sh --text with seven sizes of a full device: files cut with status 0" 0 "$cut"
+    comes "export --text with seven sizes of a full device: files cut, or LIST wrong" 0 "$cut"
     umount tm
     mounted=
 else
@@ -474,22 +625,29 @@ if has "control characters on a terminal" python3; then
     comes "a path with control characters in the question before new" 0 "$said"
 fi
 
-# Entries that share all blocks of an image: the copies have at most twice its bytes.
+# Entries that share all blocks of an image: the copies have at most 65,535 blocks, and with more no folder is created.
 if has "entries that share all blocks" python3; then
-    rm -rf shared.img shared
-    python3 - <<'PY'
-import struct
-image = bytearray(512 * 200)
-entries = struct.pack("<HHHB7sHHHH4x", 0, 6, 0, 1, b"S", 200, 77, 0, 0)
+    for blocks in 200 1000; do
+        rm -rf shared.img shared
+        python3 - $blocks <<'PY'
+import struct, sys
+blocks = int(sys.argv[1])
+image = bytearray(512 * blocks)
+entries = struct.pack("<HHHB7sHHHH4x", 0, 6, 0, 1, b"S", blocks, 77, 0, 0)
 for n in range(77):
     name = b"F%d" % n
-    entries += struct.pack("<HHHB15sHH", 6, 200, 3, len(name), name, 512, 0)
+    entries += struct.pack("<HHHB15sHH", 6, blocks, 3, len(name), name, 512, 0)
 image[1024:1024 + len(entries)] = entries
 open("shared.img", "wb").write(image)
 PY
-    "$here/examples/salvage.sh" shared.img shared >/dev/null 2>&1
-    said=$(cat shared/F* | wc -c)
-    comes "salvage.sh of 77 entries over all blocks: bytes at most twice the image" yes "$([ "$said" -gt 0 ] && [ "$said" -le 204800 ] && echo yes || echo "$said")"
+        said=$(within 60 "$pmach" files --image shared.img salvage shared/)
+        if [ $blocks = 200 ]; then
+            comes "salvage of 77 entries over all 200 blocks, to a folder" "0 , $((77 * 194 * 512))" "$said, $(cat shared/F* | wc -c)"
+        else
+            comes "salvage of 77 entries over all 1000 blocks, to a folder" "2 refused volume 7, none" \
+                "$said, $([ -e shared ] && echo made || echo none)"
+        fi
+    done
 fi
 
 # A signal leaves no file in the temporary directory.
@@ -541,6 +699,14 @@ PY
         comes "dis $option of a hostile code file: less than 64 MB" less "$said"
     done
 fi
+
+# The reader of a small listing ends early: the whole listing fits into the pipe, so that `dis` has written it by then.
+"$pmach" asm "$here/examples/hanoi.text" -o small.code
+for option in '' --names --list --statements --indent --blocks; do
+    # shellcheck disable=SC2086 # an option or none
+    said=$("$pmach" dis $option small.code 2>err | head -1 | wc -l)
+    comes "dis $option of a small file into head -1: lines, and messages" "1, " "$said, $(cat err)"
+done
 
 echo "$passed passed, $failed failed, $left left out"
 [ $failed = 0 ]

@@ -2,7 +2,7 @@
 """Images with one byte of the directory damaged, in every form: bench/damaged.py [SEED [COUNT]]
 
 Each is asked for its list, and then what the answer names is done, as a person at a terminal would: `files --form`,
-`form.sh`, `files salvage` or `salvage.sh --form`. A file is to come out with its bytes where its own entry is as it was.
+`form.sh`, and `files salvage` to a volume or to a folder. A file is to come out with its bytes where its own entry is as it was.
 A line for each file that does not, and at the end how many images and files there were. Status 0: all came. Run by hand,
 in some minutes; no part of the gate. PMACH names another program than ./pmach."""
 import os
@@ -113,7 +113,7 @@ def taken(image, names, form=()):
 
 
 def taken_out(folder):
-    """The files of a folder that salvage.sh made."""
+    """The files of a folder that `files salvage` made."""
     found = {}
     with open(os.path.join(folder, "LIST"), encoding="latin-1") as lines:
         for line in list(lines)[1:]:
@@ -131,7 +131,7 @@ def got(names):
         told.append(said)
         if status == 0:
             return taken("hurt", names, form), told
-        if word := re.search(r"--form (\w+) (?:takes|goes by) it", said):
+        if word := re.search(r"--form (\w+) (?:to the command|reads it)", said):
             form = ("--form", word[1])
         elif "files salvage NEW" in said:
             files("hurt", *form, "salvage", "saved")
@@ -143,9 +143,10 @@ def got(names):
             told.append(said)
             if status == 0:
                 return taken("blocks", names), told
-            if not (word := re.search(r"salvage.sh --form ([\w-]+) ", said)):
+            if not (word := re.search(r"form.sh --as ([\w-]+) .* salvage FOLDER/", said)):
                 break
-            told.append(run([os.path.join(EXAMPLES, "salvage.sh"), "--form", word[1], "hurt", "folder"])[2])
+            run([os.path.join(EXAMPLES, "form.sh"), "--as", word[1], "hurt", "blocks"])
+            told.append(files("blocks", "salvage", "folder/")[2])
             return taken_out("folder"), told
         else:
             break

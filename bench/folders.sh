@@ -1,5 +1,5 @@
 #!/bin/bash
-# examples/export.sh, import.sh, salvage.sh, form.sh, remove.sh, profile.sh and calls.sh: each file out byte for byte, there and back, two of one name,
+# files export, files salvage FOLDER/, examples/import.sh, form.sh, remove.sh, profile.sh and calls.sh: each file out byte for byte, there and back, two of one name,
 # names that cannot be typed, refused and damaged images; orders and headers of images. Run by hand; no part of the gate. PMACH names another
 # program than ./pmach.
 here=$(dirname "$(readlink -f "$0")")/..
@@ -53,20 +53,20 @@ cp a b
 patch b DUQ DUP
 patch b BIG 'B\xe9 '
 
-check "out" ends 0 "$here/examples/export.sh" a fa
+check "out" ends 0 files a export fa
 check "a file of several blocks" cmp fa/BIG <(seq 400)
 check "an empty file" [ ! -s fa/%2EDOT ]
 check "a name with % and /" cmp fa/A%25B%2FC <(printf x)
 check "a text comes as bytes" [ "$(stat -c %s fa/A.TEXT)" = 2048 ]
-check "a folder that is there" ends 1 "$here/examples/export.sh" a fa
+check "a folder that is there" ends 1 files a export fa
 files c new SHOE 100
 check "in" ends 0 "$here/examples/import.sh" fa c
 check "the same list" cmp <(files a list) <(files c list)
 check "in once more" ends 0 "$here/examples/import.sh" fa c
 check "still the same list" cmp <(files a list) <(files c list)
-check "out again" ends 0 "$here/examples/export.sh" c fc
+check "out again" ends 0 files c export fc
 check "the same folder" diff -r fa fc
-check "two of one name" ends 0 "$here/examples/export.sh" b fb
+check "two of one name" ends 0 files b export fb
 check "the first of them" cmp fb/DUP <(printf one)
 check "the second of them" cmp fb/DUP%%2 <(printf two2)
 check "a name that cannot be typed" cmp <(tail -n +2 fb/B%E9%20) <(tail -n +2 fa/BIG)
@@ -75,20 +75,20 @@ check "in, but for two" ends 1 "$here/examples/import.sh" fb d
 check "each is named" [ "$(grep -c 'is left out' err)" = 2 ]
 check "and why" grep -q 'filer 1 9, the volume has another file with this name' err
 check "the others are there" [ "$(files d list | wc -l)" = 7 ]
-check "as text" ends 0 "$here/examples/export.sh" --text a ft
+check "as text" ends 0 files a export --text ft
 check "the text" cmp ft/A.TEXT <(printf 'line\n  two\n')
 files e new SHOE 100
 check "texts in" ends 0 "$here/examples/import.sh" ft e
 check "the same list of texts" cmp <(files a list) <(files e list)
 head -c 1000 a >bad
-check "a refused image" ends 2 "$here/examples/export.sh" bad fbad
+check "a refused image" ends 2 files bad export fbad
 check "no folder of it" [ ! -e fbad ]
 files f new SHOE 12
 check "a small volume" ends 1 "$here/examples/import.sh" fa f
 check "what is left out is named" grep -q 'is left out: refused filer 1 7' err
 check "and why" grep -q 'filer 1 7, no free area is large enough' err
 files g new EMPTY 20
-check "no file out" ends 0 "$here/examples/export.sh" g fg
+check "no file out" ends 0 files g export fg
 check "no file in" ends 0 "$here/examples/import.sh" fg g
 
 # byte FILE PLACE VALUE
@@ -97,25 +97,30 @@ byte() { printf "\\x$3" | dd of="$1" bs=1 seek="$2" conv=notrunc 2>/dev/null; }
 cp a hurt
 byte hurt $((1024 + 26 * 2 + 6)) 00
 check "a damaged entry closes the volume" ends 2 "$PMACH" files --image hurt list
-check "the others are taken" ends 3 "$here/examples/salvage.sh" hurt fh
-check "the damaged one is told" grep -q "^salvage.sh: slot 2, '', blocks 7 to 8 of 100: left out" err
-check "no other word on it" [ "$(wc -l <err)" = 2 ]
+check "the others are taken" ends 0 files hurt salvage fh/
+check "the damaged one is told" [ "$(head -n 1 out)" = "slot 2 left out, name has 0 characters, not 1 to 15" ]
+check "how many there are" [ "$(tail -n 1 out)" = "files 6 left out 1 doubted 0" ]
+check "the lines of a new volume" cmp out <(files hurt salvage fh.img)
 check "six files" [ "$(grep -c '	' fh/LIST)" = 6 ]
+check "the files of the new volume" ends 0 files fh.img export fh.new
+check "are the same folder" diff -r fh fh.new
 check "each with its bytes" cmp fh/BIG fa/BIG
 files h new SHOE 100
 check "they go into a volume" ends 0 "$here/examples/import.sh" fh h
 check "six of seven" [ "$(files h list | wc -l)" = 8 ]
 cp a shared
 byte shared $((1024 + 26 * 2)) 06
-check "blocks that two files share" ends 3 "$here/examples/salvage.sh" shared fs
-check "the later one is doubted" grep -q '^DUQ.*?1$' fs/LIST
+check "blocks that two files share" ends 0 files shared salvage fs/
+check "the later one is doubted" grep -qx 'slot 2 taken as DUQ, doubted, shares blocks with slot 1' out
+check "and is copied" [ -f fs/DUQ ]
 cp a counted
 byte counted $((1024 + 16)) 05
-check "files behind the count" ends 3 "$here/examples/salvage.sh" counted fk
-check "are taken and doubted" [ "$(grep -c '?count$' fk/LIST)" = 2 ]
+check "files behind the count" ends 0 files counted salvage fk/
+check "are doubted" [ "$(grep -c 'doubted, behind the files of the header$' out)" = 2 ]
+check "and taken" [ "$(grep -c '	' fk/LIST)" = 7 ]
 cp a header
 byte header $((1024 + 2)) 00
-check "a damaged header" ends 0 "$here/examples/salvage.sh" header fe
+check "a damaged header" ends 0 files header salvage fe/
 check "all files are taken" diff -r -x LIST fa fe
 
 files f2 new SHOE 100
@@ -123,10 +128,13 @@ files f2 duplicate
 printf one | files f2 put DUP data
 byte f2 $((1024 + 26 + 6)) 00
 byte f2 $((1024 + 2)) 00
-check "by the second copy" ends 0 "$here/examples/salvage.sh" --second f2 fz
+check "by the second copy" ends 0 files f2 salvage fz/ --second
 check "its file" cmp fz/DUP fa/DUP
-check "wrong words" ends 1 "$here/examples/salvage.sh" a
-check "no file is written over" ends 1 "$here/examples/salvage.sh" a fa
+check "wrong words" ends 1 files a salvage
+check "no folder is written over" ends 1 files a salvage fa/
+check "the folder that is there is told" grep -qx 'error: the folder for the files exists; name a folder that does not exist' err
+check "an image that is too short" ends 2 files fa/DUP salvage fnone/
+check "no folder of that" [ ! -e fnone ]
 
 files po new BIG 280
 printf 'hi\n' | files po puttext A.TEXT
@@ -244,24 +252,25 @@ for name in A B C D; do echo $name | files hurt12 put $name data; done
 byte hurt12 $((1024 + 6)) 00
 "$here/examples/dos-order.sh" <hurt12 >hurt12.dos
 check "no header in any form" ends 2 "$here/examples/form.sh" hurt12.dos
-check "what takes the files out is named" grep -q 'as dos it has 4 valid files: examples/salvage.sh --form dos' err
-check "and takes them" ends 0 "$here/examples/salvage.sh" --form dos hurt12.dos f12
+check "what takes the files out is named" grep -q 'as dos it has 4 valid files: examples/form.sh --as dos hurt12.dos BLOCKS' err
+check "its blocks" ends 0 "$here/examples/form.sh" --as dos hurt12.dos hurt12.blocks
+check "and its files" ends 0 files hurt12.blocks salvage f12/
 check "with their bytes" cmp f12/C <(echo C)
 
 # a full directory, a volume of 33 MB, and images that are longer and shorter than their volume
 files full new FULL 1600
 for ((n = 1; n <= 77; n++)); do seq $n $((9 * n)) | files full put FILE$n data; done
-check "77 files out" ends 0 "$here/examples/export.sh" full ffull
+check "77 files out" ends 0 files full export ffull
 files full2 new FULL 1600
 check "77 files in" ends 0 "$here/examples/import.sh" ffull full2
-check "77 files out again" ends 0 "$here/examples/export.sh" full2 ffull2
+check "77 files out again" ends 0 files full2 export ffull2
 check "the same 77 files" diff -r ffull ffull2
 echo x >ffull/ONEMORE && printf 'ONEMORE\tONEMORE\tdata\t000-00-00\tbytes\t78\n' >>ffull/LIST
 check "one more" ends 1 "$here/examples/import.sh" ffull full2
 check "is left out, and why" grep -q 'ONEMORE is left out: refused filer 1 8, the directory is full' err
 files large new LARGE 65535
 seq 1000000 | files large put BIG data
-check "out of 33 MB" ends 0 "$here/examples/export.sh" large flarge
+check "out of 33 MB" ends 0 files large export flarge
 check "the file there" cmp flarge/BIG <(seq 1000000)
 { cat a && head -c 5120 /dev/zero; } >longer
 check "an image that is longer" cmp <(files longer list) <(files a list)
@@ -269,11 +278,11 @@ check "an image that is longer" cmp <(files longer list) <(files a list)
 check "by a byte" ends 2 "$PMACH" files --image byte.more list
 check "no volume in any form" ends 2 "$here/examples/form.sh" byte.more
 check "but its files are named" grep -q 'as blocks it has 7 valid files' err
-check "and come out" ends 0 "$here/examples/salvage.sh" byte.more fbyte
+check "and come out" ends 0 files byte.more salvage fbyte/
 check "as they were" diff -r -x LIST fa fbyte
 head -c 5120 a >shorter
 check "an image that is shorter" ends 2 "$PMACH" files --image shorter list
-check "gives what it has" ends 3 "$here/examples/salvage.sh" shorter fshorter
+check "gives what it has" ends 0 files shorter salvage fshorter/
 check "whole files alone" cmp fshorter/DUP fa/DUP
 check "and no cut one" [ ! -e fshorter/BIG ]
 
@@ -321,15 +330,15 @@ sed 's/$/\r/' ends.lf >ends.crlf
 tr '\n' '\r' <ends.lf >ends.cr
 files ends.img puttext A.TEXT <ends.lf
 for ends in crlf cr; do
-    check "out with $ends" ends 0 "$here/examples/export.sh" --text --ends $ends ends.img ends.$ends.out
+    check "out with $ends" ends 0 files ends.img export --text --ends $ends ends.$ends.out
     check "each line with $ends" cmp ends.$ends.out/A.TEXT ends.$ends
     files ends.$ends.img new ENDS 60
     check "in with $ends" ends 0 "$here/examples/import.sh" --ends $ends ends.$ends.out ends.$ends.img
     check "as lines, $ends" cmp <(files ends.$ends.img gettext A.TEXT) ends.lf
     check "once more with $ends" ends 0 "$here/examples/import.sh" --ends $ends ends.$ends.out ends.$ends.img
 done
-check "other ends" ends 1 "$here/examples/export.sh" --text --ends vax ends.img none
-check "ends of bytes" ends 1 "$here/examples/export.sh" --ends crlf ends.img none
+check "other ends" ends 1 files ends.img export --text --ends vax none
+check "ends of bytes" ends 1 files ends.img export --ends crlf none
 check "other ends in" ends 1 "$here/examples/import.sh" --ends vax ends.cr.out ends.img
 
 # a hurt volume opens in no form: the one that is named is made all the same
@@ -345,9 +354,9 @@ check "hurt, that is said" grep -q "opens as no volume in the format dos" err
 check "hurt, its blocks" cmp two two.new
 check "hurt, its sound file" ends 0 "$PMACH" files --image two.new salvage two.saved
 check "hurt, the file's bytes" [ "$(files two.saved get B | head -c 5)" = hello ]
-check "hurt, out of the form at once" ends 3 "$here/examples/salvage.sh" --form dos twodos dosfolder
+check "hurt, out of the form at once" ends 0 files twodos --form dos salvage dosfolder/
 check "hurt, of that form the file's bytes" cmp dosfolder/B <(printf hello)
-check "hurt, in no form that there is" ends 1 "$here/examples/salvage.sh" --form cpm twodos nofolder
+check "hurt, in no form that there is" ends 1 files twodos --form cpm salvage nofolder/
 check "hurt, and no folder of that" [ ! -e nofolder ]
 check "hurt, behind a header" ends 0 "$here/examples/form.sh" --as 2mg-dos two.2mg two.out
 check "hurt, its blocks behind a header" cmp two two.out
@@ -355,12 +364,17 @@ check "hurt, as what no image is" ends 2 "$here/examples/form.sh" --as cpm twodo
 check "hurt, no header for the form" ends 2 "$here/examples/form.sh" --as 2mg-dos twodos none
 check "hurt, not back" ends 2 "$here/examples/form.sh" --back twodos two none
 
-check "what fits a pattern" ends 0 "$here/examples/export.sh" --only 'du=' a fo
+check "what fits a pattern" ends 0 files a export --only 'du=' fo
 check "and nothing else" [ "$(echo fo/*)" = "fo/DUP fo/DUQ fo/LIST" ]
 check "its slots" [ "$(cut -f 6 fo/LIST | tr '\n' ' ')" = "volume SHOE 100 085-01-02 1 2 " ]
-printf 'n\ny\n' | "$here/examples/export.sh" --only 'DU?' a fq
-check "what is asked for" [ "$(echo fq/*)" = "fq/DUQ fq/LIST" ]
-check "a pattern with a star" ends 0 "$here/examples/export.sh" --only 'D*' a fstar
+check "one slot" ends 0 files a export --slot 2 fq
+check "and no other" [ "$(echo fq/*)" = "fq/DUQ fq/LIST" ]
+check "a slot with a pattern" ends 1 files a export --slot 2 --only 'D=' fnone
+check "no slot that there is" ends 0 files a export --slot 70 fempty
+check "has no file" [ "$(echo fempty/*)" = fempty/LIST ]
+check "a question mark" ends 0 files a export --only 'DU?' fask
+check "which is a question mark" [ "$(echo fask/*)" = fask/LIST ]
+check "a pattern with a star" ends 0 files a export --only 'D*' fstar
 check "which is a star" [ "$(echo fstar/*)" = fstar/LIST ]
 cp a r
 check "removed" ends 0 "$here/examples/remove.sh" r '=U='
@@ -444,11 +458,11 @@ check "image 7, its files" each 7 slot box/7.new
 check "image 8, 128 bytes more: form.sh" form 8
 check "image 8, its files" each 8 slot box/8.new
 check "image 9, 77 files" each 9 slot box/9
-check "image 9, into a folder" ends 0 "$here/examples/export.sh" box/9 box/9.out
+check "image 9, into a folder" ends 0 files box/9 export box/9.out
 check "image 9, all of them" [ "$(ls box/9.out | wc -l)" = 78 ]
 check "image 10, 33 MB" each 10 slot box/10
 check "image 11, names that cannot be typed" each 11 slot box/11
-check "image 11, into a folder" ends 0 "$here/examples/export.sh" box/11 box/11.out
+check "image 11, into a folder" ends 0 files box/11 export box/11.out
 check "image 11, all of them" [ "$(find box/11.out -type f | wc -l)" = 18 ]
 check "image 12, a text of few lines" each 12 lines box/12
 check "image 13, a text of pages" each 13 lines box/13

@@ -19,7 +19,7 @@
 #     dc42-      prefix: the image has a header of DiskCopy 4.2; its checksum is checked, and recomputed by --back
 # In an image of 143,488 bytes the last 128 are not part of the disk. Some other formats are recognized and named.
 # Nothing is guessed: a format fits if pmach opens the volume in it. If none fits, the format with the most valid directory
-# entries is named, for salvage.sh. No existing file is overwritten.
+# entries is named, with the commands that copy its files to a folder. No existing file is overwritten.
 # Status 0: one format fits, or NEW was written; 1: invalid command line, or NEW exists; 2: no format fits; 3: several fit.
 . "$(dirname "$(readlink -f "$0")")/words.sh"
 here=$(dirname "$(readlink -f "$0")")
@@ -77,7 +77,7 @@ nearest() {
             awk '$1 == "files" { print $2 }')
         [ "${count:-0}" -gt "$most" ] && most=$count best=$order
     done
-    [ ! "$best" ] || echo "; as $front$best it has $most valid files: examples/salvage.sh --form $front$best $image FOLDER"
+    [ ! "$best" ] || echo "; as $front$best it has $most valid files: examples/form.sh --as $front$best $image BLOCKS && pmach files --image BLOCKS salvage FOLDER/"
 }
 
 # Sets $begin and $size to the offset and the length of the blocks: the whole image, or as its header says.

@@ -1,6 +1,7 @@
 #!/bin/bash
-# Adds the files of a folder that export.sh made to a volume: examples/import.sh [--ends crlf|cr] FOLDER IMAGE
+# Adds the files of a folder to a volume: examples/import.sh [--ends crlf|cr] FOLDER IMAGE
 #
+# FOLDER is a folder that pmach files export FOLDER or pmach files salvage FOLDER/ has made. FOLDER/LIST names its files.
 # IMAGE must exist (create it with: pmach files --image IMAGE new NAME BLOCKS). Files are added in the order of
 # FOLDER/LIST, except that files without a date come first, because a new file gets the volume's last date. At the end the
 # volume's last date is set to the date in LIST, if it has one.
@@ -32,7 +33,7 @@ copied=$scratch/file
 cd -P -- "$folder" 2>/dev/null && copy_list() {
     [ -f LIST ] && [ ! -L LIST ] && dd if=LIST iflag=nofollow,nonblock of="$scratch/LIST" 2>/dev/null
 } && copy_list || {
-    echo "import.sh: $folder has no readable file LIST; name a folder that export.sh has made" >&2
+    echo "import.sh: $folder has no readable file LIST; name a folder that pmach files export has made" >&2
     exit 1
 }
 "$pmach" files --image "$image" list </dev/null >/dev/null || exit

@@ -11,16 +11,74 @@
 }
 here=$(dirname "$(readlink -f "$0")")
 pmach=${PMACH:-$here/../pmach}
-. "$here/slots.bash"
 image=$1
+
+# read_directory IMAGE: sets $directory to the bytes of the directory
+read_directory() {
+    read -r -d '' -a directory < <(od -An -v -tu1 -j1024 -N2048 -- "$1" | tr -s ' \n' ' ')
+}
+
+# word OFFSET: prints a word of the directory, stored with the low byte first
+word() { echo $((directory[$1] + 256 * directory[$1 + 1])); }
+
+# spelled BYTE..: prints the bytes; % and each byte outside 33 to 126 are written as % and two hexadecimal digits
+spelled() {
+    local byte text=
+    for byte; do
+        if ((byte > 32 && byte < 127 && byte != 37)); then
+            printf -v byte '\\x%02x' "$byte"
+            # shellcheck disable=SC2059 # a byte
+            printf -v byte "$byte"
+        else
+            printf -v byte '%%%02X' "$byte"
+        fi
+        text+=$byte
+    done
+    printf '%s' "$text"
+}
+
+# read_name N: reads the name of the entry of a slot into $name
+read_name() {
+    local at=$((26 * $1)) length
+    length=${directory[$((at + 6))]}
+    name=$(spelled "${directory[@]:$((at + 7)):$((length < 15 ? length : 15))}")
+}
+
+# read_pattern PATTERN: reads a pattern of the filer; = and ? match any characters, and ? asks for each matching file
+read_pattern() {
+    local letter n
+    pattern='' asks=''
+    for ((n = 0; n < ${#1}; n++)); do
+        letter=${1:n:1}
+        case $letter in
+            '=') pattern+='*' ;;
+            '?') pattern+='*' asks=yes ;;
+            *) pattern+=$(printf '%q' "$letter") ;;
+        esac
+    done
+}
+
+# fits: whether $name matches the pattern, in upper or lower case, and the user agrees if asked
+fits() {
+    local answer
+    # shellcheck disable=SC2254 # a pattern
+    case ${name^^} in
+        ${pattern^^}) ;;
+        *) return 1 ;;
+    esac
+    [ "$asks" ] || return 0
+    read -r -p "$name? " answer
+    [[ $answer = [yY]* ]]
+}
+
 read_pattern "$2"
 "$pmach" files --image "$image" list </dev/null >/dev/null || exit
-read_directory "$image" 1024
+read_directory "$image"
 declare -A count
 removed=()
 status=0
 for ((slot = 1; slot <= $(word 16); slot++)); do
-    read_slot $slot
+    read_name $slot
     count[=${name^^}]=$((${count[=${name^^}]:-0} + 1))
     fits && removed+=("$name")
 done

@@ -1,4 +1,4 @@
--- The law that the words of calls and returns are the machine's.
+-- The law of the words that calls and returns pop and leave.
 use Rattle.std.specs.Prelude.{◌≡◌, ℕ, ◌+◌, ◌*◌, ◌/◌, Bool, List, Option, Ok}
 use Rattle.pm_words.specs.Words.{IsMemory, word_at}
 use Rattle.pm_families.specs.declared.families.Call.{Call}
@@ -13,16 +13,17 @@ use Rattle.pm_effects.specs.Effects.{words}
 use Rattle.law_engine.specs.Effects.{words_taken}
 use Rattle.law_engine.specs.StandardEffects.{EndsIn}
 
--- What a procedure takes and leaves by its attribute table and by its return: the words of its parameters, of which the
--- table states the bytes, and those of the result.
+-- The effect of a procedure: it pops the words of its parameters, whose bytes `table` states, and leaves the `results`
+-- words of its return.
 abbrev pub procedure_words : Table → ℕ → Effect
 procedure_words table results = words (table.parameters / 2) results
 
--- the SP of the caller that the frame at MP keeps
+-- The SP of the caller, as the frame at MP saved it.
 abbrev pub kept_sp : Parts → ℕ
 kept_sp c = word_at c.memory (c.registers.mp + 10)
 
--- SP moves from the call to behind the return by the table of the procedure that the call reached.
+-- From the SP before the call to the SP after the return, the stack moves by the effect of the called procedure. The
+-- effect is that of its attribute table and of `results`.
 pub record MovesByTable (before : Parts) (call : Call) (code : Option (List ℕ)) (results : ℕ) (after : Parts)
     : Type 0 where
   pub at : Reached
@@ -33,8 +34,8 @@ pub record MovesByTable (before : Parts) (call : Call) (code : Option (List ℕ)
       (before.registers.sp + 2 * words_taken (procedure_words table results) before.memory before.registers.sp)
       (procedure_words table results) after.memory after.registers
 
--- Whatever runs between a call and a return of so many words, if MP and the SP that its frame keeps are then as the
--- call left them.
+-- Take a call that succeeds and a return of `results` words that succeeds, with any execution between them. If MP and
+-- the SP that its frame saved are at the return as the call left them, SP moves by the table.
 abbrev pub CallsAreTheMachines : Type 0
 CallsAreTheMachines =
     (before inside leaving after : Parts) (call : Call) (code : Option (List ℕ)) (results : ℕ) (base : Bool) →

@@ -1,4 +1,4 @@
--- Laws of events, and of loads.
+-- Laws of lists of events, and of loads.
 use Rattle.std.specs.Prelude.{◌≡◌, ◌<◌, ℕ, List, [], ◌∷◌, ◌++◌, Option, Some, None, Ok}
 use Rattle.pm_families.specs.declared.families.Call.TheVariants.{Cxp}
 use Rattle.pm_calls.specs.declared.frames.SegmentPlace.{SegmentPlace}
@@ -12,21 +12,22 @@ use Rattle.pm_stdproc.specs.Loads.{code_needed}
 use Rattle.pm_machine.specs.State.{State}
 use Rattle.pm_machine.specs.Events.{Event, next, after_all}
 
--- the machine went from one state to the other by these events, one call after another
+-- State `t` is obtained from `s` by these events, one after another.
 abbrev pub Goes : State → List Event → State → Type 0
 Goes s [] t = t ≡ s
 Goes s (e ∷ es) t = (between : State) × (between ≡ next s e) × Goes between es t
 
--- calls that give the next state one after another give the state after all of their events
+-- If each state is obtained from the one before it by an event, the last state is the state after all events.
 abbrev pub CallsGiveAll : Type 0
 CallsGiveAll = (s t : State) (es : List Event) → Goes s es t → t ≡ after_all s es
 
--- the events after others go on from the state after those
+-- The state after two lists of events is the state after the second list, begun at the state after the first list.
 abbrev pub EventsGoOn : Type 0
 EventsGoOn = (s : State) (es more : List Event) → after_all s (es ++ more) ≡ after_all (after_all s es) more
 
--- While the disk of its unit is the volume that a program was booted from, each CXP to a slot without a place loads the
--- segment of the code file; it loads nothing for a slot without a length, and above 15. An entry's numbers are words.
+-- Let the disk of the unit be the volume from which a program was booted. A CXP to slot `n` without an address then
+-- loads the segment of this slot of the code file, or nothing if the slot has no segment. Premise: the block number
+-- after the last block of the file is less than 65,536.
 abbrev pub LoadsGiveSegments : Type 0
 LoadsGiveSegments =
     (images : List (Option (List ℕ))) (image name file : List ℕ) (entry : Entry) (d : Devices)

@@ -1,4 +1,4 @@
--- Laws of segments that the program keeps.
+-- Laws of segments with keeps.
 use Rattle.std.specs.Prelude.{◌≡◌, ◌<◌, ◌≤◌, ℕ, ◌-◌, ◌||◌, ◌==◌, Bool, List, [], ◌∷◌, All, Option, Some, None, Result}
 use Rattle.std.specs.Prelude.{Ok, Err, if◌then◌else◌, nat_lt, option_and_then, position, slice_index_or, slice_set}
 use Rattle.pm_words.specs.declared.error.ExecError.{ExecError}
@@ -25,38 +25,38 @@ use Rattle.pm_machine.specs.Start.{raw_start}
 use Rattle.pm_machine.specs.State.{State}
 use Rattle.pm_machine.specs.Steps.{settled}
 
--- the machine runs, and the instruction at IPC is standard procedure n
+-- The machine runs, and the instruction at IPC is standard procedure `n`.
 pub record IsAtProcedure (n : ℕ) (s : State) : Type 0 where
   pub running : s.status ≡ status.Running
   pub instr : Instr
   pub there : fetched s.memory s.registers.ipc ≡ Ok instr
   pub calls : operation_of instr ≡ operation.Standard n
 
--- no step of some events is standard procedure n
+-- No step of these events executes standard procedure `n`.
 unfoldable pub IsNeverAt : ℕ → State → List Event → Type 0
 IsNeverAt n s [] = Unit {0}
 IsNeverAt n s (e ∷ es) = (e ≡ Step → IsAtProcedure n s → ⊥) × IsNeverAt n (next s e) es
 
--- ---- a kept segment stands where it is
+-- ---- a segment with a keep has its address
 
--- a slot's segment stands where it stood, and is kept at least as often
+-- The segment of the slot has the address of `p`, and at least as many keeps.
 pub record StandsAs (p : SegmentPlace) (slot : Option SegmentPlace) : Type 0 where
   pub now : SegmentPlace
   pub there : slot ≡ Some now
   pub place : now.place ≡ p.place
   pub keeps : p.keeps ≤ now.keeps
 
--- Whatever happens, as long as no step unloads a segment: a segment that is kept stands where it stood, whatever calls
--- of it return.
+-- If a segment has a keep, it has the same address and at least as many keeps after any events. Its calls may return.
+-- Premise: no step of the events is standard procedure 22.
 abbrev pub KeptSegmentsStand : Type 0
 KeptSegmentsStand =
     (s : State) (es : List Event) (n : ℕ) (p : SegmentPlace) →
     slice_index_or s.places n None ≡ Some p → 0 < p.keeps → IsNeverAt 22 s es →
     StandsAs p (slice_index_or (after_all s es).places n None)
 
--- ---- the machine without kept segments
+-- ---- the machine without keeps
 
--- a return takes the last call of a segment, and its place with it
+-- A return removes one call of the segment. If this is its last call, the slot has no address any more.
 abbrev pub plain_less : SegmentPlace → Option SegmentPlace
 plain_less p = if nat_lt 1 p.count then Some (record p { count = p.count - 1 }) else None
 
@@ -67,7 +67,7 @@ plain_lessened (Some n) places = slice_set places n (option_and_then plain_less 
 abbrev pub plain_released : ℕ → List (Option SegmentPlace) → List (Option SegmentPlace)
 plain_released s places = plain_lessened (position (stands_at s) places) places
 
--- a return as it is, but for the places after it
+-- The return of the machine, except that the slots after it are those of the machine without keeps.
 abbrev pub plain_returned : Parts → ℕ → Bool → Result Parts ExecError
 plain_returned c words base =
     returned c words base >>= λ p.
@@ -81,11 +81,11 @@ plain_return_row r s =
     plain_returned (parts s) (words_of_return r) (is_base_return r) >>= λ p.
     Ok (record (with_parts p s) { status = status_after p.registers.mp s.status })
 
--- 21 and 22 are no procedures of this machine
+-- This machine has no procedures 21 and 22.
 abbrev pub plain_standard_row : ℕ → State → Result State Pause
 plain_standard_row n s = if n == 21 || n == 22 then Err (Fails errors.Unimplemented) else standard_row n s
 
--- all other operations are those of the machine
+-- All operations except returns and standard procedures 21 and 22 are those of the machine.
 abbrev pub plain_performed : Operation → State → Result State Pause
 plain_performed (operation.Arithmetic o) s = performed (operation.Arithmetic o) s
 plain_performed (operation.Variable o) s = performed (operation.Variable o) s
@@ -120,18 +120,18 @@ unfoldable pub plain_after_all : State → List Event → State
 plain_after_all s [] = s
 plain_after_all s (e ∷ es) = plain_after_all (plain_next s e) es
 
--- a slot's segment is not kept
+-- The segment of the slot has no keep.
 abbrev pub IsUnkept : Option SegmentPlace → Type 0
 IsUnkept None = Unit {0}
 IsUnkept (Some p) = p.keeps ≡ 0
 
--- the state after some events is that of the machine without kept segments, and none is kept
+-- The state after these events is that of the machine without keeps, and no segment has a keep.
 pub record IsPlainRun (s : State) (es : List Event) : Type 0 where
   pub same : after_all s es ≡ plain_after_all s es
   pub unkept : All IsUnkept (after_all s es).places
 
--- A machine that loads and unloads no segment by a standard procedure is the machine without kept segments, however it
--- began and whatever happens.
+-- If no step is standard procedure 21 or 22, the machine is the machine without keeps. This holds for each start and
+-- any events.
 pub record UnkeptMachinesArePlain : Type 0 where
   pub raw :
       (bytes : List ℕ) (s : State) (es : List Event) →
@@ -139,6 +139,6 @@ pub record UnkeptMachinesArePlain : Type 0 where
   pub booted :
       (images : List (Option (List ℕ))) (unit : ℕ) (name : List ℕ) (clock : ℕ) (s : State) (es : List Event) →
       boot_start images unit name clock ≡ Ok s → IsNeverAt 21 s es → IsNeverAt 22 s es → IsPlainRun s es
-  -- and so from any state in which no segment is kept
+  -- The same holds from each state in which no segment has a keep.
   pub later : (s : State) (es : List Event) → All IsUnkept s.places → IsNeverAt 21 s es → IsNeverAt 22 s es
       → IsPlainRun s es

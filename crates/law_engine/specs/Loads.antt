@@ -1,4 +1,4 @@
--- Laws of where loaded code stands.
+-- Laws of the addresses of loaded code.
 use Rattle.std.specs.Prelude.{◌≡◌, ◌<◌, ℕ, ◌+◌, ◌-◌, List, All, Option, Some, None, Ok, length, slice_get}
 use Rattle.pm_words.specs.Words.{bytes_at, word_at}
 use Rattle.pm_opcode.specs.declared.instr.Instr.{Instr}
@@ -21,12 +21,12 @@ use Rattle.pm_machine.specs.Steps.{stepped}
 use Rattle.law_engine.specs.Keeping.{IsAtProcedure}
 use Rattle.pm_words.specs.declared.layout.TheConstants.{SYSTEM_FRAME}
 
--- an image of bytes, on which a volume is
+-- The image consists of bytes and is a volume.
 pub record IsImage (image : List ℕ) : Type 0 where
   pub volume : IsVolume image
   pub bytes : All (λ b. b < 256) image
 
--- A machine that was booted from a code file on the volume of a unit, after any events.
+-- State `s` is that of a machine that was booted from a code file on the volume of a unit, after any events.
 pub record IsBootedFrom (image file : List ℕ) (unit : ℕ) (s : State) : Type 0 where
   pub images : List (Option (List ℕ))
   pub name : List ℕ
@@ -39,22 +39,22 @@ pub record IsBootedFrom (image file : List ℕ) (unit : ℕ) (s : State) : Type 
   pub booted : boot_start images unit name clock ≡ Ok start
   pub now : s ≡ after_all start events
 
--- the machine runs, and the instruction at IPC calls procedure p of slot n
+-- The machine runs, and the instruction at IPC calls procedure `p` of slot `n`.
 pub record IsAtCall (n p : ℕ) (s : State) : Type 0 where
   pub running : s.status ≡ Running
   pub instr : Instr
   pub there : fetched s.memory s.registers.ipc ≡ Ok instr
   pub calls : operation_of instr ≡ Call (Cxp n p)
 
--- the segment of slot n of a file stands in a memory below an address
+-- The segment of slot `n` of the file is in memory, and ends at address `below`.
 pub record StandsBelow (file : List ℕ) (n below : ℕ) (memory : List ℕ) : Type 0 where
   pub code : List ℕ
   pub segment : segment_in file n ≡ Some code
   pub stands : bytes_at memory (below - length code) (length code) ≡ code
 
--- Of a machine, whatever happened since it was booted: while the disk of its unit is the volume, a step that goes and
--- calls a procedure of a slot without a place leaves the segment of that slot of the code file in memory, below the SP
--- before it.
+-- Take a machine that was booted from a code file, and any events after that, and let the disk of its unit be the
+-- volume. A successful step that calls a procedure of a slot without an address leaves the segment of this slot of the
+-- file in memory. It is directly below the SP before the step.
 abbrev pub StepsLoadSegments : State → Type 0
 StepsLoadSegments s =
     (image file : List ℕ) (unit n p : ℕ) →
@@ -62,12 +62,13 @@ StepsLoadSegments s =
     placed s.places n ≡ None → IsAtCall n p s → (stepped s).1 ≡ Went →
     StandsBelow file n s.registers.sp (stepped s).0.memory
 
--- the machine runs, the instruction at IPC is standard procedure 21, and slot n, which it is to keep, is on the stack
+-- The machine runs, the instruction at IPC is standard procedure 21, and its operand on the stack is slot `n`.
 pub record IsAtKeep (n : ℕ) (s : State) : Type 0 where
   pub at : IsAtProcedure 21 s
   pub slot : word_at s.memory s.registers.sp ≡ n
 
--- And one that keeps the segment of a slot without a place leaves it below the SP behind the slot's number.
+-- A successful step of standard procedure 21 for a slot without an address leaves its segment in memory. It is directly
+-- below the SP after the number of the slot is popped.
 abbrev pub StepsKeepSegments : State → Type 0
 StepsKeepSegments s =
     (image file : List ℕ) (unit n : ℕ) →
@@ -75,8 +76,8 @@ StepsKeepSegments s =
     placed s.places n ≡ None → IsAtKeep n s → (stepped s).1 ≡ Went →
     StandsBelow file n (s.registers.sp + 2) (stepped s).0.memory
 
--- Whatever stands on the disks now, and whatever machine it is: such a step leaves the bytes that the slot's row names
--- on the disk of its unit, as they are now.
+-- Any machine and any disks: a successful step that loads slot `n` leaves in memory the bytes `code`, which the row of
+-- the slot names on the disk of its unit.
 pub record LoadsWhatIsThere (s : State) (n : ℕ) (code : List ℕ) : Type 0 where
   pub called : (p : ℕ) → IsAtCall n p s → (stepped s).1 ≡ Went
       → bytes_at (stepped s).0.memory (s.registers.sp - length code) (length code) ≡ code
@@ -89,7 +90,7 @@ StepsLoadWhatIsThere s =
     slice_get s.rows n ≡ Some row → 0 < row.length → placed s.places n ≡ None →
     code_on s.devices row.unit row.block row.length ≡ Some code → All (λ b. b < 256) code → LoadsWhatIsThere s n code
 
--- A machine begins with the segment of slot 1 of the code file below 65,492.
+-- A machine begins with the segment of slot 1 of the code file in memory, directly below 65,492.
 abbrev pub BootsLoadSegment : Type 0
 BootsLoadSegment =
     (images : List (Option (List ℕ))) (image name file : List ℕ) (entry : Entry) (unit clock : ℕ) (s : State) →

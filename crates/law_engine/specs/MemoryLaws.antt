@@ -1,4 +1,4 @@
--- Laws of what calls and returns leave of the memory.
+-- Laws of the memory that calls and returns leave unchanged.
 use Rattle.std.specs.Prelude.{◌≡◌, ◌<◌, ◌≤◌, ◌⊎◌, ℕ, ◌+◌, ◌-◌, ◌*◌, Bool, List, Option, Ok}
 use Rattle.pm_words.specs.Words.{IsMemory, byte_at}
 use Rattle.pm_calls.specs.declared.frames.Table.{Table}
@@ -9,19 +9,19 @@ use Rattle.pm_calls.specs.Calls.{Reached, called, procedure_called}
 use Rattle.pm_calls.specs.Returns.{returned}
 use Rattle.pm_calls.specs.Laws.{IsCode, Reaches}
 
--- an address that is none of the n bytes from a on
+-- Address `x` is none of the `n` bytes from `a` on.
 abbrev pub LiesOutside : ℕ → ℕ → ℕ → Type 0
 LiesOutside a n x = (x < a) ⊎ (a + n ≤ x)
 
--- The parts before a call, in the procedure and after the return. An address lies outside the frame, which reaches from
--- the SP that the procedure begins with to the end of its variables; outside the code that was loaded, which ends at
--- the SP before the call; and outside the words that are returned, which stand at the SP after the return.
+-- Parts `c` are before a call, `d` in the procedure, and `e` after the return. Address `x` is outside three ranges. The
+-- first is the frame, from the SP with which the procedure begins to the end of its variables. The second is the loaded
+-- code, which ends at the SP before the call. The third is the result, from the SP after the return on.
 pub record IsOutsideCall (c d e : Parts) (table : Table) (loaded words x : ℕ) : Type 0 where
   pub frame : (x < d.registers.sp) ⊎ (d.registers.mp + (12 + table.parameters + table.locals) ≤ x)
   pub code : LiesOutside (c.registers.sp - loaded) loaded x
   pub result : LiesOutside e.registers.sp (2 * words) x
 
--- a call of the procedure with this table, and its return, leave each byte outside as it was
+-- A call of the procedure with this table, and its return, leave each byte outside these ranges unchanged.
 pub record LeavesTheRest (c d e : Parts) (call : Call) (code : Option (List ℕ)) (words : ℕ) : Type 0 where
   pub at : Reached
   pub reached : Reaches c call code at
@@ -29,7 +29,7 @@ pub record LeavesTheRest (c d e : Parts) (call : Call) (code : Option (List ℕ)
   pub found : attributes at.memory at.place (procedure_called call) ≡ Ok table
   pub rest : (x : ℕ) → IsOutsideCall c d e table at.loaded words x → byte_at e.memory x ≡ byte_at c.memory x
 
--- A call and its return leave all memory outside the frame, the loaded code and the result as it was.
+-- A call and its return leave all memory unchanged, except the frame, the loaded code and the result.
 abbrev pub CallAndReturnLeaveTheRest : Type 0
 CallAndReturnLeaveTheRest =
     (c d e : Parts) (call : Call) (code : Option (List ℕ)) (words : ℕ) (base : Bool) →

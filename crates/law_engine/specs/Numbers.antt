@@ -1,4 +1,4 @@
--- Laws of words as signed numbers: division, and the order in which a case jump counts.
+-- Laws of words as signed numbers: division, and the order of the values of a case jump.
 use Rattle.std.specs.Prelude.{◌≡◌, ◌≢◌, ◌<◌, ◌⊎◌, ℕ, ◌+◌, ◌*◌, ◌%◌, ◌&&◌, List, true, Ok, if◌then◌else◌, ℤ, pos, ◌+ℤ◌}
 use Rattle.std.specs.Prelude.{◌-ℤ◌, ◌*ℤ◌, int_le, int_lt, nat_le, unsigned_abs}
 use Rattle.pm_words.specs.Stack.{minus}
@@ -8,9 +8,9 @@ use Rattle.pm_words.specs.Signed.{signed, word}
 use Rattle.pm_rows.specs.Jumps.{case_target, entry_target}
 use Rattle.pm_rows.specs.Integers.{binary}
 
--- What DVI and MODI give of a and b, as signed numbers: a is the quotient times b and the remainder, which is less
--- than b and has the sign of a, or is 0. The words are those of the two numbers, and the remainder's word stands for
--- it; so does the quotient's, if it is not that of -32,768 by -1.
+-- The quotient and the remainder of `a` by `b` as signed numbers. DVI and MODI give the words of both. Here `a` is the
+-- quotient times `b`, plus the remainder. The remainder is less than `b` in absolute value, and is 0 or has the sign of
+-- `a`. Its word denotes it. The word of the quotient denotes it too, except for -32,768 divided by -1.
 pub record Division (a b : ℕ) : Type 0 where
   pub quotient : ℤ
   pub remainder : ℤ
@@ -25,8 +25,7 @@ pub record Division (a b : ℕ) : Type 0 where
 abbrev pub DivisionIsWhole : Type 0
 DivisionIsWhole = (a b : ℕ) → a < 65536 → b < 65536 → b ≢ 0 → Division a b
 
--- The rank of a word is its signed number, counted from -32,768 on: so ranks stand in the order of signed numbers, and
--- are as far apart.
+-- The rank of a word is its signed number plus 32,768. So ranks have the order and the distances of signed numbers.
 pub record RanksAreOrdered (a b : ℕ) : Type 0 where
   pub number : pos (rank a) ≡ signed a +ℤ pos 32768
   pub order : nat_le (rank a) (rank b) ≡ int_le (signed a) (signed b)
@@ -35,8 +34,8 @@ pub record RanksAreOrdered (a b : ℕ) : Type 0 where
 abbrev pub RanksFollowSigned : Type 0
 RanksFollowSigned = (a b : ℕ) → a < 65536 → b < 65536 → RanksAreOrdered a b
 
--- XJP in signed numbers: for a value from low to high by the entry of its table whose number is the value less low,
--- else to the jump before the table
+-- XJP in signed numbers: for a value from `low` to `high`, it jumps by the entry of its table whose number is the value
+-- less `low`. Otherwise it goes to the jump before the table.
 abbrev pub CaseJumpsBySigned : Type 0
 CaseJumpsBySigned =
     (low high table value : ℕ) (m : List ℕ) → low < 65536 → high < 65536 → value < 65536 →

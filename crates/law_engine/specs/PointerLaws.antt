@@ -1,15 +1,15 @@
--- Laws of words that are moved between the stack and memory.
+-- The law of words that are moved between the stack and memory.
 use Rattle.std.specs.Prelude.{◌≡◌, ◌<◌, ◌≤◌, ◌⊎◌, ℕ, ◌+◌, ◌*◌, List, Ok}
 use Rattle.pm_words.specs.Words.{IsMemory, word_at}
 use Rattle.pm_words.specs.Stack.{push}
 use Rattle.pm_rows.specs.Pointers.{load_words_row, store_words_row}
 
--- n words from one address on are those that stood from another one on
+-- The `count` words of `n` from `b` on equal those of `m` from `a` on.
 abbrev pub AreSameWords : List ℕ → ℕ → List ℕ → ℕ → ℕ → Type 0
 AreSameWords m a n b count = (k : ℕ) → k < count → word_at n (b + 2 * k) ≡ word_at m (a + 2 * k)
 
--- STM stores n words, the address is put on the stack again, and LDM loads them: the same words stand on the stack as
--- before, in the same order. The words go elsewhere than where the address stands.
+-- STM stores `n` words, its address is pushed again, and LDM loads the words from it. The stack has the old words in
+-- the old order. The words are stored outside the word of the address.
 abbrev pub StoredWordsAreLoaded : Type 0
 StoredWordsAreLoaded =
     (m stored named loaded : List ℕ) (n sp np below address top : ℕ) →

@@ -4,32 +4,32 @@ use Rattle.pm_words.specs.Words.{IsMemory, byte_at, copied, moved_up, moved_down
 
 -- ---- moves
 
--- from the low end: a move is a copy of the whole, where no byte is written before it is read
+-- A MOVELEFT copies the whole source, if it reads no byte that it wrote before.
 abbrev pub MoveLeftCopies : Type 0
 MoveLeftCopies =
     (m : List ℕ) (from to n : ℕ) → IsMemory m → from + n ≤ 65536 → to + n ≤ 65536 → (to ≤ from) ⊎ (from + n ≤ to) →
     moved_up m from to n ≡ copied m from to n
 
--- the same from the high end
+-- The same for MOVERIGHT.
 abbrev pub MoveRightCopies : Type 0
 MoveRightCopies =
     (m : List ℕ) (from to n : ℕ) → IsMemory m → from + n ≤ 65536 → to + n ≤ 65536 → (from ≤ to) ⊎ (to + n ≤ from) →
     moved_down m from to n ≡ copied m from to n
 
--- Where a move from the low end goes to a higher place, bytes that it wrote are read again: afterwards each byte is as
--- the byte from which it came is then. So the bytes between the two places repeat.
+-- After a MOVELEFT to the same or a higher address, each byte of the destination equals the byte that the source then
+-- has. So if both overlap, the bytes between the two addresses repeat.
 abbrev pub MoveLeftRepeats : Type 0
 MoveLeftRepeats =
     (m : List ℕ) (from to n i : ℕ) → IsMemory m → from + n ≤ 65536 → to + n ≤ 65536 → from ≤ to → i < n →
     byte_at (moved_up m from to n) (to + i) ≡ byte_at (moved_up m from to n) (from + i)
 
--- the same where a move from the high end goes to a lower place
+-- The same for MOVERIGHT to the same or a lower address.
 abbrev pub MoveRightRepeats : Type 0
 MoveRightRepeats =
     (m : List ℕ) (from to n i : ℕ) → IsMemory m → from + n ≤ 65536 → to + n ≤ 65536 → to ≤ from → i < n →
     byte_at (moved_down m from to n) (to + i) ≡ byte_at (moved_down m from to n) (from + i)
 
--- neither changes a byte outside its destination
+-- Neither move changes a byte outside its destination.
 abbrev pub MovesStayInside : Type 0
 MovesStayInside =
     (m : List ℕ) (from to n x : ℕ) → IsMemory m → from + n ≤ 65536 → to + n ≤ 65536 → (x < to) ⊎ (to + n ≤ x) →
@@ -37,19 +37,19 @@ MovesStayInside =
 
 -- ---- scans
 
--- k is the least number below n that passes a test, or n where none does
+-- `k` is the least number below `n` that passes the test, or `n` if no such number exists.
 pub record IsFirst (test : ℕ → Bool) (n k : ℕ) : Type 0 where
   pub inside : k ≤ n
   pub before : (i : ℕ) → i < k → test i ≡ false
   pub there : k < n → test k ≡ true
 
--- an upward scan's answer is the least distance of a byte that stops it, or the limit
+-- An upward scan answers the least distance of a byte that stops it, or its limit.
 pub record ScansUp (m : List ℕ) (a n b : ℕ) (equal : Bool) : Type 0 where
   pub distance : ℕ
   pub answer : scanned m a (pos n) b equal ≡ pos distance
   pub first : IsFirst (λ i. stops equal b (byte_at m (a + i))) n distance
 
--- a downward scan's answer is the same with a minus sign
+-- A downward scan answers the least distance of a byte that stops it, or its limit, with a minus sign.
 pub record ScansDown (m : List ℕ) (a d b : ℕ) (equal : Bool) : Type 0 where
   pub distance : ℕ
   pub answer : scanned m a (negsuc d) b equal ≡ pos 0 -ℤ pos distance

@@ -1,4 +1,4 @@
--- The law of what a step reads: it depends on nothing else.
+-- The law of the state that a step reads: it depends on nothing else.
 use Rattle.std.specs.Prelude.{◌≡◌, ◌⊎◌, ◌<◌, ◌≤◌, ℕ, ◌+◌, ◌%◌, true, false, List, Result, Ok}
 use Rattle.pm_words.specs.Words.{byte_at, word_at}
 use Rattle.pm_opcode.specs.declared.instr.Instr.{Instr}
@@ -10,37 +10,36 @@ use Rattle.pm_machine.specs.ReadStretches.{reads}
 use Rattle.pm_machine.specs.Written.{writes}
 use Rattle.law_engine.specs.WrittenLaws.{IsPlain}
 
--- the state with another memory, all else as it is
+-- State `s` with memory `m`.
 abbrev pub in_memory : State → List ℕ → State
 in_memory s m = record s { memory = m }
 
--- A memory holds what the instruction at IPC reads as the state's own memory does: the same instruction is fetched, the
--- bytes that it names in the code are the same (the characters of LSA and LPA, the words of LDC, the table of XJP), and
--- so is each byte that it reads.
+-- Memory `m` has what the instruction at IPC reads, as the memory of state `s` has it. The same instruction is fetched,
+-- and the bytes that it names in the code are the same. These are the characters of LSA and LPA, the words of LDC and
+-- the table of XJP. Each byte that the instruction reads is the same.
 pub record HoldsWhatIsRead (s : State) (m : List ℕ) : Type 0 where
   pub instruction : fetched m s.registers.ipc ≡ fetched s.memory s.registers.ipc
   pub named : (i : Instr) (x : ℕ) → fetched s.memory s.registers.ipc ≡ Ok i → i.start ≤ x → x < i.start + i.count
       → byte_at m x ≡ byte_at s.memory x
   pub bytes : (x : ℕ) → reads x 1 s ≡ true → byte_at m x ≡ byte_at s.memory x
 
--- Each byte is the same in two new memories, or in each as it was: where an instruction writes it writes the same in
--- both, and it leaves the others.
+-- Each byte is the same in the two new memories, or is unchanged in both. An instruction writes the same bytes in both,
+-- and leaves the others.
 abbrev pub ChangeAlike : List ℕ → List ℕ → List ℕ → List ℕ → Type 0
 ChangeAlike old new other_old other_new =
     (x : ℕ) → (byte_at other_new x ≡ byte_at new x)
     ⊎ ((byte_at new x ≡ byte_at old x) × (byte_at other_new x ≡ byte_at other_old x))
 
--- A step of the state in another memory goes as one that led from s to t: all but the memory is the same after it, the
--- memories changed alike, and each word of which the instruction writes no byte is as it was.
+-- A step in the state with memory `m` succeeds like the step from `s` to `t`. After it, all except the memory is the
+-- same, and the memories changed alike. Each word of which the instruction writes no byte is unchanged.
 pub record GoesAlike (s t : State) (m : List ℕ) (other : Result State Pause) : Type 0 where
   pub memory : List ℕ
   pub goes : other ≡ Ok (in_memory t memory)
   pub alike : ChangeAlike s.memory t.memory m memory
   pub rest : (x : ℕ) → x % 2 ≡ 0 → writes x 2 s ≡ false → word_at memory x ≡ word_at m x
 
--- What a step does depends on the registers, on the devices, places and rows, on its instruction and on the bytes that
--- this reads, and on nothing else of the memory. This speaks of steps that go, and not of those that end with an error
--- or wait.
+-- A step depends on the registers, the devices, the slots, the rows, its instruction and the bytes that the instruction
+-- reads. It depends on no other byte of the memory. The law covers steps that succeed, but not those that fail or wait.
 abbrev pub StepsDependOnWhatTheyRead : Type 0
 StepsDependOnWhatTheyRead =
     (s t : State) (m : List ℕ) →

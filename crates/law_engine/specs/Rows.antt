@@ -1,5 +1,5 @@
--- Laws of single rows of the table in words of their own: which frame a call links its procedure to, what waits after a
--- unit was cleared, and what a move leaves.
+-- Laws of single rows of the table: the static link of a call, the devices after a unit is cleared, and the memory
+-- after a move.
 use Rattle.std.specs.Prelude.{◌≡◌, ◌≢◌, ◌<◌, ◌≤◌, ◌⊎◌, ℕ, ◌+◌, ◌*◌, ◌%◌, List, [], Option, true, false, Ok}
 use Rattle.std.specs.Prelude.{ℤ, pos, negsuc, ◌+ℤ◌, ◌-ℤ◌, int_le}
 use Rattle.pm_words.specs.Words.{IsMemory, word_at}
@@ -18,15 +18,15 @@ use Rattle.pm_rows.specs.Pointers.{move_row}
 
 -- ---- the static link of a call
 
--- A main procedure, of level 0 or -1, is linked as the running program's is: by the word at BASE.
+-- A main procedure, of level 0 or -1, is linked like the running program: by the word at BASE.
 pub record LinksAsProgram (m : List ℕ) (r : Registers) (level : ℤ) (link : ℕ) : Type 0 where
   pub main : (level ≡ pos 0) ⊎ (level ≡ negsuc 0)
   pub word : load m r.base ≡ Ok link
 
--- Any other is linked to the frame that its own surrounding procedure runs in: from MP so many links up as the running
--- procedure lies deeper than that one, at most 127.
+-- Any other procedure is linked to the frame of the procedure that surrounds it. From MP, `links` static links lead
+-- there, at most 127. Their number is the level of the running procedure, less `level`, plus 1.
 pub record LinksOutward (m : List ℕ) (r : Registers) (level : ℤ) (link : ℕ) : Type 0 where
-  -- the highest word of the running procedure's table
+  -- The highest word of the table of the running procedure.
   pub own : ℕ
   pub table : load m r.jtab ≡ Ok own
   pub links : ℕ
@@ -34,8 +34,8 @@ pub record LinksOutward (m : List ℕ) (r : Registers) (level : ℤ) (link : ℕ
   pub few : links ≤ 127
   pub frame : up m r.mp links ≡ Ok link
 
--- The static link that a call gives a procedure of this level, memory and registers being those before the frame is
--- made: of CLP the caller's frame, of CGP the program's.
+-- The static link that a call gives to a procedure of `level`. Memory and registers are those before the frame is made.
+-- For CLP it is the frame of the caller, for CGP that of the program.
 abbrev pub LinksTo : Call → List ℕ → Registers → ℤ → ℕ → Type 0
 LinksTo (Clp p) m r level link = link ≡ r.mp
 LinksTo (Cgp p) m r level link = link ≡ r.base
@@ -45,7 +45,8 @@ LinksTo (Cxp n p) m r level link =
     (int_le level (pos 0) ≡ true → LinksAsProgram m r level link)
     × (int_le level (pos 0) ≡ false → LinksOutward m r level link)
 
--- a call that is done: the segment that it reached, the procedure's table there, and the word at the new MP
+-- A call from parts `c` to parts `d` that succeeds: the segment that it reached, the table of the procedure there, and
+-- the static link, which is the word at the new MP.
 pub record IsLinked (c : Parts) (call : Call) (code : Option (List ℕ)) (d : Parts) : Type 0 where
   pub at : Reached
   pub reached : Reaches c call code at
@@ -53,7 +54,7 @@ pub record IsLinked (c : Parts) (call : Call) (code : Option (List ℕ)) (d : Pa
   pub found : attributes at.memory at.place (procedure_called call) ≡ Ok table
   pub link : LinksTo call at.memory c.registers table.level (word_at d.memory d.registers.mp)
 
--- the word at the new MP is the static link that the kind of the call asks for
+-- The word at the new MP is the static link that the kind of the call determines.
 abbrev pub CallsAreLinked : Type 0
 CallsAreLinked =
     (c d : Parts) (call : Call) (code : Option (List ℕ)) →
@@ -61,8 +62,8 @@ CallsAreLinked =
 
 -- ---- cleared units
 
--- No byte waits after unit 1 or 2 was cleared, and nothing else of the devices has changed; to clear another number
--- changes nothing of them.
+-- Clearing unit 1 or 2 removes all bytes from the queue and changes no other part of the devices. Clearing any other
+-- unit changes nothing of them.
 pub record IsCleared (unit : ℕ) (d : Devices) : Type 0 where
   pub forgets : (unit ≡ 1) ⊎ (unit ≡ 2) → (cleared (unit_of unit) d).1 ≡ record d { queue = [] }
   pub stays : unit ≢ 1 → unit ≢ 2 → (cleared (unit_of unit) d).1 ≡ d
@@ -72,12 +73,12 @@ ClearingForgetsKeys = (unit : ℕ) (d : Devices) → IsCleared unit d
 
 -- ---- moves
 
--- Each word where a move went is the old one from where it came, wherever both lie; every other word stays.
+-- Each word of the destination is the old word of the source, even if both overlap. Every other word is unchanged.
 pub record IsMoved (m n : List ℕ) (from to words : ℕ) : Type 0 where
   pub there : (i : ℕ) → i < words → word_at n (to + 2 * i) ≡ word_at m (from + 2 * i)
   pub elsewhere : (x : ℕ) → x % 2 ≡ 0 → (x + 1 < to) ⊎ (to + 2 * words ≤ x) → word_at n x ≡ word_at m x
 
--- MOV: the word on the stack is from where, the one above it where to
+-- MOV: the source address is the top of the stack, and the destination address is below it.
 abbrev pub MovesReadFirst : Type 0
 MovesReadFirst =
     (words : ℕ) (m n : List ℕ) (sp np above : ℕ) →

@@ -7,36 +7,36 @@ use Rattle.pm_machine.specs.Events.{Event, after_all}
 use Rattle.pm_machine.specs.Start.{raw_start}
 use Rattle.pm_machine.specs.State.{State}
 
--- the same rows of the dictionary, and as many places and disks
+-- States `s` and `t` have the same rows of the dictionary, and the same number of slots and of disks.
 pub record KeepsShape (s t : State) : Type 0 where
   pub rows : t.rows ≡ s.rows
   pub places : length t.places ≡ length s.places
   pub disks : length t.devices.disks ≡ length s.devices.disks
 
--- whatever happens, the rows of the dictionary stay, and how many places and disks there are
+-- No event changes the rows of the dictionary, the number of slots or the number of disks.
 abbrev pub EventsKeepShape : Type 0
 EventsKeepShape = (s : State) (es : List Event) → KeepsShape s (after_all s es)
 
--- 16 rows and places, six disks, and no segment above slot 15
+-- State `s` has 16 rows, 16 slots and six disks, and no slot above 15 has an address.
 pub record HasShape (s : State) : Type 0 where
   pub rows : length s.rows ≡ 16
   pub places : length s.places ≡ 16
   pub disks : length s.devices.disks ≡ 6
   pub none_above : (n : ℕ) → 15 < n → placed s.places n ≡ None
 
--- a machine has that shape, however it began and whatever happened since
+-- Each machine has this shape, for any start and after any events.
 pub record MachinesHaveShape : Type 0 where
   pub raw : (bytes : List ℕ) (s : State) (es : List Event) → raw_start bytes ≡ Ok s → HasShape (after_all s es)
   pub booted :
       (images : List (Option (List ℕ))) (unit : ℕ) (name : List ℕ) (clock : ℕ) (s : State) (es : List Event) →
       length images ≡ 6 → boot_start images unit name clock ≡ Ok s → HasShape (after_all s es)
 
--- a slot has no place, or one for some call or some keep
+-- The slot has no address, or its segment has at least one call or keep.
 abbrev pub IsCounted : Option SegmentPlace → Type 0
 IsCounted None = Unit {0}
 IsCounted (Some p) = 0 < p.count + p.keeps
 
--- no place of a machine is for no call and no keep, however it began and whatever happened since
+-- Each segment of a machine that has an address has at least one call or keep, for any start and after any events.
 pub record MachinesCountCalls : Type 0 where
   pub raw :
       (bytes : List ℕ) (s : State) (es : List Event) →

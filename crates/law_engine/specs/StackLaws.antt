@@ -1,4 +1,4 @@
--- The law of rows on the stack: they write the words that they push, and no others.
+-- The law of rows on the stack: they write only the words that they push.
 use Rattle.std.specs.Prelude.{◌≡◌, ◌<◌, ◌≤◌, ◌⊎◌, ℕ, ◌+◌, ◌*◌, ◌/◌, ◌%◌, List, Option, Some, None, Result, Ok, Err}
 use Rattle.pm_words.specs.declared.error.ExecError.{ExecError}
 use Rattle.pm_words.specs.Words.{IsMemory, word_at}
@@ -24,8 +24,8 @@ use Rattle.pm_rows.specs.Pointers.{pointer_row}
 use Rattle.pm_rows.specs.Literals.{literal_row}
 use Rattle.pm_rows.specs.Values.{value_row}
 
--- How many words a row puts on the stack for those that it takes, in the memory and above the SP that it leaves. A row
--- that stores elsewhere has no such number.
+-- The number of words that a row leaves for those that it pops, from the memory and the SP after the row. A row that
+-- stores has no such number.
 abbrev pub Pushed : Type 0
 Pushed = List ℕ → ℕ → Option ℕ
 
@@ -35,7 +35,7 @@ so_many n m sp = Some n
 abbrev pub stores : Pushed
 stores m sp = None
 
--- a set: its count, which is on the top, and so many words
+-- A set: its count, which is the top of the stack, and as many words as the count states.
 abbrev pub a_set : Pushed
 a_set m sp = Some (word_at m sp + 1)
 
@@ -67,7 +67,7 @@ pushed_by_set set.Singleton = a_set
 pushed_by_set set.Subrange = a_set
 pushed_by_set (set.Adjust n) = so_many n
 
--- IXS leaves the stack as it is
+-- IXS leaves the stack unchanged.
 abbrev pub pushed_by_value : Value → Pushed
 pushed_by_value (value.Byte byte.Load) = so_many 1
 pushed_by_value (value.Byte byte.Store) = stores
@@ -79,17 +79,17 @@ pushed_by_value (value.Field field.Load) = so_many 1
 pushed_by_value (value.Field field.Store) = stores
 pushed_by_value (value.Compare r k) = so_many 1
 
--- every word but so many from SP on is as it was
+-- Every word is unchanged, except `k` words from SP on. Nothing is stated of a row that stores.
 abbrev pub KeepsAllBut : List ℕ → List ℕ → ℕ → Option ℕ → Type 0
 KeepsAllBut m n sp None = Unit {0}
 KeepsAllBut m n sp (Some k) = (x : ℕ) → x % 2 ≡ 0 → (x < sp) ⊎ (sp + 2 * k ≤ x) → word_at n x ≡ word_at m x
 
--- a row writes the words that it pushes, and no others
+-- A row that succeeds writes only the words that it pushes.
 abbrev pub WritesWhatItPushes : List ℕ → Pushed → Result (List ℕ × ℕ) ExecError → Type 0
 WritesWhatItPushes m pushed (Ok t) = KeepsAllBut m t.0 t.1 (pushed t.0 t.1)
 WritesWhatItPushes m pushed (Err e) = Unit {0}
 
--- All rows but those that store elsewhere than on the stack write the words that they push, and no others.
+-- Every row, except those that store, writes only the words that it pushes.
 pub record StackRowsWriteWhatTheyPush : Type 0 where
   pub arithmetic :
       (o : Arithmetic) (m : List ℕ) (sp np : ℕ) →

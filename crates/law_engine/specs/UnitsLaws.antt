@@ -1,4 +1,4 @@
--- A law of what a disk keeps.
+-- The law of the bytes that a disk stores.
 use Rattle.std.specs.Prelude.{◌≡◌, ◌≤◌, ℕ, ◌+◌, ◌*◌, true, List}
 use Rattle.pm_words.specs.Words.{IsMemory}
 use Rattle.pm_volume.specs.Words as disk
@@ -6,7 +6,7 @@ use Rattle.pm_units.specs.Devices.{bytes_from_block}
 use Rattle.pm_units.specs.Transfers.{can_move, named_bytes}
 use Rattle.pm_units.specs.declared.transfers.Transfer.{Transfer}
 
--- what a transfer writes on a disk is what the same transfer reads from it
+-- A transfer that is read from a disk gives the bytes that the same transfer wrote to it.
 abbrev pub DisksKeep : Type 0
 DisksKeep =
     (m : List ℕ) (image : List ℕ) (t : Transfer) → IsMemory m → t.address + t.count ≤ 65536 → can_move image t ≡ true →

@@ -1,4 +1,4 @@
--- Who may write what: the parts of the state that an event may change.
+-- The parts of the state that an event may change.
 use Rattle.std.specs.Prelude.{◌≡◌, ◌==◌, ℕ, ◌%◌, Bool, true, false, Result, Ok, Err}
 use Rattle.pm_words.specs.declared.error.ExecError.{ExecError}
 use Rattle.pm_words.specs.Words.{word_at}
@@ -26,9 +26,9 @@ use Rattle.pm_machine.specs.Rows.{fetched}
 use Rattle.pm_machine.specs.State.{State}
 use Rattle.pm_machine.specs.Steps.{executed}
 
--- the parts that may be written; the rows and the clock never are
+-- The parts that may change. The rows and the clock never do.
 pub record Writes : Type 0 where
-  -- which words of the memory, by their addresses
+  -- The words of the memory, by address.
   pub words : ℕ → Bool
   pub sp : Bool
   pub ipc : Bool
@@ -37,7 +37,7 @@ pub record Writes : Type 0 where
   pub np : Bool
   pub ioresult : Bool
   pub places : Bool
-  -- which disks, by their places in the list
+  -- The disks, by position in the list.
   pub disks : ℕ → Bool
   pub queue : Bool
   pub console : Bool
@@ -45,7 +45,7 @@ pub record Writes : Type 0 where
   pub steps : Bool
   pub status : Bool
 
--- every part that is not named is as it was
+-- Every part that `w` does not name is unchanged.
 pub record LeavesTheRest (w : Writes) (s t : State) : Type 0 where
   pub words : (x : ℕ) → x % 2 ≡ 0 → w.words x ≡ false → word_at t.memory x ≡ word_at s.memory x
   pub sp : w.sp ≡ false → t.registers.sp ≡ s.registers.sp
@@ -88,22 +88,22 @@ nothing = record {
 abbrev pub all_words : ℕ → Bool
 all_words x = true
 
--- an instruction that goes is counted, and leaves IPC
+-- A step that succeeds is counted, and changes IPC.
 abbrev pub step_alone : Writes
 step_alone = record nothing { ipc = true; steps = true }
 
--- a row on the stack writes memory and SP
+-- A row on the stack may change any word of memory and SP.
 abbrev pub stack_row : Writes
 stack_row = record step_alone { words = all_words; sp = true }
 
--- a row that only takes words from the stack
+-- A row that only pops words.
 abbrev pub taking_row : Writes
 taking_row = record step_alone { sp = true }
 
 abbrev pub frame_row : Writes
 frame_row = record stack_row { frame = true; places = true }
 
--- NEW and RELEASE write NP
+-- Only NEW and RELEASE change NP.
 abbrev pub memory_writes : OnMemory → Writes
 memory_writes memory.CheckIo = step_alone
 memory_writes memory.New = record stack_row { np = true }
@@ -117,7 +117,7 @@ memory_writes memory.IoResult = stack_row
 memory_writes memory.Halt = nothing
 memory_writes memory.FreeMemory = stack_row
 
--- the disk of a unit
+-- Disk `n` is that of port `p`.
 abbrev pub is_disk : Port → ℕ → Bool
 is_disk (Disk k) n = n == k
 is_disk Console n = false
@@ -126,7 +126,7 @@ is_disk Absent n = false
 is_disk Printer n = false
 is_disk Unknown n = false
 
--- the disk of the unit that a transfer names
+-- Disk `n` is that of the unit that the order of a transfer names.
 abbrev pub disk_named : Result Order ExecError → ℕ → Bool
 disk_named (Ok o) n = is_disk (unit_of o.unit) n
 disk_named (Err e) n = false
@@ -170,13 +170,14 @@ abbrev pub instruction_writes : Result Instr ExecError → State → Writes
 instruction_writes (Ok i) s = operation_writes (operation_of i) s
 instruction_writes (Err e) s = nothing
 
--- an instruction that goes writes what the table says; an error writes the status alone, and waiting nothing
+-- A step that succeeds writes what the table states. An error writes only the status, and a step that waits writes
+-- nothing.
 abbrev pub outcome_writes : Result State Pause → State → Writes
 outcome_writes (Ok t) s = instruction_writes (fetched s.memory s.registers.ipc) s
 outcome_writes (Err (Fails e)) s = record nothing { status = true }
 outcome_writes (Err Waits) s = nothing
 
--- a machine that has ended or halted is left as it is
+-- A step of a machine that has ended or halted writes nothing.
 abbrev pub step_writes : Status → State → Writes
 step_writes status.Running s = outcome_writes (executed s) s
 step_writes status.Ended s = nothing
@@ -189,6 +190,6 @@ event_writes s (Poke a w) = record nothing { words = λ x. x == a }
 event_writes s (Mount unit image) = record nothing { disks = is_disk (unit_of unit) }
 event_writes s (Eject unit) = record nothing { disks = is_disk (unit_of unit) }
 
--- an event leaves every part of the state that the table does not name for it
+-- An event leaves every part of the state unchanged that the table does not name for it.
 abbrev pub EventsLeaveTheRest : Type 0
 EventsLeaveTheRest = (s : State) (e : Event) → LeavesTheRest (event_writes s e) s (next s e)

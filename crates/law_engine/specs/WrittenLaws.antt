@@ -1,4 +1,4 @@
--- The law of what a step writes.
+-- The law of the words that a step writes.
 use Rattle.std.specs.Prelude.{◌≡◌, ◌<◌, ℕ, ◌%◌, false, List, All, Some}
 use Rattle.pm_words.specs.Words.{IsMemory, word_at}
 use Rattle.pm_words.specs.Stack.{IsStack}
@@ -7,14 +7,14 @@ use Rattle.pm_machine.specs.State.{State}
 use Rattle.pm_machine.specs.Steps.{stepped}
 use Rattle.pm_machine.specs.Written.{writes}
 
--- what every machine keeps: its memory and its stack, and the images on its disks and what waits to be read are bytes
+-- State `s` has what every machine has: the memory and the stack of a machine, and bytes on its disks and in its queue.
 pub record IsPlain (s : State) : Type 0 where
   pub memory : IsMemory s.memory
   pub stack : IsStack s.registers.sp s.registers.np
   pub disks : (k : ℕ) (image : List ℕ) → image_at s.devices k ≡ Some image → All (λ b. b < 256) image
   pub queue : All (λ b. b < 256) s.devices.queue
 
--- a step leaves each word of which its instruction names no byte, whatever the instruction and however it ends
+-- A step leaves each word unchanged of which its instruction names no byte, for each instruction and each result.
 abbrev pub StepsWriteWhatIsNamed : Type 0
 StepsWriteWhatIsNamed =
     (s : State) (x : ℕ) →

@@ -33,7 +33,7 @@ word_fits : (bs : List ℕ) (k : ℕ) → AreBytes bs → word_in bs k < 65536
 unfolding word_in
 word_fits bs k h = let low = byte_fits bs k h in let high = byte_fits bs (k + 1) h in omega (arith, low, high)
 
--- an entry that is found ends at a block whose number is a word
+-- An entry that is found ends at a block whose number is a word.
 pub end_fits : (image name : List ℕ) (entry : Entry) (file : List ℕ) → IsImage image → IsFound image name entry file → entry.end < 65536
 end_fits image name entry file is f =
     let lies = found_all (IsWithin (files_begin (directory_of image)) (block_count (directory_of image))) (is_named name) (files_of image) entry
@@ -42,7 +42,7 @@ end_fits image name entry file is f =
     let count = word_fits (directory_of image) 14 (range_fits image 1024 3072 is.bytes) in
     omega (arith, within, count)
 
--- the file of an entry is bytes
+-- The file of an entry consists of bytes.
 two_parts : (a b : Bool) (xs file : List ℕ) → AreBytes xs → cond a (Some []) (cond b (Some xs) None) ≡ Some file → AreBytes file
 two_parts true b xs file fits h = let same : [] ≡ file = cc in subst AreBytes same (All-nil (λ b. b < 256))
 two_parts false true xs file fits h = let same : xs ≡ file = cc in subst AreBytes same fits

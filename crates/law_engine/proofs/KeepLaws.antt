@@ -1,4 +1,4 @@
--- Segments that the program keeps.
+-- Segments with keeps.
 use Rattle.std.proofs.Common.{◌≡◌, ◌≢◌, ◌<◌, inl, inr, ℕ, ◌+◌, ◌-◌, ◌==◌, ◌||◌, Bool, true, false, cond, nat_lt, List, [], ◌∷◌, length, replicate}
 use Rattle.std.proofs.Common.{Option, Some, None, Result, Ok, Err, refl, sym, ap, ◌∙◌, subst, arith, get_or}
 use Rattle.std.specs.Prelude.{slice_get, slice_set, slice_index_or, option_and_then, position}
@@ -42,7 +42,7 @@ use Rattle.law_engine.specs.Keeping.{plain_returned, plain_return_row}
 use Rattle.law_engine.proofs.Places.{Holds, Places, after, boot_holds, lifted, next_holds, not_unkeep, of_parts, of_reach, other_holds}
 use Rattle.law_engine.proofs.Places.{procedure_holds, raw_holds, standard_holds, then}
 
--- ---- a kept segment stands where it is
+-- ---- a segment with a keep has its address
 
 inside : (places : Places) (n : ℕ) (p : SegmentPlace) → get_or places n None ≡ Some p → n < length places
 inside places n p is = elim (cases_Bool (nat_lt n (length places))) [
@@ -53,7 +53,7 @@ inside places n p is = elim (cases_Bool (nat_lt n (length places))) [
       absurd (cc)
 ]
 
--- the places after one slot is set
+-- The slots after one of them is set.
 set_at : (places : Places) (m n : ℕ) (x : Option SegmentPlace) (p : SegmentPlace) → StandsAs p (get_or places n None) → (m ≡ n → StandsAs p x)
     → StandsAs p (get_or (slice_set places m x) n None)
 set_at places m n x p h k = elim (cases_Bool (m == n)) [
@@ -67,7 +67,7 @@ set_at places m n x p h k = elim (cases_Bool (m == n)) [
       rw other h
 ]
 
--- the slot that is set is the one that stands
+-- The slot that is set is the slot of the segment.
 at_slot : (places : Places) (m n : ℕ) (q p : SegmentPlace) → get_or places m None ≡ Some q → StandsAs p (get_or places n None) → m ≡ n → StandsAs p (Some q)
 at_slot places m n q p is h same = subst (StandsAs p) (subst (λ i. get_or places i None ≡ Some q) same is) h
 
@@ -96,7 +96,7 @@ kept_more p q h =
       keeps = (let keeps : q.keeps ≡ h.now.keeps = ap (λ (x : SegmentPlace). x.keeps) same in let few = h.keeps in omega (arith, keeps, few));
     }
 
--- a slot without a place is another
+-- A slot without an address is another slot.
 apart : (places : Places) (m n : ℕ) (p : SegmentPlace) → get_or places m None ≡ None → StandsAs p (get_or places n None) → m ≡ n → ⊥
 apart places m n p none h same =
     let no : None ≡ Some h.now = sym (subst (λ i. get_or places i None ≡ None) same none) ∙ h.there in cc
@@ -184,7 +184,7 @@ pub kept_segments_stand : KeptSegmentsStand
 kept_segments_stand s es n p is kept never =
     all_stand n p kept s es (record { now = p; there = is; place = refl; keeps = omega arith }) never
 
--- ---- the machine without kept segments
+-- ---- the machine without keeps
 
 abbrev AreUnkept : Places → Type 0
 AreUnkept places = All IsUnkept places
@@ -223,7 +223,7 @@ released_unkept s places h = lessened_unkept (position (stands_at s) places) pla
 no_places : AreUnkept (replicate 16 None)
 no_places = All-replicate IsUnkept 16 None tt
 
--- a return forgets what that of the machine without kept segments forgets
+-- A return removes the same as that of the machine without keeps.
 less_same : (o : Option SegmentPlace) → IsUnkept o → option_and_then one_call_less o ≡ option_and_then plain_less o
 less_same None h = refl
 less_same (Some p) h = elim (cases_Bool (nat_lt 1 p.count)) [

@@ -1,4 +1,4 @@
--- Where code stands that a standard procedure loads, and what the disks have of it now.
+-- The address of code that standard procedure 21 loads, and the bytes of it on the disks now.
 use Rattle.std.proofs.Common.{◌≡◌, ◌==◌, ◌<◌, ◌≤◌, ℕ, ◌+◌, ◌-◌, false, List, length, drop, get_or, Option, Some, None, Result, Ok, Err, refl, sym, ap, ◌∙◌}
 use Rattle.std.proofs.Common.{subst, arith}
 use Rattle.std.specs.Prelude.{slice_get}
@@ -60,7 +60,7 @@ written_stands ws code a memory room bytes =
     ∙ byte_at-with_bytes ws code a (a + i) memory room bytes (omega arith) (omega (arith, below))
     ∙ ap (λ k. get_or code k 0) away)
 
--- ---- a segment that is kept
+-- ---- a segment that procedure 21 loads
 
 loading_stands : (c d : Parts) (n : ℕ) (code : List ℕ) → IsMemory c.memory → All (λ b. b < 256) code → c.registers.sp ≤ 65504
     → keep_loading c n code ≡ Ok d → bytes_at d.memory (c.registers.sp - length code) (length code) ≡ code
@@ -79,7 +79,7 @@ slot_stands c d n code None none memory bytes low made = absurd (cc)
 slot_stands c d n code (Some (Some p)) none memory bytes low made = absurd (cc)
 slot_stands c d n code (Some None) none memory bytes low made = loading_stands c d n code memory bytes low made
 
--- the row of procedure 21, where the slot's code is there
+-- The row of procedure 21, if the code of the slot exists.
 row_stays : (n : ℕ) (code : List ℕ) (s u : Reach) → IsMemory s.memory → word_at s.memory s.registers.sp ≡ n → placed s.places n ≡ None
     → slot_code n s.places s.rows s.devices ≡ Ok (Some code) → All (λ b. b < 256) code → keep_row s ≡ Ok u
     → bytes_at u.memory (s.registers.sp + 2 - length code) (length code) ≡ code
@@ -103,7 +103,7 @@ row_stays n code s u memory slot none needed bytes made =
 
 -- ---- a step
 
--- a step that keeps a segment and went has the memory that its row gave
+-- A successful step of procedure 21 has the memory that its row returned.
 went_keeping : (s t : State) (r : Result Reach ExecError) (P : List ℕ → Type 0) → (settled s (or_fails r >>= λ u. Ok (with_reach u t))).1 ≡ Went
     → ((u : Reach) → r ≡ Ok u → P u.memory) → P (settled s (or_fails r >>= λ u. Ok (with_reach u t))).0.memory
 went_keeping s t (Ok u) P h k = k u refl
@@ -124,7 +124,7 @@ step_stays s n code memory none h goes needed bytes =
     rw same (went_keeping s t (keep_row (reach t)) (λ m. bytes_at m (s.registers.sp + 2 - length code) (length code) ≡ code) (rw same at goes)
     (λ u made. row_stays n code (reach t) u memory h.slot none needed bytes made))
 
--- a step that has no code to keep does not go
+-- A step of procedure 21 without code to load does not succeed.
 row_fails : (n : ℕ) (s u : Reach) → word_at s.memory s.registers.sp ≡ n → placed s.places n ≡ None → slot_code n s.places s.rows s.devices ≡ Ok None
     → keep_row s ≡ Ok u → ⊥
 unfolding keep_row segment_kept
@@ -176,7 +176,7 @@ steps_keep s memory image file unit n is from there none at goes =
     (end_fits image from.name from.entry file is f) there none in
     file_needed file n (segment_in file n) s refl memory none at goes needed (segment_fits file n (file_fits image file from.entry is.bytes f.bytes))
 
--- ---- what stands on the disk now
+-- ---- the bytes on the disk now
 
 row_code : (s : State) (n : ℕ) (row : SlotRow) (code : List ℕ) → slice_get s.rows n ≡ Some row → 0 < row.length → placed s.places n ≡ None
     → code_on s.devices row.unit row.block row.length ≡ Some code → slot_code n s.places s.rows s.devices ≡ Ok (Some code)

@@ -1,4 +1,4 @@
--- The code that is loaded is the segment of the code file.
+-- The loaded code is the segment of the code file.
 use Rattle.std.proofs.Common.{◌≡◌, inl, inr, ◌≤◌, ◌<◌, ◌==◌, ℕ, zero, suc, ◌+◌, ◌-◌, ◌*◌, ◌%◌, Bool, true, false, cond, not, nat_lt, nat_le, ◌&&◌}
 use Rattle.std.proofs.Common.{List, [], ◌∷◌, length, take, drop, get_or, slice_range, Option, Some, None, is_none, is_some, Result, Ok, refl, sym}
 use Rattle.std.proofs.Common.{◌∙◌, ap, subst, arith, take-take, drop-drop}
@@ -27,7 +27,7 @@ use Rattle.pm_machine.specs.Boot.{code_file, image_of, row_of, rows_below, some_
 use Rattle.pm_stdproc.specs.Loads.{code_needed, code_of_row}
 use Rattle.law_engine.specs.EventLaws.{LoadsGiveSegments}
 
--- a part of a part
+-- A part of a part.
 part-of_part : (xs : List ℕ) (a c b l : ℕ) → a + b + l ≤ c → slice_range (slice_range xs a c) b (b + l) ≡ slice_range xs (a + b) (a + b + l)
 part-of_part xs a c b l within =
     let count : b + l - b ≡ l = omega arith in
@@ -37,7 +37,7 @@ part-of_part xs a c b l within =
     ap (λ k. drop b (take k (drop a xs))) whole ∙ drop-take b (c - (a + b)) (drop a xs) ∙ ap (take (c - (a + b))) (drop-drop b a xs) in
     rw (count, other, cut) (take-take l (c - (a + b)) (drop (a + b) xs) (omega arith))
 
--- what holds of each entry holds of the one that is found
+-- A property of all entries is one of the entry that is found.
 pub found_all : (P : Entry → Type 0) (p : Entry → Bool) (xs : List Entry) (x : Entry) → All P xs → find p xs ≡ Some x → P x
 found_all P p [] x all h = cc
 found_all P p (y ∷ ys) x all h = go (p y) h (λ is. found_all P p ys x (λ k d l. all (suc k) d (omega (arith, l))) is)
@@ -46,7 +46,7 @@ found_all P p (y ∷ ys) x all h = go (p y) h (λ is. found_all P p ys x (λ k d
     go true is later = let same : y ≡ x = cc in subst P same (all 0 y (omega arith))
     go false is later = later is
 
--- ---- what a code file that was found is
+-- ---- the properties of a code file that was found
 
 passed : {A : Type 0} (b : Bool) (f : BootFault) (rest : Result A BootFault) (y : A) → (demand b f >>= λ _. rest) ≡ Ok y → (b ≡ true) × (rest ≡ Ok y)
 passed true f rest y h = (refl, h)
@@ -64,7 +64,7 @@ no_fault (Some f) h = cc
 abbrev ok : Entry × List ℕ → Result (Entry × List ℕ) BootFault
 ok x = Ok x
 
--- a program that was found: its entry, and the bytes of its file, a sound one
+-- A program that was found: its entry, and the bytes of its file, which is valid.
 pub record IsFound (image name : List ℕ) (entry : Entry) (file : List ℕ) : Type 0 where
   pub named : file_named image name ≡ Some entry
   pub bytes : file_bytes image entry ≡ Some file
@@ -96,7 +96,7 @@ found images image name file entry unit on h =
     let g = passed (is_some (segment_in b.0 1)) BadCode _ _ s.1 in
     joined image name e.0 entry b.0 file e.1 b.1 s.0 g.1
 
--- ---- the slots of a sound file
+-- ---- the slots of a valid file
 
 or_none : (a b : Option CodeFault) → option_or a b ≡ None → (a ≡ None) × (b ≡ None)
 or_none None b h = (refl, h)
@@ -181,7 +181,7 @@ part_there image file e h long =
       bytes = t.2;
     }
 
--- a slot's blocks lie before the file's end, so that no number wraps
+-- The blocks of a slot are before the end of the file, so no number wraps.
 record IsPlaced (image file : List ℕ) (e : Entry) (n : ℕ) : Type 0 where
   pub fits : (e.first + block_in file n) % 65536 ≡ e.first + block_in file n
   pub lies : nat_le (512 * (e.first + block_in file n) + length_in file n) (length image) ≡ true

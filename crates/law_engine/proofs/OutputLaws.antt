@@ -1,4 +1,4 @@
--- No row takes away what was written.
+-- No row removes output that was written.
 use Rattle.std.proofs.Common.{ℕ, Bool, true, false, List, [], ◌∷◌, ◌++◌, length, take, Option, Some, None, Result, Ok, Err, refl, sym, ap, ◌∙◌}
 use Rattle.std.proofs.Common.{append-nil, append_assoc, drop, inl, inr, is_none, nat_lt, ◌&&◌}
 use Rattle.std.specs.Prelude.{if◌then◌else◌}
@@ -61,7 +61,7 @@ further a b c f g = record {
   whole = g.whole ∙ ap (λ u. u ++ g.more) f.whole ∙ append_assoc a f.more g.more;
 }
 
--- ---- what a part of a row gives
+-- ---- the result of a part of a row
 
 abbrev Gives : {A E : Type 0} → (A → Type 0) → Result A E → Type 0
 Gives p (Ok x) = p x

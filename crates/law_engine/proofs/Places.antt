@@ -1,4 +1,4 @@
--- What holds of the places of a state, and of what a row does to them.
+-- Properties of the slots of a state, and of the slots after a row.
 use Rattle.std.proofs.Common.{◌≡◌, ◌≢◌, refl, inl, inr, ℕ, ◌+◌, ◌*◌, ◌==◌, ◌&&◌, Bool, true, false, cond, nat_lt, nat_le, List, length}
 use Rattle.std.proofs.Common.{replicate, Option, Some, None, Result, Ok, Err, ap, ◌∙◌, subst, arith}
 use Rattle.std.specs.Prelude.{slice_get, slice_set}
@@ -56,7 +56,7 @@ use Rattle.law_engine.proofs.ShapeLaws.{bound, chosen, ok_same, parts_there}
 abbrev pub Places : Type 0
 Places = List (Option SegmentPlace)
 
--- what a part of a row gives has places for which something holds
+-- The slots that the part of a row returns have property `P`. It is true of each error.
 abbrev pub Holds : {A E : Type 0} → (Places → Type 0) → (A → Places) → Result A E → Type 0
 Holds P of (Ok x) = P (of x)
 Holds P of (Err e) = Unit {0}
@@ -90,7 +90,7 @@ of_reach s = s.places
 abbrev pub of_state : State → Places
 of_state s = s.places
 
--- ---- the rows that do not speak of places
+-- ---- the rows that do not change slots
 
 exit_holds : (P : Places → Type 0) (s : Reach) → P s.places → Holds P of_reach (exit_row s)
 unfolding exit_row exited
@@ -113,12 +113,12 @@ procedure_holds P procedure.Keep s a b h = absurd (a refl)
 procedure_holds P procedure.Unkeep s a b h = absurd (b refl)
 procedure_holds P procedure.Unimplemented s a b h = tt
 
--- a standard procedure, by what its row gives
+-- A standard procedure, by the result of its row.
 pub standard_holds : (P : Places → Type 0) (n : ℕ) (s : State) → Holds P of_reach (procedure_row (procedure_numbered n) (reach s))
     → Holds P of_state (standard_row n s)
 standard_holds P n s h = after P of_reach of_state (procedure_row (procedure_numbered n) (reach s)) _ h (λ t k. k)
 
--- one that keeps no segment
+-- A procedure that loads no segment.
 is_not : (b : Bool) (x y p : Procedure) → x ≢ p → y ≢ p → cond b x y ≢ p
 is_not true x y p h k = h
 is_not false x y p h k = k
@@ -189,7 +189,7 @@ stack_holds P s r h = lifted P of_state (on_stack s r) (then P of_state r _ (λ 
 registers_hold : (P : Places → Type 0) (s : State) (r : Result Registers ExecError) → P s.places → Holds P of_state (or_fails (on_registers s r))
 registers_hold P s r h = lifted P of_state (on_registers s r) (then P of_state r _ (λ t. h))
 
--- ---- the rows that change places: what a call, a load and a return do to them
+-- ---- the rows that change slots: a call, a load and a return
 
 module _ (P : Places → Type 0)
     (more : (places : Places) (n : ℕ) (p : SegmentPlace) → slice_get places n ≡ Some (Some p) → P places
@@ -249,7 +249,7 @@ module _ (P : Places → Type 0)
       after P of_parts of_state (returned (parts s) (words_of_return r) (is_base_return r)) _
       (returned_holds (parts s) (words_of_return r) (is_base_return r) h) (λ p k. k)
 
-  -- an operation, by what its standard procedure does
+  -- An operation, by the result of its standard procedure.
   performed_holds : (o : Operation) (s : State) → P s.places → ((n : ℕ) → o ≡ operation.Standard n → Holds P of_state (standard_row n s))
       → Holds P of_state (performed o s)
   performed_holds (operation.Arithmetic o) s h k = stack_holds P s (arithmetic_row o s.memory s.registers.sp s.registers.np) h
@@ -270,7 +270,7 @@ module _ (P : Places → Type 0)
   settled_holds s (Err (Fails e)) h k = h
   settled_holds s (Err Waits) h k = h
 
-  -- what holds after each standard procedure that the instruction at IPC may be
+  -- The property after each standard procedure that may be at IPC.
   abbrev pub StandardHolds : State → Result Instr ExecError → Type 0
   StandardHolds s r = (i : Instr) (n : ℕ) → r ≡ Ok i → operation_of i ≡ operation.Standard n → Holds P of_state (standard_row n (past_instruction i s))
 

@@ -1,4 +1,4 @@
--- EXIT in two memories that agree on what it reads.
+-- EXIT in two memories that agree on the bytes that it reads.
 use Rattle.std.proofs.Common.{◌≡◌, ◌<◌, ◌≤◌, inl, inr, ℕ, zero, suc, ◌+◌, ◌%◌, ◌==◌, ◌||◌, Bool, true, false, add-one}
 use Rattle.std.proofs.Common.{List, [], ◌∷◌, ◌++◌, length, Result, Ok, Err, refl, sym, ap, ◌∙◌, subst, arith}
 use Rattle.std.specs.Prelude.{not}
@@ -22,12 +22,12 @@ use Rattle.law_engine.proofs.ReadSteps.{rest_agree, right_agree}
 use Rattle.law_engine.proofs.ReadSteps.{then_alike, unchanged, word_alike_sized}
 use Rattle.law_engine.proofs.ReadCalls.{PartsAlike, here_same, loaded_even, loaded_word, parts_in}
 
--- ---- what EXIT asks
+-- ---- the words that EXIT checks
 
 pub asked_same : (m n : List ℕ) (p : Wanted) (s j : ℕ) → Same m n s 2 → Same m n j 2 → is_wanted n p s j ≡ is_wanted m p s j
 asked_same m n p s j first second = rw (load_same m n s 2 s first (omega arith) (omega arith), load_same m n j 2 j second (omega arith) (omega arith)) refl
 
--- the control words of a frame that EXIT leaves, and what they lead to
+-- The control words of a frame that EXIT leaves, and the words to which they lead.
 pub record LeftSame (m n : List ℕ) (f : ℕ) : Type 0 where
   pub caller : Same m n ((f + 2) % 65536) 2
   pub jtab : Same m n ((f + 4) % 65536) 2
@@ -71,7 +71,7 @@ met_same m n p f left =
     asked_same m n p seg jtab (subst (λ i. Same m n i 2) (sym (loaded_word m at_6 seg l)) left.segment)
     (subst (λ i. Same m n i 2) (sym (loaded_word m at_4 jtab k)) left.procedure)))))
 
--- what was met is even
+-- The addresses of the frame and of its JTAB are even.
 pub record MetEven (m : List ℕ) (f : ℕ) : Type 0 where
   pub frame : (f + 2) % 65536 % 2 ≡ 0
   pub jtab : control m f 4 % 2 ≡ 0
@@ -102,7 +102,7 @@ frames_same (suc k) i m n a l agree = elim (cases_lt i k) [
       rw same (left_same m n (frame_up m a k) (left_agree (left_read m (frame_up m a k)) (frames_read m a k) m n agree))
 ]
 
--- the first k frames are those that a walk met
+-- The walk met the first `k` frames.
 pub record IsMet (m n : List ℕ) (a k : ℕ) : Type 0 where
   pub left : (i : ℕ) → i < k → LeftSame m n (frame_up m a i)
   pub even : (i : ℕ) → i < k → MetEven m (frame_up m a i)
@@ -118,7 +118,7 @@ frame_same (suc i) m n a k l is =
 exit_code_same : (m n : List ℕ) (j : ℕ) → Same m n (minus j 4) 2 → j % 2 ≡ 0 → exit_code n j ≡ exit_code m j
 exit_code_same m n j same even = rw (here_same m n (minus j 4) same (omega (arith, even))) refl
 
--- memories of their length that changed alike
+-- Memories of 32,768 words that changed alike.
 record Pair (m p n q : List ℕ) : Type 0 where
   pub first : length p ≡ 32768
   pub second : length q ≡ 32768

@@ -1,4 +1,4 @@
--- A step depends on nothing but what its instruction reads.
+-- A step depends only on the bytes that its instruction reads.
 use Rattle.std.proofs.Common.{◌≡◌, ℕ, ◌+◌, ◌*◌, ◌%◌, true, List, ◌∷◌, ◌++◌, Option, Result, Ok, Err, refl, sym, ap, ◌∙◌, subst, arith}
 use Rattle.std.specs.Prelude.{IfOk, slice_get, length}
 use Rattle.std.proofs.lemmas.Bool.{and_parts}
@@ -76,13 +76,13 @@ use Rattle.law_engine.proofs.ReadSame.{row_names}
 
 -- ---- standard procedures
 
--- what standard procedures leave is the same, but for the memory, which changed alike
+-- The results of standard procedures are the same, except for the memory, which changed alike.
 record ReachAlike (m n : List ℕ) (t u : Reach) : Type 0 where
   pub memory : List ℕ
   pub same : u ≡ record t { memory = memory }
   pub alike : ChangeAlike m t.memory n memory
 
--- what a standard procedure reaches, with another memory
+-- The state that a standard procedure reaches, with another memory.
 abbrev reach_in : Reach → List ℕ → Reach
 reach_in c n = record c { memory = n }
 
@@ -128,7 +128,7 @@ on_units c n (Ok t) u h =
       };
     })
 
--- parts that a standard procedure reaches
+-- The parts that a standard procedure reaches.
 from_parts : (c : Reach) (n : List ℕ) (r u : Result Parts ExecError) → Both (PartsAlike c.memory n) r u
     → Both (ReachAlike c.memory n) (r >>= λ p. Ok (record c { memory = p.memory; registers = p.registers; places = p.places }))
     (u >>= λ p. Ok (record (reach_in c n) { memory = p.memory; registers = p.registers; places = p.places }))
@@ -251,7 +251,7 @@ operation_alike operation.End s n x plain other agree code =
     record { other = _; made = refl; like = record { memory = n; same = refl; alike = unchanged s.memory n } }
 operation_alike operation.Unimplemented s n x plain other agree code = tt
 
--- an instruction that was fetched is spelled there, so that the bytes that it names lie in memory
+-- A fetched instruction is encoded there, so the bytes that it names are in memory.
 record IsRanged (i : Instr) : Type 0 where
   pub ranges : in_range (form_of i.op) i ≡ true
   pub lies : lies_within (form_of i.op) i 65536 ≡ true
@@ -292,7 +292,7 @@ executed_alike s n plain other has =
     row_alike s n (fetched s.memory s.registers.ipc) (fetched n s.registers.ipc) plain other has.instruction
     (λ i h. fetched_ranged s.memory s.registers.ipc i plain.memory h) (λ i h x low high. has.named i x h low high) has.bytes
 
--- the words that are not named stay in the other memory too
+-- The words that are not named are unchanged in the other memory too.
 rest_kept : (s t : State) (n : List ℕ) → IsPlain s → IsPlain (in_memory s n) → HoldsWhatIsRead s n → executed s ≡ Ok t
     → IfMade (λ (v : State). Kept (written s) n v.memory) (executed (in_memory s n))
 unfolding executed read written

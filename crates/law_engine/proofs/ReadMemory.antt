@@ -1,4 +1,4 @@
--- Standard procedures on memory in two memories that agree on what they read.
+-- Standard procedures on memory, in two memories that agree on the bytes that they read.
 use Rattle.std.proofs.Common.{◌≡◌, ◌<◌, ◌≤◌, inl, inr, ℕ, zero, suc, ◌+◌, ◌-◌, ◌*◌, ◌/◌, ◌%◌, ◌==◌, ◌&&◌, Bool, true, false, nat_le}
 use Rattle.std.proofs.Common.{List, [], ◌∷◌, length, replicate, Ok, refl, sym, ap, ◌∙◌, subst, arith}
 use Rattle.std.specs.List.{All}
@@ -31,16 +31,16 @@ use Rattle.law_engine.proofs.ReadSteps.{load_same, pop_same, pushed_alike, still
 use Rattle.law_engine.proofs.ReadRows.{next_same}
 use Rattle.pm_calls.proofs.ReturnLaws.{bound, ok_same}
 
--- ---- what is written
+-- ---- the words that are written
 
--- the memories after the same word was stored
+-- The memories after the same word was stored.
 pub store_alike : (m n : List ℕ) (a w : ℕ) → IsMemory m → IsMemory n → Both (λ p q. ChangeAlike m p n q) (store m a w) (store n a w)
 store_alike m n a w memory other = elim (cases_Bool (is_even a)) [
   | inl e ↦ rw e (record { other = with_word n a w; made = refl; like = word_alike m n a w memory other })
   | inr e ↦ rw e tt
 ]
 
--- a row that pushes a word and gives registers
+-- A row that pushes a word and returns registers.
 pushed_with : (m n : List ℕ) (sp np w : ℕ) (r : Registers) → IsMemory m → IsMemory n
     → RowsAlike m n (push m sp np w >>= λ t. Ok (t.0, record r { sp = t.1 })) (push n sp np w >>= λ t. Ok (t.0, record r { sp = t.1 }))
 pushed_with m n sp np w r memory other =
@@ -52,7 +52,7 @@ pushed_with m n sp np w r memory other =
 one_byte : (b : ℕ) → b < 256 → All (λ x. x < 256) (b ∷ [])
 one_byte b h = All-cons (λ x. x < 256) b [] h (All-nil (λ x. x < 256))
 
--- one byte is moved
+-- One byte is moved.
 byte_moved : (m n : List ℕ) (from to : ℕ) → IsMemory m → IsMemory n → from < 65536 → to < 65536 → byte_at n from ≡ byte_at m from
     → ChangeAlike m (with_byte m to (byte_at m from)) n (with_byte n to (byte_at n from))
 unfolding with_byte
@@ -112,7 +112,7 @@ moved_alike move m n from to count moves memory other agree = of (is_positive co
         })
     of false h = record { other = n; made = refl; like = unchanged m n }
 
--- ---- places
+-- ---- addresses
 
 pub place_same : (m n : List ℕ) (a k sp : ℕ) → Same m n a k → a ≤ sp → sp + 4 ≤ a + k → pop_place n sp ≡ pop_place m sp
 place_same m n a k sp same low high =
@@ -256,7 +256,7 @@ scan_row_alike m n r memory other same agree =
     (subst (λ a. Agree (scan_stretch a (signed (word_at m (r.sp + 10))) ∷ []) m n) at agree))) (λ c z.
     pushed_with m n limit.above r.np c r memory other))))))
 
--- how many words a procedure on memory takes
+-- The number of words that a procedure on memory pops.
 abbrev pub taken_by_memory : OnMemory → ℕ
 taken_by_memory memory.CheckIo = 0
 taken_by_memory memory.New = 2

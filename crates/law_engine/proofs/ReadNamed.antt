@@ -1,4 +1,4 @@
--- What an instruction names in the code: the words of LDC, and the table of XJP.
+-- The bytes that an instruction names in the code: the words of LDC, and the table of XJP.
 use Rattle.std.proofs.Common.{◌≡◌, ◌≤◌, inl, inr, ℕ, ◌+◌, ◌-◌, ◌*◌, ◌%◌, ◌&&◌, ◌||◌, Bool, true, false, nat_le}
 use Rattle.std.proofs.Common.{List, [], ◌∷◌, Option, Some, None, refl, sym, subst, arith}
 use Rattle.std.specs.Prelude.{not}
@@ -25,7 +25,7 @@ use Rattle.law_engine.proofs.ReadOthers.{Equal, NamesSame, entry_same}
 
 -- ---- the case jump
 
--- the table of a case jump is the same in both memories, and lies in them
+-- The table of a case jump is the same in both memories, and is in them.
 pub record CaseSame (low high table : ℕ) (m n : List ℕ) : Type 0 where
   pub room : table + 2 * jump_count low high ≤ 65536
   pub same : Same m n table (2 * jump_count low high)
@@ -67,7 +67,7 @@ abbrev is_jumps : Form → Bool
 is_jumps form.Jumps = true
 is_jumps other = false
 
--- a case jump has the form of one
+-- A case jump has the form of one.
 abbrev consistent : Operation → Form → Bool
 consistent shape f = not (is_case shape) || is_jumps f
 
@@ -93,7 +93,7 @@ op_consistent : (op : ℕ) → consistent (shape_of op) (form_of op) ≡ true
 unfolding shape_of form_of
 op_consistent op = group_consistent groups op table_consistent
 
--- what an operation names in the code is the same in both memories
+-- The bytes that an operation names in the code are the same in both memories.
 abbrev pub CodeSame : Operation → List ℕ → List ℕ → Type 0
 CodeSame (operation.Literal o) m n = NamesSame o m n
 CodeSame (operation.Jump (jump.Case low high table)) m n = CaseSame low high table m n

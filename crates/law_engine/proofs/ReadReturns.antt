@@ -1,4 +1,4 @@
--- Returns, and segments that are kept, in two memories that agree on what they read.
+-- Returns, and segments that procedure 21 loads, in two memories that agree on the bytes that they read.
 use Rattle.std.proofs.Common.{◌≡◌, ◌<◌, ◌≤◌, ℕ, ◌+◌, ◌-◌, ◌*◌, ◌%◌, ◌&&◌, Bool, true, false, nat_le, nat_lt}
 use Rattle.std.proofs.Common.{List, [], ◌∷◌, length, Option, Some, None, refl, arith}
 use Rattle.std.specs.List.{All}
@@ -80,7 +80,7 @@ returned_alike c n k base memory other agree =
     old_base true f m base e h = here_same m n (minus f 2) (first_same (minus f 2) 2 [] m n h) e
     old_base false f m base e h = refl
 
--- ---- segments that are kept
+-- ---- segments that procedure 21 loads
 
 kept_loading_alike : (c : Parts) (n : List ℕ) (k : ℕ) (code : List ℕ) → IsMemory c.memory → IsMemory n → c.registers.sp ≤ 65504 → All (λ b. b < 256) code
     → Both (PartsAlike c.memory n) (keep_loading c k code) (keep_loading (parts_in c n) k code)

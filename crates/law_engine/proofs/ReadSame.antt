@@ -1,4 +1,4 @@
--- A step that goes writes the same stretches in both memories.
+-- A successful step writes the same stretches in both memories.
 use Rattle.std.proofs.Common.{◌≡◌, ℕ, ◌+◌, ◌*◌, ◌%◌, List, Option, Result, Ok, Err, refl, sym, ap, ◌∙◌, subst}
 use Rattle.std.proofs.Common.{arith}
 use Rattle.std.specs.Prelude.{slice_get}
@@ -44,9 +44,9 @@ use Rattle.pm_families.specs.declared.families.Call.{Call}
 use Rattle.pm_families.specs.declared.families.Call.TheVariants.{Clp, Cgp, Cbp, Cip, Cxp}
 use Rattle.pm_calls.specs.Returns.{returned}
 
--- ---- steps that go
+-- ---- successful steps
 
--- what goes, goes before it may fail as an instruction
+-- A successful result is a success before it may fail as an instruction.
 went : {A : Type 0} (r : Result A ExecError) (x : A) → or_fails r ≡ Ok x → r ≡ Ok x
 went (Ok y) x h = of y x h
   where
@@ -54,7 +54,7 @@ went (Ok y) x h = of y x h
     of y x h = cc
 went (Err e) x h = cc
 
--- where something follows that goes, the first goes
+-- If a sequence succeeds, its first step succeeds.
 record Goes {A : Type 0} (r : Result A ExecError) : Type 0 where
   pub made : A
   pub is : r ≡ Ok made

@@ -1,4 +1,4 @@
--- Rows on sets, and all rows on values, in two memories that agree on what they read.
+-- Rows on sets, and all rows on values, in two memories that agree on the bytes that they read.
 use Rattle.std.proofs.Common.{◌≡◌, ◌≤◌, ℕ, ◌+◌, ◌*◌, ◌&&◌, ◌||◌, Bool, true, nat_le}
 use Rattle.std.proofs.Common.{List, [], ◌∷◌, length, Result, Ok, refl, sym, ap, ◌∙◌, subst, arith}
 use Rattle.std.specs.Prelude.{if◌then◌else◌, max, min, not, int_lt}
@@ -35,7 +35,7 @@ use Rattle.law_engine.proofs.ReadValues.{assign_alike, booleans_alike, index_fie
 use Rattle.law_engine.proofs.ReadValues.{ranges_alike, several_alike, store_byte_alike, store_field_alike, strings_alike, two_taken, word_ranges_alike}
 use Rattle.pm_calls.proofs.ReturnLaws.{bound, ok_same, passed}
 
--- ---- a set that is taken
+-- ---- a set that is popped
 
 pub set_same : (m n : List ℕ) (a k sp : ℕ) → IsMemory m → IsMemory n → Same m n a k → a ≤ sp → sp + 2 * (word_at m sp + 1) ≤ a + k
     → pop_set n sp ≡ pop_set m sp
@@ -73,7 +73,7 @@ set_popped m sp s h =
     let low : n.0.above + 2 * n.0.word ≤ 65504 = grind (arith, nat_tests, room.0) in
     record { above = is ∙ omega (arith, up, word); room = omega (arith, low, is) }
 
--- two sets are taken
+-- Two sets are popped.
 two_sets_taken : (m n : List ℕ) (sp : ℕ) (f g : StackSet → StackSet → Result (List ℕ × ℕ) ExecError) → IsMemory m → IsMemory n
     → Same m n sp (2 * (word_at m sp + 1 + (word_at m (sp + 2 * (word_at m sp + 1)) + 1)))
     → ((t s : StackSet) → s.above ≤ 65504 → RowsAlike m n (f t s) (g t s))

@@ -1,4 +1,4 @@
--- Steps of a row side by side in two memories that agree on what it reads.
+-- Two runs of a row, in two memories that agree on the bytes that it reads.
 use Rattle.std.proofs.Common.{◌≡◌, ◌<◌, ◌≤◌, ◌⊎◌, inl, inr, ⊎_elim, ℕ, ◌+◌, ◌-◌, ◌*◌, ◌/◌, ◌%◌, ◌||◌, Bool, true, false, nat_lt}
 use Rattle.std.proofs.Common.{List, [], ◌∷◌, ◌++◌, length, drop, get_or, set, Result, Ok, Err, refl, sym, ap, ◌∙◌, arith}
 use Rattle.std.specs.List.{All, list_any}
@@ -16,11 +16,11 @@ use Rattle.law_engine.specs.ReadLaws.{ChangeAlike}
 
 -- ---- memories that agree
 
--- each byte that one of the stretches touches is the same in both memories
+-- Each byte that one of the stretches touches is the same in both memories.
 abbrev pub Agree : List Stretch → List ℕ → List ℕ → Type 0
 Agree ss m n = (x : ℕ) → list_any (touches x 1) ss ≡ true → byte_at n x ≡ byte_at m x
 
--- so many bytes from an address on are
+-- The `k` bytes from address `a` on are the same in both memories.
 abbrev pub Same : List ℕ → List ℕ → ℕ → ℕ → Type 0
 Same m n a k = (x : ℕ) → a ≤ x → x < a + k → byte_at n x ≡ byte_at m x
 
@@ -63,7 +63,7 @@ left_agree ss ts m n h = λ x t. h x (any_left (touches x 1) ss ts t)
 pub right_agree : (ss ts : List Stretch) (m n : List ℕ) → Agree (ss ++ ts) m n → Agree ts m n
 right_agree ss ts m n h = λ x t. h x (any_right (touches x 1) ss ts t)
 
--- ---- what is read of them
+-- ---- the words that are read of them
 
 pub word_same : (m n : List ℕ) (a k x : ℕ) → Same m n a k → x % 2 ≡ 0 → a ≤ x → x + 2 ≤ a + k → word_at n x ≡ word_at m x
 word_same m n a k x same even low high =
@@ -82,15 +82,15 @@ load_same m n a k x same low high = elim (cases_Bool (is_even x)) [
 pub pop_same : (m n : List ℕ) (a k x : ℕ) → Same m n a k → a ≤ x → x + 2 ≤ a + k → pop n x ≡ pop m x
 pop_same m n a k x same low high = rw (load_same m n a k x same low high) refl
 
--- ---- steps side by side
+-- ---- both runs, step by step
 
--- something was made that is related to what was made first
+-- The other run has a result that is related to the result of the first run.
 pub record Made {A E : Type 0} (Q : A → A → Type 0) (x : A) (r : Result A E) : Type 0 where
   pub other : A
   pub made : r ≡ Ok other
   pub like : Q x other
 
--- what the first makes, if it does, the second makes too
+-- If the first run succeeds, the second one succeeds too.
 abbrev pub Both : {A E : Type 0} → (A → A → Type 0) → Result A E → Result A E → Type 0
 Both Q (Ok x) r = Made Q x r
 Both Q (Err e) r = Unit {0}
@@ -100,9 +100,9 @@ pub both : {A B E : Type 0} (Q : B → B → Type 0) (r u : Result A E) (f g : A
 both Q (Ok x) u f g same h = rw same (h x refl)
 both Q (Err e) u f g same h = tt
 
--- ---- what is written
+-- ---- the words that are written
 
--- the memory and what stands beside it after a row: the same, but for the memory, which changed alike
+-- All of the result of a row except the memory is the same, and the memory changed alike.
 abbrev pub RowAlike : {A : Type 0} → List ℕ → List ℕ → (List ℕ × A) → (List ℕ × A) → Type 0
 RowAlike m n t u = (u.1 ≡ t.1) × ChangeAlike m t.0 n u.0
 
@@ -115,7 +115,7 @@ unchanged m n = λ x. inr (refl, refl)
 pub done : {A : Type 0} (m n p q : List ℕ) (a : A) → ChangeAlike m p n q → RowsAlike m n (Ok (p, a)) (Ok (q, a))
 done m n p q a h = record { other = (q, a); made = refl; like = (refl, h) }
 
--- words that change alike are bytes that do
+-- Words that change alike are bytes that change alike.
 abbrev WordsAlike : List ℕ → List ℕ → List ℕ → List ℕ → Type 0
 WordsAlike m p n q = (i : ℕ) → (get_or q i 0 ≡ get_or p i 0) ⊎ ((get_or p i 0 ≡ get_or m i 0) × (get_or q i 0 ≡ get_or n i 0))
 
@@ -142,7 +142,7 @@ by_words m p n q h = λ x. ⊎_elim (λ e. low x e (h (x / 2))) (λ e. high x (o
       byte_at-odd q x e ∙ ap (λ (w : ℕ). w / 256) stay.1 ∙ sym (byte_at-odd n x e),
     )
 
--- a word that is written is the same in both
+-- A word that is written is the same in both memories.
 pub word_alike_sized : (m n : List ℕ) (a w : ℕ) → length m ≡ 32768 → length n ≡ 32768 → ChangeAlike m (with_word m a w) n (with_word n a w)
 unfolding with_word
 word_alike_sized m n a w memory other = by_words m (set m (a / 2) w) n (set n (a / 2) w) (λ i. ⊎_elim (λ e. inl (here i e))
@@ -175,7 +175,7 @@ pushed_alike m n sp np w memory other = elim (cases_Bool (nat_lt sp (np + 2))) [
   | inr e ↦ rw e (stored_alike m n (sp - 2) w (sp - 2) memory other)
 ]
 
--- bytes that are written
+-- Bytes that are written.
 pub bytes_alike : (m n bs : List ℕ) (a : ℕ) → IsMemory m → IsMemory n → a + length bs ≤ 65536 → All (λ b. b < 256) bs
     → ChangeAlike m (with_bytes m a bs) n (with_bytes n a bs)
 bytes_alike m n bs a memory other room fit = λ x. ⊎_elim (λ low. away x (inl low)) (λ from. ⊎_elim
@@ -187,7 +187,7 @@ bytes_alike m n bs a memory other room fit = λ x. ⊎_elim (λ low. away x (inl
         ⊎ ((byte_at (with_bytes m a bs) x ≡ byte_at m x) × (byte_at (with_bytes n a bs) x ≡ byte_at n x))
     away x far = inr (byte_at-with_bytes_other m bs a x memory room fit far, byte_at-with_bytes_other n bs a x other room fit far)
 
--- the bytes of a stretch that both hold
+-- The bytes of a stretch that both memories have.
 pub bytes_same : (m n : List ℕ) (a k from count : ℕ) → Same m n a k → IsMemory m → IsMemory n → a ≤ from → from + count ≤ a + k → from + count ≤ 65536
     → bytes_at n from count ≡ bytes_at m from count
 unfolding bytes_at byte_at
@@ -199,7 +199,7 @@ bytes_same m n a k from count same memory other low high room =
     item : (p : List ℕ) (i : ℕ) → i < count → get_or (bytes_at p from count) i 0 ≡ get_or (bytes_of p) (from + i) 0
     item p i l = get_or-take count (drop from (bytes_of p)) i 0 l ∙ get_or-drop from (bytes_of p) i 0
 
--- a copy of bytes that both hold
+-- A copy of bytes that both memories have.
 pub copy_alike : (m n : List ℕ) (from to count : ℕ) → Same m n from count → IsMemory m → IsMemory n → from + count ≤ 65536 → to + count ≤ 65536
     → ChangeAlike m (copied m from to count) n (copied n from to count)
 unfolding copied
@@ -212,7 +212,7 @@ copy_alike m n from to count same memory other source room =
 over : (p ws : List ℕ) (k i : ℕ) → k + length ws ≤ length p → k ≤ i → i < k + length ws → get_or (overwritten p k ws) i 0 ≡ get_or ws (i - k) 0
 over p ws k i room from high = grind (arith, places)
 
--- words that are written from an even address on
+-- Words that are written from an even address on.
 pub words_alike : (m n ws : List ℕ) (a : ℕ) → IsMemory m → IsMemory n → a / 2 + length ws ≤ 32768 → ChangeAlike m (with_words m a ws) n (with_words n a ws)
 unfolding with_words
 words_alike m n ws a memory other room = by_words m (overwritten m (a / 2) ws) n (overwritten n (a / 2) ws) (λ i. ⊎_elim
@@ -230,7 +230,7 @@ words_alike m n ws a memory other room = by_words m (overwritten m (a / 2) ws) n
     inside : (p : List ℕ) (i : ℕ) → length p ≡ 32768 → a / 2 ≤ i → i < a / 2 + length ws → get_or (overwritten p (a / 2) ws) i 0 ≡ get_or ws (i - a / 2) 0
     inside p i size from high = over p ws (a / 2) i (omega (arith, size, room)) from high
 
--- the words from an even address on that both hold
+-- The words from an even address on that both memories have.
 pub words_same : (m n : List ℕ) (a k from count : ℕ) → Same m n a k → IsMemory m → IsMemory n → from % 2 ≡ 0 → a ≤ from → from + 2 * count ≤ a + k
     → from + 2 * count ≤ 65536 → words_at n from count ≡ words_at m from count
 unfolding words_at word_at
@@ -245,23 +245,23 @@ words_same m n a k from count same memory other even low high room =
         let place : from / 2 + i ≡ (from + 2 * i) / 2 = omega (arith, even) in
         get_or-take count (drop (from / 2) p) i 0 l ∙ (get_or-drop (from / 2) p i 0 ∙ ap (λ (j : ℕ). get_or p j 0) place)
 
--- what was made of one memory is made of the other too
+-- The result of one memory is also the result of the other.
 pub as_before : {A E : Type 0} (Q : A → A → Type 0) (r u : Result A E) → ((x : A) → Q x x) → u ≡ r → Both Q r u
 as_before Q (Ok x) u like same = record { other = x; made = same; like = like x }
 as_before Q (Err e) u like same = tt
 
--- a rule that both demand
+-- A rule that both runs demand.
 pub demanded : {B : Type 0} (Q : B → B → Type 0) (b : Bool) (e : ExecError) (f g : Unit {0} → Result B ExecError) → (b ≡ true → Both Q (f tt) (g tt))
     → Both Q (demand b e >>= f) (demand b e >>= g)
 demanded Q true e f g h = h refl
 demanded Q false e f g h = tt
 
--- what follows the same is the same where each next step is
+-- If the first steps are the same, and each next step is, the whole is the same.
 pub bind_same : {A B E : Type 0} (r u : Result A E) (f g : A → Result B E) → u ≡ r → ((x : A) → r ≡ Ok x → g x ≡ f x) → (u >>= g) ≡ (r >>= f)
 bind_same (Ok x) u f g same h = rw same (h x refl)
 bind_same (Err e) u f g same h = rw same refl
 
--- what follows, where the first steps are related
+-- The next steps, if the first steps are related.
 pub andthen : {A B E : Type 0} (P : A → A → Type 0) (Q : B → B → Type 0) (r u : Result A E) (f g : A → Result B E) → Both P r u
     → ((x y : A) → r ≡ Ok x → P x y → Both Q (f x) (g y)) → Both Q (r >>= f) (u >>= g)
 andthen P Q (Ok x) u f g first h = rw first.made (h x first.other refl first.like)
@@ -279,7 +279,7 @@ then_alike m p z n q y first second = λ x. of x (first x) (second x)
     of x (inl same) (inr stay) = inl (stay.1 ∙ same ∙ sym stay.0)
     of x (inr was) (inr stay) = inr (stay.0 ∙ was.0, stay.1 ∙ was.1)
 
--- bytes that are the same stay so
+-- Bytes that are the same remain so.
 pub still_same : (m p n q : List ℕ) (a k : ℕ) → ChangeAlike m p n q → Same m n a k → Same p q a k
 still_same m p n q a k alike same = λ x low high. of x (alike x) (same x low high)
   where

@@ -1,4 +1,5 @@
--- Standard procedures on the units in two memories that agree on what they read, and what standard procedures take.
+-- Standard procedures on units, in two memories that agree on the bytes that they read, and the words that standard
+-- procedures pop.
 use Rattle.std.proofs.Common.{◌≡◌, ◌<◌, ◌≤◌, inl, inr, ℕ, ◌+◌, ◌*◌, ◌/◌, ◌%◌, ◌==◌, ◌&&◌, Bool, true, false, nat_lt}
 use Rattle.std.proofs.Common.{List, [], ◌∷◌, ◌++◌, length, drop, take, Option, Some, None, Result, Ok, Err, refl, sym, ap, subst, arith}
 use Rattle.std.specs.Prelude.{if◌then◌else◌}
@@ -63,7 +64,7 @@ ordered_same m n sp same =
 
 -- ---- transfers
 
--- what a transfer leaves is the same, but for the memory, which changed alike
+-- The result of a transfer is the same, except for the memory, which changed alike.
 abbrev pub MovedAlike : List ℕ → List ℕ → Moved → Moved → Type 0
 MovedAlike m n t u = (u ≡ record t { memory = u.memory }) × ChangeAlike m t.memory n u.memory
 
@@ -105,7 +106,7 @@ disk_alike (Some bs) t m n d memory other fit room = elim (cases_Bool (can_move 
   | inr e ↦ rw e (idle_alike m n 1 d)
 ]
 
--- what is given at once
+-- A result that is returned at once.
 given : (m n : List ℕ) (t u : Moved) → MovedAlike m n t u → Both {E = Pause} (MovedAlike m n) (Ok t) (Ok u)
 given m n t u h = record { other = u; made = refl; like = h }
 
@@ -140,11 +141,11 @@ write_alike (Disk k) t m n d same = to_disk_alike k (image_at d k) t m n d same
 
 -- ---- the rows
 
--- what a procedure on units leaves is the same, but for the memory, which changed alike
+-- The result of a procedure on units is the same, except for the memory, which changed alike.
 abbrev pub ServedAlike : List ℕ → List ℕ → Served → Served → Type 0
 ServedAlike m n t u = (u ≡ record t { memory = u.memory }) × ChangeAlike m t.memory n u.memory
 
--- the same state with another memory
+-- The same state with another memory.
 abbrev pub served_in : Served → List ℕ → Served
 served_in s n = record s { memory = n }
 
@@ -229,7 +230,7 @@ busy_alike s n memory other same =
     (pushed_alike m n unit.above s.registers.np 0 memory other) (λ t u k like.
     rw like.0 (record { other = _; made = refl; like = (refl, like.1) })))
 
--- how many words a procedure on units takes
+-- The number of words that a procedure on units pops.
 abbrev pub taken_by_units : OnUnits → ℕ
 taken_by_units units.Read = 6
 taken_by_units units.Write = 6
@@ -255,9 +256,9 @@ units_alike units.Clear s n memory other holds same agree = failing (ServedAlike
     (pop_same s.memory n s.registers.sp 2 s.registers.sp same (omega arith) (omega arith)) (λ unit h.
     record { other = _; made = refl; like = (refl, unchanged s.memory n) }))
 
--- ---- what standard procedures take
+-- ---- the words that standard procedures pop
 
--- how many words a standard procedure takes
+-- The number of words that a standard procedure pops.
 abbrev pub taken_by : Procedure → ℕ
 taken_by (procedure.OnMemory o) = taken_by_memory o
 taken_by (procedure.OnUnits o) = taken_by_units o

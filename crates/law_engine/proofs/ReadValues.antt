@@ -1,4 +1,4 @@
--- Rows on values in two memories that agree on what they read: bytes, fields, strings and comparisons.
+-- Rows on values in two memories that agree on the bytes that they read: bytes, fields, strings and comparisons.
 use Rattle.std.proofs.Common.{◌≡◌, ◌<◌, ◌≤◌, inl, inr, ℕ, ◌+◌, ◌-◌, ◌*◌, ◌/◌, ◌%◌, ◌==◌, ◌&&◌, Bool, true, false, nat_le, nat_lt}
 use Rattle.std.proofs.Common.{List, [], ◌∷◌, length, Result, Ok, refl, sym, ap, ◌∙◌, subst, arith}
 use Rattle.std.specs.List.{All}
@@ -24,9 +24,9 @@ use Rattle.law_engine.proofs.ReadSteps.{Agree, RowAlike, RowsAlike, Same, both, 
 use Rattle.law_engine.proofs.ReadSteps.{demanded, stored_alike, unchanged, words_alike}
 use Rattle.law_engine.proofs.ReadRows.{held, next_same}
 
--- ---- words that are taken
+-- ---- words that are popped
 
--- two words are taken, and the rest is the same where they are
+-- Two words are popped. If the rest of the row agrees, the whole row agrees.
 pub two_taken : (m n : List ℕ) (sp : ℕ) (f g : Popped → Popped → Result (List ℕ × ℕ) ExecError) → Same m n sp 4
     → ((b a : Popped) → b.word ≡ word_at m sp → a.word ≡ word_at m (sp + 2) → a.above ≡ sp + 4 → sp + 4 ≤ 65504 → sp % 2 ≡ 0 → RowsAlike m n (f b a) (g b a))
     → RowsAlike m n (pop m sp >>= λ b. (pop m b.above >>= λ a. f b a)) (pop n sp >>= λ b. (pop n b.above >>= λ a. g b a))

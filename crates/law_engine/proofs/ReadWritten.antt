@@ -1,4 +1,5 @@
--- What an instruction writes is told by what it reads: rows and procedures name the same stretches in both memories.
+-- The words that an instruction reads determine what it writes: rows and procedures name the same stretches in both
+-- memories.
 use Rattle.std.proofs.Common.{◌≡◌, ◌≤◌, ℕ, ◌+◌, ◌*◌, ◌%◌, Bool, true, false, nat_lt}
 use Rattle.std.proofs.Common.{List, [], ◌∷◌, refl, arith}
 use Rattle.std.specs.Prelude.{if◌then◌else◌}
@@ -31,7 +32,7 @@ use Rattle.law_engine.proofs.ReadSteps.{Agree, Same, first_same, left_agree, res
 use Rattle.law_engine.proofs.ReadMemory.{taken_by_memory}
 use Rattle.law_engine.proofs.ReadUnits.{taken_by_units}
 
--- ---- words that are taken
+-- ---- words that are popped
 
 pub at_top : (m n : List ℕ) (sp k : ℕ) → Same m n sp k → sp % 2 ≡ 0 → 2 ≤ k → word_at n sp ≡ word_at m sp
 at_top m n sp k same even room = word_same m n sp k sp same even (omega arith) (omega (arith, room))
@@ -39,7 +40,7 @@ at_top m n sp k same even room = word_same m n sp k sp same even (omega arith) (
 pub above_top : (m n : List ℕ) (sp k j : ℕ) → Same m n sp k → sp % 2 ≡ 0 → j % 2 ≡ 0 → j + 2 ≤ k → word_at n (sp + j) ≡ word_at m (sp + j)
 above_top m n sp k j same even half room = word_same m n sp k (sp + j) same (omega (arith, even, half)) (omega arith) (omega (arith, room))
 
--- the sum of two words
+-- The sum of two words.
 placed : (m n : List ℕ) (sp k a : ℕ) → Same m n sp k → a % 2 ≡ 0 → sp ≤ a → a + 4 ≤ sp + k → place_on_stack n a ≡ place_on_stack m a
 placed m n sp k a same even low high =
     rw (
@@ -75,7 +76,7 @@ pointer_names (pointer.Move b) m n sp even agree =
 
 -- ---- values
 
--- the counts of two sets
+-- The counts of two sets.
 two_counts : (m n : List ℕ) (sp : ℕ) → sp % 2 ≡ 0 → Same m n sp (2 * (word_at m sp + 1 + (word_at m (sp + 2 * (word_at m sp + 1)) + 1)))
     → word_at n (sp + 2 * (word_at m sp + 1)) ≡ word_at m (sp + 2 * (word_at m sp + 1))
 two_counts m n sp even same =

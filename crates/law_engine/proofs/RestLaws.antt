@@ -1,4 +1,4 @@
--- What a call and its return leave of the memory.
+-- The memory that a call and its return leave unchanged.
 use Rattle.std.proofs.Common.{◌≡◌, ◌<◌, ◌≤◌, ◌⊎◌, inl, inr, ℕ, ◌+◌, ◌-◌, ◌*◌, ◌%◌, ◌&&◌, Bool, true, false}
 use Rattle.std.proofs.Common.{nat_lt, nat_le, List, length, Option, Some, None, Ok, refl, sym, ap, ◌∙◌, arith}
 use Rattle.std.specs.Prelude.{slice_get}
@@ -27,7 +27,7 @@ use Rattle.pm_calls.proofs.ReturnLaws.{bound, has_room, loading_memory, low_befo
 
 -- ---- bytes outside a frame
 
--- below the control words or above them
+-- The address is before the control words or after them.
 control_leaves : (m : List ℕ) (f static : ℕ) (r : Registers) (above x : ℕ) → f % 2 ≡ 0 → LiesOutside f 12 x →
     byte_at (with_control m f static r above) x ≡ byte_at m x
 unfolding with_control
@@ -65,7 +65,7 @@ frame_leaves base m f static r n x memory source target even room (inr high) =
     ∙ control_leaves (copied m r.sp (f + 12) n) f static r (r.sp + n) x even (inr (omega (arith, high)))
     ∙ byte_at-copied_other m r.sp (f + 12) n x memory source target (inr (omega (arith, high)))
 
--- ---- a frame that was made, with all of its size
+-- ---- a frame that was made, with its whole size
 
 pub record IsWhole (m n : List ℕ) (s loaded : ℕ) (r inner : Registers) (base : Bool) (t : Table) (static f : ℕ) : Type 0 where
   pub place : f ≡ frame_top loaded r.sp t.parameters - (t.locals + t.parameters + 12)
@@ -135,7 +135,7 @@ return_made d e words base h =
       memory = sym (ap (λ (p : Parts). p.memory) same);
     }
 
--- a return leaves what stands outside the words that it returns
+-- A return leaves all bytes unchanged, except the words that it returns.
 pub return_leaves : (d e : Parts) (words x : ℕ) (base : Bool) → IsMemory d.memory → returned d words base ≡ Ok e →
     LiesOutside e.registers.sp (2 * words) x → byte_at e.memory x ≡ byte_at d.memory x
 return_leaves d e words x base memory h out =
@@ -150,7 +150,7 @@ return_leaves d e words x base memory h out =
 
 -- ---- a call in a segment that was reached
 
--- what was reached holds the old memory, but for the code
+-- The reached segment has the old memory, except for the loaded code.
 record HoldsTheRest (c : Parts) (at : Reached) : Type 0 where
   pub memory : IsMemory at.memory
   pub rest : (x : ℕ) → LiesOutside (c.registers.sp - at.loaded) at.loaded x → byte_at at.memory x ≡ byte_at c.memory x

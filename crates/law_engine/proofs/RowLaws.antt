@@ -86,7 +86,7 @@ base_link_stays : (base : Bool) (m : List ℕ) (f old to : ℕ) → f % 2 ≡ 0 
 base_link_stays false m f old to even room h = h
 base_link_stays true m f old to even room h = below-link m f old to even room h
 
--- the first word of a frame that was made
+-- The first word of a frame that was made.
 first_word : (m n : List ℕ) (s loaded static f : ℕ) (r inner : Registers) (base : Bool) (t : Table) → IsMemory m → IsFramed m s loaded r base t static n inner f
     → f % 2 ≡ 0 → word_at n f ≡ static
 first_word m n s loaded static f r inner base t memory made even =

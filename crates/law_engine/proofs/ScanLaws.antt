@@ -1,4 +1,4 @@
--- A scan stops at the first byte that it looks for.
+-- A scan stops at the first byte for which it searches.
 use Rattle.std.proofs.Common.{◌≡◌, ℕ, ◌+◌, ◌-◌, ◌<◌, ◌≤◌, Bool, true, false, List, length, drop, get_or, ltb, refl, sym, ap, ◌∙◌, arith, inl, inr}
 use Rattle.std.specs.Prelude.{pos, negsuc, reverse}
 use Rattle.std.specs.List.{position_or_len}
@@ -11,7 +11,7 @@ use Rattle.pm_words.proofs.Laws.{scanned-down, scanned-up}
 use Rattle.pm_words.proofs.RangeLaws.{length-bytes_at}
 use Rattle.law_engine.specs.ProcedureLaws.{IsFirst, ScansDown, ScansStopFirst, ScansUp}
 
--- what a scan passes in a list of bytes
+-- The number of bytes at the beginning of a list that a scan passes.
 passed-first : (bs : List ℕ) (b : ℕ) (equal : Bool) → IsFirst (λ i. stops equal b (get_or bs i 0)) (length bs) (passed bs b equal)
 passed-first bs b equal = elim (cases_lt (position_or_len (stops equal b) bs) (length bs)) [
   | inl inside ↦ let test : ltb (position_or_len (stops equal b) bs) (length bs) ≡ true = grind (arith, nat_tests) in
@@ -30,7 +30,7 @@ passed-first bs b equal = elim (cases_lt (position_or_len (stops equal b) bs) (l
       })
 ]
 
--- the same for a list whose bytes are those of another test
+-- The same for a list and another test that agrees with the first one below `n`.
 first-same : (p q : ℕ → Bool) (n m k : ℕ) → n ≡ m → ((i : ℕ) → i < n → p i ≡ q i) → IsFirst p n k → IsFirst q m k
 first-same p q n m k e same f = record {
   inside = omega (arith, f.inside);

@@ -1,4 +1,4 @@
--- What no event changes.
+-- The shape that no event changes.
 use Rattle.std.proofs.Common.{◌≡◌, inl, inr, ℕ, ◌+◌, ◌*◌, ◌==◌, ◌&&◌, Bool, true, false, cond, nat_lt, nat_le, List, [], ◌∷◌, length, Option, Some, None}
 use Rattle.std.proofs.Common.{is_none, Result, Ok, Err, refl, sym, ap, ◌∙◌, subst, arith, length-set}
 use Rattle.std.specs.Prelude.{position, slice_get}
@@ -64,7 +64,7 @@ use Rattle.law_engine.specs.Shapes.{EventsKeepShape, HasShape, MachinesHaveShape
 use Rattle.law_engine.proofs.LoadedSegments.{length-rows}
 use Rattle.law_engine.proofs.StepLaws as disks
 
--- ---- what a part of a row gives has the old value of a measure
+-- ---- a part of a row returns the old value of a measure
 
 abbrev Stays : {A E V : Type 0} → (A → V) → V → Result A E → Type 0
 Stays of v (Ok x) = of x ≡ v
@@ -87,7 +87,7 @@ either : {A : Type 0} (b : Bool) (xs ys : List A) (n : ℕ) → length xs ≡ n 
 either true xs ys n h k = h
 either false xs ys n h k = k
 
--- ---- places
+-- ---- slots
 
 abbrev of_parts : Parts → ℕ
 of_parts p = length p.places
@@ -407,7 +407,7 @@ unfolding raw_start
 raw_shape bytes s h = let same = chosen (nat_lt 60000 (length bytes)) _ _ s h in
     (subst (λ (k : State). shape k ≡ record { rows = k.rows; places = 16; disks = 6 }) same refl, subst (λ (k : State). length k.rows ≡ 16) same refl)
 
--- what a boot gave
+-- The result of a boot.
 pub record IsBooted (images : List (Option (List ℕ))) (unit : ℕ) (name : List ℕ) (s : State) : Type 0 where
   pub entry : Entry
   pub file : List ℕ

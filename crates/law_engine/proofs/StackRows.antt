@@ -58,7 +58,7 @@ step : {A : Type 0} (m : List ℕ) (p : Pushed) (r : Result A ExecError) (f : A 
 step m p (Ok x) f h = h x refl
 step m p (Err e) f h = tt
 
--- a row that stores
+-- A row that stores.
 any : (m : List ℕ) (r : Result (List ℕ × ℕ) ExecError) → WritesWhatItPushes m stores r
 any m (Ok t) = tt
 any m (Err e) = tt
@@ -76,14 +76,14 @@ stored m a w = elim (cases_Bool (is_even a)) [
     evenly : (a : ℕ) → is_even a ≡ true → a % 2 ≡ 0
     evenly a e = grind (arith, nat_tests)
 
--- one word is pushed
+-- One word is pushed.
 one : (m : List ℕ) (sp np w : ℕ) → WritesWhatItPushes m (so_many 1) (push m sp np w)
 one m sp np w = elim (cases_Bool (nat_lt sp (np + 2))) [
   | inl e ↦ rw e tt
   | inr e ↦ rw e (stored m (sp - 2) w)
 ]
 
--- words written beside a word
+-- Words written next to a word leave it unchanged.
 beside : (ws vs : List ℕ) (a x : ℕ) → a % 2 ≡ 0 → a / 2 + length vs ≤ length ws → x % 2 ≡ 0 → (x < a) ⊎ (a + 2 * length vs ≤ x)
     → word_at (with_words ws a vs) x ≡ word_at ws x
 unfolding word_at with_words
@@ -102,7 +102,7 @@ beside ws vs a x even room here (inr high) =
     kept i k ws vs room (inl h) = grind (arith, places)
     kept i k ws vs room (inr h) = grind (arith, places)
 
--- the first of several words that are written
+-- The first of several words that are written.
 first : (ws vs : List ℕ) (a w : ℕ) → a / 2 ≤ length ws → word_at (with_words ws a (w ∷ vs)) a ≡ w
 unfolding word_at with_words
 first ws vs a w room =
@@ -111,7 +111,7 @@ first ws vs a w room =
     (omega arith)
     ∙ ap (λ (k : ℕ). get_or ((w ∷ vs) ++ drop (a / 2 + length (w ∷ vs)) ws) k 0) none)
 
--- where several words are pushed: an even SP that is on the stack
+-- Several words are pushed at an even SP that is on the stack.
 record IsTop (sp : ℕ) : Type 0 where
   pub even : sp % 2 ≡ 0
   pub below : sp ≤ 65504
@@ -149,7 +149,7 @@ a_set_is_pushed m ws sp np memory top = step m a_set (demand (nat_le (np + 2 * l
     longer : (ws : List ℕ) → length ws + 1 ≡ length (length ws ∷ ws)
     longer ws = omega arith
 
--- SP above a word, and above a set
+-- The SP after a word is popped, and after a set is popped.
 above_word : (m : List ℕ) (sp : ℕ) (p : Popped) → pop m sp ≡ Ok p → IsTop p.above
 above_word m sp p h =
     let is = popped m sp p h in

@@ -1,4 +1,4 @@
--- What a step and a row leave as it is.
+-- The state that a step and a row leave unchanged.
 use Rattle.std.specs.Prelude.{slice_get}
 use Rattle.std.proofs.Common.{◌≡◌, ◌≢◌, ℕ, ◌+◌, ◌-◌, ◌*◌, ◌%◌, ◌&&◌, inl, inr, Some, None, length, Bool, true, false, nat_lt, List, Option, Result}
 use Rattle.std.proofs.Common.{Ok, Err, refl, ap, arith}
@@ -53,7 +53,7 @@ use Rattle.pm_rows.specs.Integers.{binary}
 use Rattle.pm_machine.specs.Steps.{at_status, executed, settled, stepped}
 use Rattle.pm_machine.specs.RunLaws.{RowsKeepBelow, IsUnitWrite, KeepsBelow, RestStays, StepsKeepDisks}
 
--- ---- a machine at rest
+-- ---- a machine that does not run
 
 at_rest : (a : Status) (s : State) → a ≢ status.Running → (at_status a s).0 ≡ s
 at_rest status.Running s other = absurd (other refl)
@@ -73,7 +73,7 @@ abbrev KeepsDevices : Disks → Result Devices Pause → Type 0
 KeepsDevices d (Ok e) = e.disks ≡ d
 KeepsDevices d (Err e) = Unit {0}
 
--- what a part of a row gives has the old disks
+-- The result of a part of a row has the old disks.
 abbrev pub Stays : {A E : Type 0} → (A → Disks) → Disks → Result A E → Type 0
 Stays disks d (Ok x) = disks x ≡ d
 Stays disks d (Err e) = Unit {0}
@@ -82,7 +82,7 @@ then : {A B E : Type 0} (disks : B → Disks) (d : Disks) (r : Result A E) (f : 
 then disks d (Ok x) f h = h x
 then disks d (Err e) f h = tt
 
--- the same where the first part has the old disks itself
+-- The same, if the first part itself has the old disks.
 after : {A B E : Type 0} (first : A → Disks) (disks : B → Disks) (d : Disks) (r : Result A E) (f : A → Result B E) → Stays first d r
     → ((x : A) → first x ≡ d → Stays disks d (f x)) → Stays disks d (r >>= f)
 after first disks d (Ok x) f k h = h x k

@@ -10,9 +10,9 @@ use Rattle.pm_words.specs.Stack.{◌>>=◌}
 use Rattle.pm_words.proofs.Laws.{word_at-bytes}
 use Rattle.pm_machine.specs.Written.{Stretch, stretch, stretch_to, touches}
 
--- ---- where a stretch does not touch a word
+-- ---- the words that a stretch does not touch
 
--- where the two bytes at x do not meet n bytes at a, there are none of those, or they stand above or below
+-- The two bytes at `x` do not meet the `n` bytes at `a`: there are no such bytes, or they are before or after them.
 abbrev pub IsAway : ℕ → ℕ → ℕ → Type 0
 IsAway x a n = (n ≡ 0) ⊎ ((x + 1 < a) ⊎ (a + n ≤ x))
 
@@ -28,7 +28,7 @@ apart x a n h = ⊎_elim
 pub away : (x a n : ℕ) → list_any (touches x 2) (stretch a n ∷ []) ≡ false → IsAway x a n
 away x a n h = apart x a n (or_parts (touches x 2 (stretch a n)) false h).0
 
--- a word by its two bytes
+-- A word is the same if both of its bytes are the same.
 word_same : (m n : List ℕ) (x : ℕ) → x % 2 ≡ 0 → byte_at n x ≡ byte_at m x → byte_at n (x + 1) ≡ byte_at m (x + 1) → word_at n x ≡ word_at m x
 word_same m n x even low high =
     word_at-bytes n x even ∙ ap (λ (b : ℕ). b + 256 * byte_at n (x + 1)) low ∙ ap (λ (b : ℕ). byte_at m x + 256 * b) high ∙ sym (word_at-bytes m x even)
@@ -43,19 +43,19 @@ high_byte_away x a n (inl none) = ⊎_elim (λ l. inl l) (λ l. inr (omega (arit
 high_byte_away x a n (inr (inl low)) = inl low
 high_byte_away x a n (inr (inr high)) = inr (omega (arith, high))
 
--- ---- what keeps all words but those of stretches
+-- ---- rows that leave all words unchanged, except those of stretches
 
--- every word that the stretches do not touch is as it was
+-- Every word that the stretches do not touch is unchanged.
 abbrev pub Kept : List Stretch → List ℕ → List ℕ → Type 0
 Kept ss m n = (x : ℕ) → x % 2 ≡ 0 → list_any (touches x 2) ss ≡ false → word_at n x ≡ word_at m x
 
--- bytes that stay outside a stretch
+-- Bytes outside a stretch are unchanged.
 pub bytes_kept : (m n : List ℕ) (a k : ℕ) → ((y : ℕ) → (y < a) ⊎ (a + k ≤ y) → byte_at n y ≡ byte_at m y) → Kept (stretch a k ∷ []) m n
 bytes_kept m n a k same = λ x even none.
     let far = away x a k none in
     word_same m n x even (same x (low_byte_away x a k far)) (same (x + 1) (high_byte_away x a k far))
 
--- words that stay outside a stretch of some bytes
+-- Words outside a stretch of some bytes are unchanged.
 pub words_kept : (m n : List ℕ) (a k : ℕ) → 0 < k → ((x : ℕ) → x % 2 ≡ 0 → (x + 1 < a) ⊎ (a + k ≤ x) → word_at n x ≡ word_at m x)
     → Kept (stretch a k ∷ []) m n
 words_kept m n a k some same = λ x even none. same x even (outside x (away x a k none))
@@ -64,7 +64,7 @@ words_kept m n a k some same = λ x even none. same x even (outside x (away x a 
     outside x (inl none) = absurd (omega (arith, none, some))
     outside x (inr far) = far
 
--- a word that is written at an address, even or odd, is written over a byte of a stretch there
+-- A word that is written at an even or odd address `a` leaves each word unchanged, except the one that has byte `a`.
 pub word_kept : (m : List ℕ) (a w x : ℕ) → x % 2 ≡ 0 → (x + 1 < a) ⊎ (a < x) → word_at (with_word m a w) x ≡ word_at m x
 unfolding word_at with_word
 word_kept m a w x even far = get_or-set_other m (a / 2) (x / 2) w 0 (differs far)
@@ -80,18 +80,18 @@ stored_kept m a w = words_kept m (with_word m a w) a 2 (omega arith) (λ x even 
     further x (inl low) = inl low
     further x (inr high) = inr (omega (arith, high))
 
--- all bytes of a stretch that ends before an address stand there
+-- A stretch of `n` bytes that ends at `end` is complete if `n` is at most `end`.
 pub all_stand : (end n : ℕ) → n ≤ end → stretch_to end n ≡ stretch (end - n) n
 all_stand end n room = ap (λ (k : ℕ). stretch (end - n) k) (min-eq_left room)
 
 pub kept_to : (end n : ℕ) (m p : List ℕ) → n ≤ end → Kept (stretch (end - n) n ∷ []) m p → Kept (stretch_to end n ∷ []) m p
 kept_to end n m p room h = subst (λ (s : Stretch). Kept (s ∷ []) m p) (sym (all_stand end n room)) h
 
--- nothing is written
+-- Nothing is written.
 pub all_kept : (ss : List Stretch) (m : List ℕ) → Kept ss m m
 all_kept ss m = λ x even none. refl
 
--- one stretch is written, and then others
+-- One stretch is written, and then the others.
 pub both_kept : (s : Stretch) (ss : List Stretch) (m n p : List ℕ) → Kept (s ∷ []) m n → Kept ss n p → Kept (s ∷ ss) m p
 both_kept s ss m n p first rest = λ x even none.
     let parts = or_parts (touches x 2 s) (list_any (touches x 2) ss) none in
@@ -100,9 +100,9 @@ both_kept s ss m n p first rest = λ x even none.
     alone : (b : Bool) → b ≡ false → (b || false) ≡ false
     alone b h = rw h refl
 
--- ---- steps of what may fail
+-- ---- steps that may fail
 
--- what is true of what is made
+-- A success has property `P`; an error always does.
 abbrev pub IfMade : {A E : Type 0} → (A → Type 0) → Result A E → Type 0
 IfMade P (Ok x) = P x
 IfMade P (Err e) = Unit {0}

@@ -1,4 +1,4 @@
--- What each event leaves as it was.
+-- The state that each event leaves unchanged.
 use Rattle.std.proofs.Common.{◌≡◌, inl, inr, ℕ, ◌+◌, ◌*◌, ◌/◌, ◌-◌, ◌%◌, ◌==◌, ◌&&◌, Bool, true, false, cond, nat_lt, nat_le, List, [], length, Option, Some}
 use Rattle.std.proofs.Common.{None, is_none, Result, Ok, Err, refl, ap, ◌∙◌, arith}
 use Rattle.std.specs.Prelude.{slice_get, slice_set}
@@ -72,7 +72,7 @@ use Rattle.pm_words.proofs.Laws.{word_at-with_word_other}
 use Rattle.std.proofs.lemmas.List.{get_or-set_other}
 use Rattle.std.proofs.lemmas.Bool.Decides.{nat_tests}
 
--- ---- a state with the parts blanked that may be written
+-- ---- the state with the parts blanked that may be written
 
 abbrev blank_registers : Writes → Registers → Registers
 blank_registers w r = record {
@@ -95,7 +95,7 @@ blank_devices w dsk d = record {
   clock = d.clock;
 }
 
--- with the whole memory, or all disks, blanked too
+-- The same, with the whole memory or all disks blanked too.
 abbrev blanked : Writes → Bool → Bool → State → State
 blanked w mem dsk s = record {
   memory = cond mem [] s.memory;
@@ -111,7 +111,7 @@ unless : {A : Type 0} (b : Bool) (z x y : A) → cond b z x ≡ cond b z y → b
 unless true z x y h e = cc
 unless false z x y h e = h
 
--- what was not blanked is the same
+-- All parts that were not blanked are the same.
 left : (w : Writes) (mem dsk : Bool) (s t : State) → blanked w mem dsk t ≡ blanked w mem dsk s
     → ((x : ℕ) → x % 2 ≡ 0 → w.words x ≡ false → word_at t.memory x ≡ word_at s.memory x)
     → ((k : ℕ) → w.disks k ≡ false → image_at t.devices k ≡ image_at s.devices k) → LeavesTheRest w s t
@@ -136,7 +136,7 @@ left w mem dsk s t same words disks = record {
   status = unless w.status status.Running t.status s.status (ap (λ (k : State). k.status) same);
 }
 
--- an event that changes the state by nothing but blanked parts
+-- An event that changes only blanked parts of the state.
 left_words : (w : Writes) (s t : State) → blanked w false false t ≡ blanked w false false s → LeavesTheRest w s t
 left_words w s t same =
     left w false false s t same (λ x even h. ap (λ (k : State). word_at k.memory x) same) (λ k h. ap (λ (q : State). image_at q.devices k) same)
@@ -153,7 +153,7 @@ left_disks : (w : Writes) (s t : State) → blanked w false true t ≡ blanked w
     → ((k : ℕ) → w.disks k ≡ false → image_at t.devices k ≡ image_at s.devices k) → LeavesTheRest w s t
 left_disks w s t same disks = left w false true s t same (λ x even h. ap (λ (k : State). word_at k.memory x) same) disks
 
--- ---- what a part of a row gives
+-- ---- the result of a part of a row
 
 abbrev Gives : {A E : Type 0} → (A → Type 0) → Result A E → Type 0
 Gives p (Ok x) = p x
@@ -230,9 +230,9 @@ returned_stays c words base =
     InvalidMemory) _ (λ k.
     then of_parts (of_parts c) (demand (nat_le (c.registers.np + 2 * words) (word_at c.memory (c.registers.mp + 10))) StackOverflow) _ (λ l. refl)))
 
--- ---- EXIT, and segments that are kept
+-- ---- EXIT, and segments that procedure 21 loads
 
--- the registers but for SP and IPC
+-- The registers except SP and IPC.
 abbrev other_registers : Registers → Registers
 other_registers r = record r { sp = 0; ipc = 0 }
 
@@ -282,7 +282,7 @@ record OfMemory : Type 0 where
 abbrev memory_blank : Writes → Bool → List ℕ × Registers → OfMemory
 memory_blank w mem t = record { memory = cond mem [] t.0; registers = blank_registers w t.1 }
 
--- which of them write memory
+-- The procedures that write memory.
 abbrev in_memory : OnMemory → Bool
 in_memory memory.CheckIo = false
 in_memory memory.New = true
@@ -459,7 +459,7 @@ units_stay units.Clear z m r x d =
     clear_stays Terminal = refl
     clear_stays (Disk k) = refl
 
--- a disk that UNITWRITE does not name
+-- A disk that UNITWRITE does not name.
 written_disk : (k : ℕ) (o : Option (List ℕ)) (t : Transfer) (m : List ℕ) (d : Devices) (n : ℕ) → (n == k) ≡ false
     → image_at (to_disk k o t m d).devices n ≡ image_at d n
 written_disk k None t m d n h = refl
@@ -489,9 +489,9 @@ named_disks : (r : Result Order ExecError) (m : List ℕ) (g : Registers) (d : D
 named_disks (Ok o) m g d = λ k h. written_disks (unit_of o.unit) o.transfer m d k h
 named_disks (Err e) m g d = tt
 
--- ---- instructions that go
+-- ---- instructions that succeed
 
--- a state with another IPC
+-- A state with another IPC.
 abbrev with_ipc : State → ℕ → State
 with_ipc s x = record s { registers = at_ipc s.registers x }
 
@@ -593,7 +593,7 @@ return_goes s x r =
 
 -- ---- standard procedures
 
--- what a standard procedure does to a state
+-- The state after a standard procedure.
 abbrev stood : Procedure → State → Result State Pause
 stood p s = procedure_row p (reach s) >>= λ t. Ok (with_reach t s)
 
@@ -784,7 +784,7 @@ step_leaves : (s : State) → LeavesTheRest (step_writes s.status s) s (stepped 
 unfolding stepped
 step_leaves s = status_leaves s.status s
 
--- ---- what the operator does
+-- ---- the events of the operator
 
 poke_leaves : (s : State) (a w : ℕ) → LeavesTheRest (event_writes s (Poke a w)) s (next s (Poke a w))
 poke_leaves s a w = elim (cases_Bool (is_even a)) [

@@ -1,4 +1,4 @@
--- Calls and returns write what they name.
+-- Calls and returns write only the words that they name.
 use Rattle.std.proofs.Common.{◌≡◌, ◌<◌, ◌≤◌, ◌⊎◌, inl, inr, ⊎_elim, ℕ, ◌+◌, ◌-◌, ◌*◌, ◌%◌, Bool, true, false}
 use Rattle.std.proofs.Common.{List, [], ◌∷◌, length, Option, Some, None, Result, Ok, Err, refl, sym, ap, ◌∙◌, subst, arith}
 use Rattle.std.specs.Prelude.{slice_get}
@@ -24,9 +24,9 @@ use Rattle.pm_machine.specs.Written.{Stretch, frame_stretch, frame_written, reac
 use Rattle.law_engine.proofs.RestLaws.{return_leaves, return_made, whole_frame}
 use Rattle.law_engine.proofs.Stretches.{IfMade, Kept, all_kept, both_kept, bytes_kept, kept_to, made, word_kept, words_kept}
 
--- ---- words outside a frame, which may stand at an odd address
+-- ---- words outside a frame, which may be at an odd address
 
--- below the control words or above them
+-- The word is before the control words or after them.
 control_keeps : (m : List ℕ) (f static : ℕ) (r : Registers) (above x : ℕ) → x % 2 ≡ 0 → (x + 1 < f) ⊎ (f + 12 ≤ x)
     → word_at (with_control m f static r above) x ≡ word_at m x
 unfolding with_control
@@ -61,7 +61,7 @@ frame_keeps base m f static r n memory source target room =
 
 -- ---- a call in a segment that was reached
 
--- what was reached holds the old memory, but for the code
+-- The reached segment has the old memory, except for the loaded code.
 record HoldsTheRest (c : Parts) (at : Reached) : Type 0 where
   memory : IsMemory at.memory
   rest : Kept (stretch_to c.registers.sp at.loaded ∷ []) c.memory at.memory
@@ -166,12 +166,12 @@ slot_keeps c call n code (Some (Some p)) memory bytes = standing_keeps c call n 
 slot_keeps c call n None (Some None) memory bytes = tt
 slot_keeps c call n (Some code) (Some None) memory bytes = loading_keeps c call n code memory bytes
 
--- the segment that a call reaches, with the code that it needs
+-- The segment that a call reaches, with the code that it needs.
 abbrev pub called_reached : Call → Parts → Option (List ℕ) → Result Reached ExecError
 called_reached (Cxp n p) c code = slot_reached n c (slice_get c.places n) (Ok code)
 called_reached call c code = Ok (here c)
 
--- what it writes there
+-- The stretches that the call writes there.
 abbrev pub called_written : Call → Parts → Option (List ℕ) → List Stretch
 called_written call c code = reached_written call c.registers.sp (called_reached call c code)
 

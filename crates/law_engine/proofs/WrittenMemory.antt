@@ -1,4 +1,4 @@
--- The standard procedures on memory write what they name.
+-- Standard procedures on memory write only the words that they name.
 use Rattle.std.proofs.Common.{◌≡◌, ◌<◌, ◌≤◌, ◌⊎◌, inl, inr, ℕ, ◌+◌, ◌-◌, ◌*◌, ◌/◌, ◌%◌, ◌==◌, ◌&&◌, nat_le, nat_lt}
 use Rattle.std.proofs.Common.{List, [], ◌∷◌, length, replicate, Result, Ok, Err, sym, ap, ◌∙◌, subst, arith}
 use Rattle.std.proofs.lemmas.Bool.{and_parts, cases_Bool, ltb-false}
@@ -56,9 +56,9 @@ word_pushed m sp np w g t e h = elim (cases_Bool (nat_lt sp (np + 2))) [
     none : not_pushed ≡ Ok t → Kept (stretch_to g (2 * 1) ∷ []) m t.0
     none k = cc
 
--- ---- places
+-- ---- addresses
 
--- a place that was popped is the sum of the index at SP and the base above it
+-- A popped address is the sum of the index at SP and the base after it.
 pub place_is : (m : List ℕ) (sp : ℕ) (p : Popped) → pop_place m sp ≡ Ok p → p.word ≡ place_on_stack m sp
 place_is m sp p h =
     let i = bound (pop m sp) _ p h in
@@ -70,7 +70,7 @@ place_is m sp p h =
 
 -- ---- moves and fills
 
--- a move that stays in its destination
+-- A move that stays in its destination.
 abbrev StaysInside : (List ℕ → ℕ → ℕ → ℕ → List ℕ) → Type 0
 StaysInside move =
     (m : List ℕ) (from to n x : ℕ) → IsMemory m → from + n ≤ 65536 → to + n ≤ 65536 → (x < to) ⊎ (to + n ≤ x) → byte_at (move m from to n) x ≡ byte_at m x

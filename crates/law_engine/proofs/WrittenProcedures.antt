@@ -1,4 +1,4 @@
--- EXIT and the segment that is kept write what they name.
+-- EXIT and procedure 21 write only the words that they name.
 use Rattle.std.proofs.Common.{◌≡◌, ◌≢◌, ◌<◌, ◌≤◌, inl, inr, ℕ, zero, suc, ◌+◌, ◌-◌, ◌*◌, ◌==◌, ◌||◌, Bool, false}
 use Rattle.std.proofs.Common.{nat_lt, is_none, List, [], ◌∷◌, length, Option, Some, None, Result, Ok, Err, refl, sym, ap, ◌∙◌}
 use Rattle.std.proofs.Common.{subst, arith}
@@ -35,7 +35,7 @@ use Rattle.law_engine.proofs.WrittenUnits.{HoldsBytes, written_bytes}
 
 -- ---- EXIT
 
--- a word that is none of the words in which the frames keep IPC
+-- The word is none of those in which the frames save IPC.
 ips_apart : (m : List ℕ) (a n x : ℕ) → list_any (touches x 2) (ips_written m a n) ≡ false → (i : ℕ) → i < n → x ≢ ip_kept m a i
 unfolding ips_written
 ips_apart m a zero x none i l = absurd (omega (arith, l))
@@ -67,12 +67,12 @@ exited_keeps c p memory = of (exited c p) refl
         is.rest x even (λ i l. ips_apart c.memory c.registers.mp is.count x none i l))
     of (Err e) h = tt
 
--- what is true of what is made is true of this
+-- A property of each success is one of this result.
 of_ok : {A : Type 0} (P : A → Type 0) (r : Result A ExecError) (x : A) → IfMade P r → r ≡ Ok x → P x
 of_ok P (Ok y) x h e = subst P (ok_same y x e) h
 of_ok P (Err f) x h e = cc
 
--- code that ends at an address
+-- Code that ends at an address.
 abbrev code_stretches : ℕ → Option (List ℕ) → List Stretch
 code_stretches sp None = []
 code_stretches sp (Some code) = stretch_to sp (length code) ∷ []
@@ -98,7 +98,7 @@ exit_keeps s memory =
     subst (λ (q : Wanted). Kept (frames_written m s.registers.mp (left_by_exit c q)) m d.memory) named
     (of_ok (λ (d : Parts). Kept (frames_written m s.registers.mp (left_by_exit c w)) m d.memory) (exited c w) d (exited_keeps c w memory) l))))
 
--- ---- the segment that is kept
+-- ---- procedure 21
 
 keeps_loading : (c : Parts) (n : ℕ) (code : List ℕ) → IsMemory c.memory → AreBytes code → c.registers.sp ≤ 65504
     → IfMade (λ (d : Parts). Kept (stretch_to c.registers.sp (length code) ∷ []) c.memory d.memory) (keep_loading c n code)
@@ -120,7 +120,7 @@ keeps_slot c n code (Some (Some p)) memory bytes low =
 keeps_slot c n None (Some None) memory bytes low = tt
 keeps_slot c n (Some code) (Some None) memory bytes low = keeps_loading c n code memory bytes low
 
--- the code of a slot is bytes, as the disks are
+-- The code of a slot consists of bytes, as the disks do.
 on_image : (image : Option (List ℕ)) (block n : ℕ) → ((bs : List ℕ) → image ≡ Some bs → AreBytes bs) → IsCode (code_in image block n)
 on_image None block n holds = tt
 on_image (Some bs) block n holds = elim (cases_Bool (lies_on bs block n)) [

@@ -48,7 +48,7 @@ element per_word width base i m sp np = do
   Ok top.word
 
 -- Element `i` of the array is the value modulo 2^`width` in memory `n`. Each other element, and each word except that
--- of element `i`, is the same in `m` and `n`.
+-- of element `i`, is the same in `m` and `n`, unless it is in the four words below SP.
 pub record HasOneElementMore (per_word width base i v sp np : ℕ) (m n : List ℕ) : Type 0 where
   pub there : element per_word width base i n sp np ≡ Ok (v % 2 ^ width)
   pub others :

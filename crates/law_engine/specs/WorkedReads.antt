@@ -89,7 +89,7 @@ pub record WorkedReads : Type 0 where
       (s : State) →
       call_read (Clp 1) (calling s)
       ≡ stretch 20 2 ∷ stretch 18 2 ∷ stretch 10 2 ∷ stretch 8 2 ∷ stretch 4 2 ∷ stretch 2 2 ∷ stretch 60 4 ∷ []
-  -- EXIT of the running procedure reads its exit address and both its numbers.
+  -- EXIT of the running procedure reads the word of its exit address, the number of its segment and its own number.
   pub left : (s : State) → exit_leads (leaving s) ≡ stretch 58 2 ∷ stretch 60 2 ∷ stretch 62 2 ∷ []
   -- MOVELEFT and MOVERIGHT of 5 bytes from 1000 + 1. SCAN of 3 bytes down from 2000 + 3, of 3 bytes up, of none, and of
   -- 3 bytes down from 1, where two exist. UNITWRITE of 512 bytes from 4000 + 2.

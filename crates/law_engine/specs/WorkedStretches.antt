@@ -47,14 +47,14 @@ leaving s = record s {
 abbrev pub table : Table
 table = record { jtab = 0; enter = 0; exit = 0; parameters = 4; locals = 6; level = pos 1 }
 
--- The words that some bytes touch.
+-- The words that a stretch touches.
 pub record WorkedTouches : Type 0 where
   -- Five bytes from 2003 on touch the words at 2002, 2004 and 2006, but not those at 2000 and 2008.
   pub first : touches 2002 2 (stretch 2003 5) ≡ true
   pub last : touches 2006 2 (stretch 2003 5) ≡ true
   pub under : touches 2000 2 (stretch 2003 5) ≡ false
   pub over : touches 2008 2 (stretch 2003 5) ≡ false
-  -- No bytes touch no word, and a word of no bytes is touched by none.
+  -- A stretch of no bytes touches no word, and no stretch touches zero bytes.
   pub none : touches 2002 2 (stretch 2003 0) ≡ false
   pub of_none : touches 2004 0 (stretch 2003 5) ≡ false
 
@@ -80,7 +80,8 @@ pub record WorkedRows : Type 0 where
   pub character : value_written (value.Text (text.Assign 80)) (65 ∷ 1000 ∷ []) 0 ≡ stretch 1000 2 ∷ []
   pub characters : value_written (value.Text (text.Assign 80)) text_above 0 ≡ stretch 1000 4 ∷ []
   pub indexed : value_written (value.Text text.Index) (1 ∷ 1000 ∷ []) 0 ≡ []
-  -- UNI, INT and DIF pop the five words below 10, and leave three, two and three words there. EQUSET leaves one word.
+  -- UNI, INT and DIF pop the five words from 0 to 10, and leave three, two and three words there. EQUSET leaves one
+  -- word.
   pub union : value_written (value.Set set.Union) two_sets 0 ≡ stretch 4 6 ∷ []
   pub intersection : value_written (value.Set set.Intersection) two_sets 0 ≡ stretch 6 4 ∷ []
   pub difference : value_written (value.Set set.Difference) two_sets 0 ≡ stretch 4 6 ∷ []

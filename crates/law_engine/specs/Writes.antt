@@ -88,7 +88,7 @@ nothing = record {
 abbrev pub all_words : ℕ → Bool
 all_words x = true
 
--- A step that succeeds is counted, and changes IPC.
+-- A step that succeeds is counted, and may change IPC.
 abbrev pub step_alone : Writes
 step_alone = record nothing { ipc = true; steps = true }
 
@@ -96,7 +96,7 @@ step_alone = record nothing { ipc = true; steps = true }
 abbrev pub stack_row : Writes
 stack_row = record step_alone { words = all_words; sp = true }
 
--- A row that only pops words.
+-- A row that only pops words may change SP.
 abbrev pub taking_row : Writes
 taking_row = record step_alone { sp = true }
 
@@ -117,7 +117,7 @@ memory_writes memory.IoResult = stack_row
 memory_writes memory.Halt = nothing
 memory_writes memory.FreeMemory = stack_row
 
--- Disk `n` is that of port `p`.
+-- Disk `n` is that of the port.
 abbrev pub is_disk : Port → ℕ → Bool
 is_disk (Disk k) n = n == k
 is_disk Console n = false

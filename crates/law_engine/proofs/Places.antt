@@ -118,7 +118,7 @@ pub standard_holds : (P : Places → Type 0) (n : ℕ) (s : State) → Holds P o
     → Holds P of_state (standard_row n s)
 standard_holds P n s h = after P of_reach of_state (procedure_row (procedure_numbered n) (reach s)) _ h (λ t k. k)
 
--- A procedure that loads no segment.
+-- A choice of two procedures other than `p` is not `p`.
 is_not : (b : Bool) (x y p : Procedure) → x ≢ p → y ≢ p → cond b x y ≢ p
 is_not true x y p h k = h
 is_not false x y p h k = k

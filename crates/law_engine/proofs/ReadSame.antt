@@ -46,7 +46,7 @@ use Rattle.pm_calls.specs.Returns.{returned}
 
 -- ---- successful steps
 
--- A successful result is a success before it may fail as an instruction.
+-- If `or_fails r` succeeds, `r` succeeds with the same value.
 went : {A : Type 0} (r : Result A ExecError) (x : A) → or_fails r ≡ Ok x → r ≡ Ok x
 went (Ok y) x h = of y x h
   where
@@ -54,7 +54,7 @@ went (Ok y) x h = of y x h
     of y x h = cc
 went (Err e) x h = cc
 
--- If a sequence succeeds, its first step succeeds.
+-- `r` succeeds. The first step of a sequence that succeeds does so.
 record Goes {A : Type 0} (r : Result A ExecError) : Type 0 where
   pub made : A
   pub is : r ≡ Ok made

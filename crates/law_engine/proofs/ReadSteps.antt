@@ -245,12 +245,12 @@ words_same m n a k from count same memory other even low high room =
         let place : from / 2 + i ≡ (from + 2 * i) / 2 = omega (arith, even) in
         get_or-take count (drop (from / 2) p) i 0 l ∙ (get_or-drop (from / 2) p i 0 ∙ ap (λ (j : ℕ). get_or p j 0) place)
 
--- The result of one memory is also the result of the other.
+-- Equal results are related, if the relation is reflexive.
 pub as_before : {A E : Type 0} (Q : A → A → Type 0) (r u : Result A E) → ((x : A) → Q x x) → u ≡ r → Both Q r u
 as_before Q (Ok x) u like same = record { other = x; made = same; like = like x }
 as_before Q (Err e) u like same = tt
 
--- A rule that both runs demand.
+-- Both runs check the same condition first.
 pub demanded : {B : Type 0} (Q : B → B → Type 0) (b : Bool) (e : ExecError) (f g : Unit {0} → Result B ExecError) → (b ≡ true → Both Q (f tt) (g tt))
     → Both Q (demand b e >>= f) (demand b e >>= g)
 demanded Q true e f g h = h refl

@@ -11,7 +11,7 @@ use Rattle.pm_words.proofs.Laws.{scanned-down, scanned-up}
 use Rattle.pm_words.proofs.RangeLaws.{length-bytes_at}
 use Rattle.law_engine.specs.ProcedureLaws.{IsFirst, ScansDown, ScansStopFirst, ScansUp}
 
--- The number of bytes at the beginning of a list that a scan passes.
+-- The number of bytes that a scan passes in a list is the position of the first byte that stops it, or the length.
 passed-first : (bs : List ℕ) (b : ℕ) (equal : Bool) → IsFirst (λ i. stops equal b (get_or bs i 0)) (length bs) (passed bs b equal)
 passed-first bs b equal = elim (cases_lt (position_or_len (stops equal b) bs) (length bs)) [
   | inl inside ↦ let test : ltb (position_or_len (stops equal b) bs) (length bs) ≡ true = grind (arith, nat_tests) in

@@ -69,8 +69,8 @@ pub record LeadsOut (c e : Parts) (p : Wanted) (count n : ℕ) : Type 0 where
       (g : Parts) (words : ℕ) (base : Bool) →
       returned e words base ≡ Ok g → g.registers.mp ≡ frame_up c.memory c.registers.mp (n + 1)
 
--- After an EXIT that leaves `count` frames, at most `count` returns lead through these frames, down to the end of the
--- named procedure.
+-- Take an EXIT that leaves `count` frames, each below that of its caller, and at most `count` returns after it that
+-- succeed. They lead through these frames to the exit address of the named procedure.
 abbrev pub ReturnsLeadOut : Type 0
 ReturnsLeadOut =
     (c d e : Parts) (p : Wanted) (count : ℕ) (rs : List (ℕ × Bool)) →

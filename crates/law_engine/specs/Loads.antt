@@ -67,8 +67,8 @@ pub record IsAtKeep (n : ℕ) (s : State) : Type 0 where
   pub at : IsAtProcedure 21 s
   pub slot : word_at s.memory s.registers.sp ≡ n
 
--- A successful step of standard procedure 21 for a slot without an address leaves its segment in memory. It is directly
--- below the SP after the number of the slot is popped.
+-- Of the same machine, a successful step of standard procedure 21 for a slot without an address leaves the segment of
+-- this slot of the file in memory. It is directly below the SP after the number of the slot is popped.
 abbrev pub StepsKeepSegments : State → Type 0
 StepsKeepSegments s =
     (image file : List ℕ) (unit n : ℕ) →

@@ -35,7 +35,8 @@ pub record LinksOutward (m : List ℕ) (r : Registers) (level : ℤ) (link : ℕ
   pub frame : up m r.mp links ≡ Ok link
 
 -- The static link that a call gives to a procedure of `level`. Memory and registers are those before the frame is made.
--- For CLP it is the frame of the caller, for CGP that of the program.
+-- For CLP it is the frame of the caller, for CGP that of the program. For CBP it is as `LinksAsProgram` states, and for
+-- CIP as `LinksOutward` states. For CXP, `level` selects one of both.
 abbrev pub LinksTo : Call → List ℕ → Registers → ℤ → ℕ → Type 0
 LinksTo (Clp p) m r level link = link ≡ r.mp
 LinksTo (Cgp p) m r level link = link ≡ r.base

@@ -24,7 +24,7 @@ pub record HasShape (s : State) : Type 0 where
   pub disks : length s.devices.disks ≡ 6
   pub none_above : (n : ℕ) → 15 < n → placed s.places n ≡ None
 
--- Each machine has this shape, for any start and after any events.
+-- A machine that begins with code, or is booted from a list of six images, has this shape after any events.
 pub record MachinesHaveShape : Type 0 where
   pub raw : (bytes : List ℕ) (s : State) (es : List Event) → raw_start bytes ≡ Ok s → HasShape (after_all s es)
   pub booted :

@@ -89,7 +89,8 @@ abbrev pub WritesWhatItPushes : List ℕ → Pushed → Result (List ℕ × ℕ)
 WritesWhatItPushes m pushed (Ok t) = KeepsAllBut m t.0 t.1 (pushed t.0 t.1)
 WritesWhatItPushes m pushed (Err e) = Unit {0}
 
--- Every row, except those that store, writes only the words that it pushes.
+-- If a row on integers, variables, addresses, constants or values succeeds, it writes only the words that it pushes.
+-- The rows that store are excepted. Premise: the memory and the stack are those of a machine.
 pub record StackRowsWriteWhatTheyPush : Type 0 where
   pub arithmetic :
       (o : Arithmetic) (m : List ℕ) (sp np : ℕ) →

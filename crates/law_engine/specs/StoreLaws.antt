@@ -30,7 +30,7 @@ pub record RowsWriteWhatTheyStore : Type 0 where
   pub words :
       (n : ℕ) (m : List ℕ) (sp np : ℕ) →
       IsMemory m → WritesAlone m (word_at m (sp + 2 * n)) (2 * n) (store_words_row n m sp np)
-  -- MOV: `b` words from the destination address on, which is below the source address.
+  -- MOV: `b` words from the destination address on. On the stack, this address is below the source address.
   pub move :
       (b : ℕ) (m : List ℕ) (sp np : ℕ) → IsMemory m → WritesAlone m (word_at m (sp + 2)) (2 * b) (move_row b m sp np)
   -- STB: the byte at the sum of the two words below the value.

@@ -16,8 +16,8 @@ StandsBehind entered p offset None = offset ≡ 0
 StandsBehind entered p offset (Some name) = place_of entered p.code name ≡ Some (entered + offset)
 
 -- The symbol `x` belongs to the segment `s`. It has the number of the segment, and the number of one of its procedures,
--- which is one more than the number of procedures before it. Its offset counts from where the procedure with this
--- number begins in the program.
+-- which is one more than the number of procedures before it. Its offset counts from where the procedure at the same
+-- position of the program begins.
 pub record IsSymbolOf (s : SourceSegment) (x : Symbol) : Type 0 where
   pub before : List Source
   pub procedure : Source

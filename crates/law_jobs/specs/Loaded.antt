@@ -17,7 +17,7 @@ use Rattle.pm_machine.specs.Steps.{stepped}
 use Rattle.law_engine.specs.Loads.{IsAtCall, IsAtKeep, IsBootedFrom, IsImage}
 use Rattle.pm_words.specs.declared.layout.TheConstants.{SYSTEM_FRAME}
 
--- the joined bytes of the lines of a segment in the listing
+-- The joined bytes of the lines of a segment in the listing.
 abbrev pub listed : Segment → List ℕ
 listed s = listed_bytes (listed_segment s)
 

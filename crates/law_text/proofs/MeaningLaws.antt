@@ -72,7 +72,7 @@ use Rattle.law_text.specs.Meaning.{Said, arithmetic_said, as_said, check_said, f
 use Rattle.law_text.specs.Meaning.{then_said, value_said, variable_said, variable_there, word_there, IsLike}
 use Rattle.law_text.specs.Meaning.Said.{Gives, Fails, Unsaid}
 
--- ---- what is said and what a row gives
+-- ---- what a statement states and what a rule results in
 
 abbrev Agrees : {A : Type 0} → Said A → Result A ExecError → Type 0
 Agrees (Gives x) r = r ≡ Ok x
@@ -130,7 +130,7 @@ pushes m sp np w even room =
     let below : (sp - 2) % 2 ≡ 0 = omega (arith, even, room) in
     rw (first, evenly (sp - 2) below) refl
 
--- ---- rows
+-- ---- rules
 
 -- The result that a rule must have that puts a value on the stack.
 abbrev put : List ℕ → ℕ → Said ℕ → Said (List ℕ × ℕ)
@@ -336,7 +336,7 @@ IsSame (operation.Pointer o) x = x ≡ operation.Pointer o
 IsSame (operation.Jump (jump.Short c n)) x = x ≡ operation.Jump (jump.Short c n)
 IsSame _ x = Unit {0}
 
--- The scope and the number of a variable are the same, wherever the instruction is.
+-- The scope and the number of a variable are the same for any position of the instruction.
 same_scope : (v : Scope) (i : Instr) (start len : ℕ) → filled_scope v (record i { start = start; len = len }) ≡ filled_scope v i
 same_scope Global i start len = refl
 same_scope Local i start len = refl
@@ -518,7 +518,7 @@ jump_fetched s origin at op goal stack even is h =
         ≡ record (jump_instruction at op goal) { start = 0; len = n }
     placed_jump f a n at op goal e = rw e refl
 
--- ---- a state behind some operands, whose values stand on the stack, the last one first
+-- ---- a state after some operands, whose values are on the stack, the last one first
 
 record Holds (s : State) (vs : List ℕ) (ipc : ℕ) (u : State) : Type 0 where
   memory : IsLike s u.memory

@@ -81,7 +81,7 @@ no_exits n used exit at (item ∷ items) h =
     no_exit_at n used exit at (Items m None (labelled_item item ∷ []) ∷ more) (below exit at h)
     ∙ no_exits (m + 1) used exit (at + size at item) items (omega (arith, h))
 
--- The exit is there once.
+-- The exit occurs once.
 pub one_exit : (n : ℕ) (used : List ℕ) (exit at : ℕ) (items : List (Item ℕ)) → IsIn (boundaries at items) exit → exits_of (rows_of n used exit at items) ≡ 1
 one_exit n used exit at [] i = go (eqb exit at) refl
   where
@@ -141,7 +141,7 @@ no_names : IsDistinct bytes_eq []
 unfolding IsDistinct
 no_names = tt
 
--- No label is there twice.
+-- No label occurs twice.
 pub labels_distinct : (n : ℕ) (used : List ℕ) (exit at : ℕ) (items : List (Item ℕ)) → end_of at items < 2 ^ 64
     → IsDistinct bytes_eq (labels_of (rows_of n used exit at items))
 labels_distinct n used exit at [] l =

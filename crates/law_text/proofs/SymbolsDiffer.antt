@@ -29,7 +29,7 @@ distinct_parts [] ys front back others = back
 distinct_parts (x ∷ xs) ys front back others =
     (both_parts (λ y. is_same_symbol x y ≡ false) xs ys front.0 others.0, distinct_parts xs ys front.1 back others.1)
 
--- ---- what tells two symbols apart
+-- ---- what distinguishes two symbols
 
 first_differs : (a b c : Bool) → a ≡ false → (a && (b && c)) ≡ false
 first_differs true b c h = cc

@@ -34,7 +34,7 @@ use Rattle.pm_trees.specs.Parts.{Part}
 use Rattle.pm_trees.specs.Trees.{Forest, parts_of}
 use Rattle.pm_trees.specs.Trees.Forest.{Bare, Tree}
 
--- ---- what is said
+-- ---- what a text states
 
 -- What a text states about a value: the value, the error of the machine instead of it, or nothing (`Unsaid`).
 pub data Said (A : Type 0) : Type 0 where

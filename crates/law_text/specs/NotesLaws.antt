@@ -7,8 +7,8 @@ use Rattle.pm_code.specs.Program.{FitSlots, IsProgram, Segment, is_segment_name}
 use Rattle.pm_code.specs.Shown.{level_text, segment_line, words_text}
 use Rattle.pm_notes.specs.Marks.{note_on}
 
--- In the code file of a program, the line of a segment has no note: the low byte of the highest word of each segment is
--- the number of its slot, and all kinds are 0.
+-- In the code file of a program whose segments fit their slots, the line of a segment has no note. The low byte of the
+-- highest word of each segment is the number of its slot, and all kinds are 0.
 abbrev pub OwnSegmentsAreUntold : Type 0
 OwnSegmentsAreUntold = (ss : List Segment) → IsProgram ss → FitSlots ss → (n : ℕ) (name : List ℕ) → n < 16
     → note_on (file_of ss) (segment_line n name) ≡ None
@@ -25,8 +25,8 @@ abbrev pub procedure_line : ℕ → ℕ → ℕ → ℕ → List ℕ
 procedure_line number level parameters locals =
     codes ".PROC" ++ words_text (decimal number ∷ level_text level ∷ decimal parameters ∷ decimal locals ∷ [])
 
--- The line of a procedure has the note that it is native code if and only if the number of the procedure is 0, in any
--- file.
+-- The line of a procedure with a number from 0 to 255 has the note that it is native code if and only if this number is
+-- 0, in any file.
 pub record NativeCodeIsTold : Type 0 where
   pub zero : (file : List ℕ) (level parameters locals : ℕ)
       → note_on file (procedure_line 0 level parameters locals) ≡ Some (codes "native code")

@@ -10,7 +10,7 @@ use Rattle.pm_source.specs.Source.{Name, Source, SourceSegment}
 use Rattle.pm_asm.specs.Symbols.{Symbol, symbol_lines, symbol_text, symbols}
 
 -- What is `offset` bytes after the beginning of a procedure: without a label the procedure itself, at offset 0; with a
--- label the place of this label in the code of the procedure.
+-- label the beginning of this label in the code of the procedure.
 abbrev pub StandsBehind : ℕ → Source → ℕ → Option Name → Type 0
 StandsBehind entered p offset None = offset ≡ 0
 StandsBehind entered p offset (Some name) = place_of entered p.code name ≡ Some (entered + offset)

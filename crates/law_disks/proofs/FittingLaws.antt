@@ -158,7 +158,7 @@ all_kept P keep (x ∷ xs) ys all = elim (cases_Bool (keep x)) [
   | inr off ↦ rw off (all_kept P keep xs ys (All-tail P x (xs ++ ys) all))
 ]
 
--- The state after the first `n` files have been processed.
+-- After the first `n` files, `front`, only those of them that do not match are left, with the bytes that they had.
 record Leaves (pattern image : List ℕ) (n : ℕ) (front back : List Entry) : Type 0 where
   files : files_of (without_first pattern n image) ≡ unfit pattern front ++ back
   bytes : HaveBytesOf image (without_first pattern n image) (unfit pattern front ++ back)

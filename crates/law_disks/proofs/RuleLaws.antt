@@ -105,7 +105,7 @@ none-from_keeps d n k =
 
 -- ---- the slots
 
--- The files before slot `n` end at block `from`.
+-- The files before slot `n` end at block `from`. For slot 1, `from` is the block where files begin.
 record Before (d : List ℕ) (n from : ℕ) : Type 0 where
   slot : 1 ≤ n
   first : n ≡ 1 → from ≡ files_begin d

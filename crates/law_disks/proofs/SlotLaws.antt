@@ -106,7 +106,7 @@ module _ (image : List ℕ) (before after : List Entry) (e : Entry) (files : fil
   name_beside : (new : List ℕ) → is_named_beside (directory_of image) (length before + 1) new ≡ list_any (is_named new) (before ++ after)
   name_beside new = ap (list_any (is_named new)) beside
 
-  -- The slot of the file that gets the new name.
+  -- Which slot gets a new name, or the refusal.
   to_rename : (new : List ℕ) (b : Bool) → list_any (is_named new) (before ++ after) ≡ b
       → slot_to_rename (directory_of image) (slot_numbered (directory_of image) (length before + 1)) new
       ≡ cond (not (is_new_name 15 new)) (Err BadName) (cond b (Err Duplicate) (Ok (length before + 1)))

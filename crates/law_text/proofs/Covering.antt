@@ -128,7 +128,7 @@ lines_cover_procedures slot segment n a b found after =
 
 -- ---- a whole segment
 
--- The lines of procedures, and the lines after them.
+-- The lines of procedures, followed by the lines `rest`.
 record Follow (slot : ℕ) (segment : List ℕ) (number at end : ℕ) (ps : List Procedure) (rest : List Listed) : Type 0 where
   lines : List Listed
   text : tables_listing slot segment number (length ps) ++ listed_lines slot rest ≡ listed_lines slot lines

@@ -27,7 +27,7 @@ less_is a b c e =
 pub stored_byte : (segment bytes : List ℕ) (at p k : ℕ) → drop at segment ≡ bytes → p ≡ at + k → slice_index segment p ≡ slice_index bytes k
 stored_byte segment bytes at p k e f = ap (slice_index segment) f ∙ sym (get_or-drop at segment k 0) ∙ ap (λ bs. slice_index bs k) e
 
--- The address where a table begins.
+-- The attributes of a procedure follow its code and its entries.
 attributes_there : (segment : List ℕ) (number : ℕ) (p : Procedure) (s : StandsIn segment number p)
     → drop (code_end p + 2 * length p.entries) segment ≡ attribute_bytes number p ++ s.rest
 attributes_there segment number p s =

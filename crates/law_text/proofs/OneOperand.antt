@@ -160,7 +160,7 @@ unmarked_from (c ∷ cs) zero h = one c (and_parts _ _ h).0
     one c h = grind (arith, nat_tests)
 unmarked_from (c ∷ cs) (suc i) h = unmarked_from cs i (and_parts _ _ h).1
 
--- A text that is read as a number by its value, and otherwise not as an operand of its kind.
+-- A number is read by its value, and not as another kind of operand.
 record IsRead (t : List ℕ) : Type 0 where
   marked : is_marked t ≡ false
   jump : jump_operand t ≡ None

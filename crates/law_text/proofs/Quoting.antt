@@ -94,7 +94,7 @@ small_if : (n : ℕ) (long : Bool) → (long && nat_lt n 128) ≡ true → n < 1
 small_if n true e = grind (arith, nat_tests)
 small_if n false e = absurd (cc)
 
--- A number is marked if it has two bytes and needs one.
+-- A number has its mark if it has two bytes and one byte would be enough.
 pub number_text_shown : (n : ℕ) (long : Bool) → n < 32768 → number_operand (number_text n long) ≡ Some ((n, long && nat_lt n 128), true)
 number_text_shown n long h = mark_shown n (long && nat_lt n 128) h (small_if n long)
 
@@ -177,7 +177,7 @@ all_again : (bytes : List ℕ) → AllByRecursion IsByte bytes → unescaped (fl
 all_again [] h = refl
 all_again (c ∷ bytes) h = escaped_again c (flat_map escaped bytes) bytes h.0 (all_again bytes h.1)
 
--- Characters between quotes: all characters except a quote.
+-- Characters between quotes: all valid characters except a quote.
 abbrev is_inner : ℕ → Bool
 is_inner c = is_character c && not (c == 34)
 

@@ -77,7 +77,7 @@ said_line n l s h = go (list_all is_character l) refl
         let wrong : line_of n l ≡ Wrong last = rw e refl in
         absurd (cc)
 
--- The statements after a line.
+-- The statements that the lines after a line spell.
 record Rest (lines : List Line) : Type 0 where
   said : List Statement
   rest : AreSaid lines said

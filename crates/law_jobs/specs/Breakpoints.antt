@@ -114,7 +114,8 @@ BreakStopsThere = (s p o : ℕ) (d : Session) (t : State) → length d.breaks < 
     ≡ (if stands_at (code_place s p o) t then true else is_at_break d.breaks t)
 
 -- After `break` with the condition that the word at a is w, a run stops at its position if and only if this word is w
--- or a breakpoint on words stops it, even if another was set there before. At every other position runs stop as before.
+-- or a breakpoint on words stops it. This holds even if another breakpoint was set there before. At every other
+-- position runs stop as before.
 abbrev pub BreakIfStopsSo : Type 0
 BreakIfStopsSo = (s p o a w : ℕ) (d : Session) (t : State) → is_even a ≡ true → length d.breaks < 64
     → is_at_break (session_after (Some (Does (commands.Break s p o (Some (word_is a w))))) d).breaks t
@@ -127,8 +128,9 @@ ClearStopsNoMore = (s p o : ℕ) (d : Session) (t : State)
     → is_at_break (session_after (Some (Does (commands.Clear s p o))) d).breaks t
     ≡ (if stands_at (code_place s p o) t then is_at_break (on_words d.breaks) t else is_at_break d.breaks t)
 
--- After `reads` or `writes` a breakpoint stops a run before a step that reads, or writes, one of these words, if its
--- condition holds, even if another was set on these words before. All other breakpoints stop runs as before.
+-- After `reads` or `writes`, a breakpoint stops a run before a step that reads, or writes, one of these words, if its
+-- condition holds. This holds even if another breakpoint was set on these words before. All other breakpoints stop runs
+-- as before.
 abbrev pub WordsStopSo : Type 0
 WordsStopSo = (on : Spot) (condition : Option Condition) (d : Session) (t : State) → can_stand on ≡ true
     → can_be_asked condition ≡ true → length d.breaks < 64

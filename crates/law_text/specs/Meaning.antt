@@ -271,8 +271,9 @@ DoesAsSaid s next (Gives d) t = Does s next d t
 DoesAsSaid s next (Fails e) t = Halts s e t
 DoesAsSaid s next Unsaid t = Unit {0}
 
--- If the machine is before a statement, and the free stack has space for a word for each of its instructions except the
--- last, the machine has done what the statement states after it has executed these instructions.
+-- After the steps of all its instructions, a statement has done what it states. There are three premises. The machine
+-- `s` runs, with IPC at the beginning of the statement. The bytes of the statement are in memory outside the free
+-- stack. The free stack has space for a word for each of its instructions except the last.
 abbrev pub StatementsDoWhatTheySay : Type 0
 StatementsDoWhatTheySay =
     (s : State) (origin at : ℕ) (p : Part) (missing : Missing) (operands : Forest) →

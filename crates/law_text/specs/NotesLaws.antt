@@ -25,8 +25,8 @@ abbrev pub procedure_line : ℕ → ℕ → ℕ → ℕ → List ℕ
 procedure_line number level parameters locals =
     codes ".PROC" ++ words_text (decimal number ∷ level_text level ∷ decimal parameters ∷ decimal locals ∷ [])
 
--- The line of a procedure with a number from 0 to 255 has the note that it is native code if and only if this number is
--- 0, in any file.
+-- The line of a procedure with the number 0 has the note that it is native code. The line of a procedure with a number
+-- from 1 to 255 has no note. Both statements hold for any file.
 pub record NativeCodeIsTold : Type 0 where
   pub zero : (file : List ℕ) (level parameters locals : ℕ)
       → note_on file (procedure_line 0 level parameters locals) ≡ Some (codes "native code")

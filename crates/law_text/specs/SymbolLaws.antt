@@ -48,8 +48,8 @@ abbrev pub is_same_symbol : Symbol → Symbol → Bool
 is_same_symbol x y =
     nat_eq x.segment y.segment && (nat_eq x.procedure y.procedure && is_same_label x.label y.label)
 
--- The lines that are printed for a text are those of the symbols of its segments, no symbol is in them twice, and the
--- text spells the program of these segments.
+-- The lines that are printed for a text are those of the symbols of its segments. No symbol is in them twice. The text
+-- spells the program of these segments.
 pub record AreLinesOf (text lines : List ℕ) : Type 0 where
   pub told : lines ≡ symbol_lines (symbols (source_of text))
   pub once : IsDistinct is_same_symbol (symbols (source_of text))

@@ -41,7 +41,7 @@ use Rattle.law_jobs.specs.Shown.StopsAfter.{rests, all, breaks_there, stops}
 
 -- ---- steps of a run
 
--- The steps are as many events.
+-- A number of steps is the same number of events.
 all_steps : (n : ℕ) (s : State) → after_steps n s ≡ after_all s (replicate n Step)
 unfolding after_steps
 all_steps zero s = refl
@@ -211,7 +211,7 @@ kept_watching : (d : Session) (r : Result (List ℕ) DebugRefusal) → (with_wat
 kept_watching d (Ok watches) = refl
 kept_watching d (Err refusal) = refl
 
--- Bytes that wait are keys.
+-- The bytes that are typed are keys.
 typed_events : (bytes : List ℕ) (d : Session) → (after_keys bytes d).machine ≡ after_all d.machine (map Key bytes)
 unfolding after_command
 typed_events [] d = refl

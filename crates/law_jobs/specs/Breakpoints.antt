@@ -113,8 +113,8 @@ BreakStopsThere = (s p o : ℕ) (d : Session) (t : State) → length d.breaks < 
     → is_at_break (session_after (Some (Does (commands.Break s p o None))) d).breaks t
     ≡ (if stands_at (code_place s p o) t then true else is_at_break d.breaks t)
 
--- After `break` with the condition that the word at a is w, a run stops at its position if and only if this word is w
--- or a breakpoint on words stops it. This holds even if another breakpoint was set there before. At every other
+-- After `break` with the condition that the word at a is w, a run stops at its position if and only if the condition
+-- holds or a breakpoint on words stops it. This holds even if another breakpoint was set there before. At every other
 -- position runs stop as before.
 abbrev pub BreakIfStopsSo : Type 0
 BreakIfStopsSo = (s p o a w : ℕ) (d : Session) (t : State) → is_even a ≡ true → length d.breaks < 64

@@ -42,8 +42,8 @@ AssembledLoadsListed s =
     placed s.places n ≡ None → IsAtCall n p s → (stepped s).1 ≡ Went →
     StandsAsListed text shown n s.registers.sp (stepped s).0.memory
 
--- Slot n has no address. A step loads its segment by standard procedure 21 and succeeds. Memory then has the segment as
--- it is listed, directly below the SP after the operand is popped.
+-- Take a step that keeps the segment of slot n, which has no address, by standard procedure 21. If the step succeeds,
+-- memory has the segment as it is listed, directly below the SP after the operand is popped.
 abbrev pub AssembledKeepsListed : State → Type 0
 AssembledKeepsListed s =
     (text shown file image : List ℕ) (unit n : ℕ) →

@@ -87,7 +87,7 @@ is_free s a = nat_le s.registers.np a && nat_lt a s.registers.sp
 unfoldable pub word_there : State → ℕ → Said ℕ
 word_there s a = if is_even a then (if is_free s a then Unsaid else Gives (word_at s.memory a)) else Fails InvalidMemory
 
--- The frame that is reached from frame `f` by following as many static links as the number states.
+-- The frame that is reached from frame `f` by `n` static links.
 unfoldable pub frame_up : State → ℕ → ℕ → Said ℕ
 frame_up s f zero = Gives f
 frame_up s f (suc n) = then_said (frame_up s f n) (word_there s)

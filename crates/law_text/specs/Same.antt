@@ -12,7 +12,7 @@ use Rattle.pm_source.specs.Line.{Keyword, comparison, is_character, items_said, 
 use Rattle.pm_source.specs.Line.{number_operand, operands, procedure_operands, said, segment_operands}
 use Rattle.pm_source.specs.Words.{decimal_number, hexadecimal_number, is_blank, number, words}
 
--- Whether quotes are open after the characters `cs`.
+-- Whether quotes are open after the characters `cs`. The parameter `quoted` states whether they are open before them.
 abbrev pub is_open : Bool → List ℕ → Bool
 is_open quoted [] = quoted
 is_open quoted (c ∷ cs) = is_open (if c == 34 then not quoted else quoted) cs

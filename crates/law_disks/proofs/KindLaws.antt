@@ -1,4 +1,4 @@
--- A file that was copied from another volume, and one that got another kind.
+-- A file that was copied from another volume, and a file whose kind was set.
 use Rattle.std.proofs.Common.{◌≡◌, ◌<◌, ◌≤◌, ℕ, zero, suc, ◌+◌, ◌-◌, ◌*◌, ◌%◌, Bool, true, false, cond, List, [], ◌∷◌, ◌++◌, ◌∙◌}
 use Rattle.std.proofs.Common.{ap, sym, refl, subst, inl, inr, length, arith, Option, Some, None, Result, Ok, Err}
 use Rattle.std.proofs.Math.Seq.{set-append_seam}
@@ -52,7 +52,7 @@ IsCopied-from_ok : (image name from : List ℕ) (entry : Option Entry) (fault : 
 IsCopied-from_ok image name from entry None new h = with_entry image name from entry new h
 IsCopied-from_ok image name from entry (Some fault) new h = cc
 
--- an entry that is found among slots of bytes is of bytes
+-- An entry that is found among slots of bytes consists of bytes.
 found-bytes : (directory : List ℕ) → Small directory → (p : Entry → Bool) (n left : ℕ) (e : Entry)
     → find p (entries_from directory n left) ≡ Some e → IsOfBytes e
 unfolding entries_from
@@ -95,7 +95,7 @@ kinded-ok : (image : List ℕ) (kind : ℕ) (chosen : Option ℕ) (new : List �
 kinded-ok image kind (Some slot) new h = (slot, refl, cc)
 kinded-ok image kind None new h = cc
 
--- the first of a name that gets another kind is found by it
+-- The first file of a name is still found by it after its kind is set.
 found_kinded : (p : Entry → Bool) (n : ℕ) (front : List Entry) (e x : Entry) (back : List Entry)
     → position_from p n (front ++ e ∷ back) ≡ Some (n + length front) → p x ≡ p e
     → (find p (front ++ x ∷ back) ≡ Some x) × (find p (front ++ e ∷ back) ≡ Some e)
@@ -115,7 +115,7 @@ bytes_kinded : (image : List ℕ) (e : Entry) (kind : ℕ) → file_bytes image 
 unfolding file_bytes
 bytes_kinded image e kind = refl
 
--- every name gives what it gave
+-- Every name gives the bytes that it gave before.
 given_kinded : (name old new : List ℕ) (front : List Entry) (e : Entry) (kind : ℕ) (back : List Entry)
     → All (FileStays old new) (front ++ e ∷ back)
     → bytes_of_file new (find (is_named name) (front ++ (record e { kind = kind }) ∷ back))

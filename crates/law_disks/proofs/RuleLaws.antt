@@ -1,4 +1,4 @@
--- An image of which no fault is told opens, and the other way round.
+-- An image opens as a volume if and only if no fault of it is found.
 use Rattle.std.proofs.Common.{◌≡◌, ◌==◌, ◌<◌, ◌≤◌, ◌⊎◌, inl, inr, ℕ, zero, suc, ◌+◌, ◌-◌, ◌/◌, ◌%◌, Bool, true, false, ltb, not, ◌||◌, ◌&&◌}
 use Rattle.std.proofs.Common.{List, [], ◌∷◌, ◌++◌, length, min, refl, arith}
 use Rattle.std.specs.Prelude.{slice_index, if◌then◌else◌}
@@ -36,7 +36,7 @@ both xs ys x y = rw (x, y) refl
 
 -- ---- a slot
 
--- the entry in a slot keeps to the rules by itself, and does not begin before the one before it ends
+-- The entry in slot `n` is valid by itself, and does not begin before the end of the entry before it.
 record Keeps (d : List ℕ) (n : ℕ) : Type 0 where
   named : 1 ≤ slice_index (entry_in d n).name 0
   short : slice_index (entry_in d n).name 0 ≤ 15
@@ -105,7 +105,7 @@ none-from_keeps d n k =
 
 -- ---- the slots
 
--- where the files before a slot end
+-- The files before slot `n` end at block `from`. For slot 1, `from` is the block where files begin.
 record Before (d : List ℕ) (n from : ℕ) : Type 0 where
   slot : 1 ≤ n
   first : n ≡ 1 → from ≡ files_begin d

@@ -73,7 +73,7 @@ upper-numbered name (suc n) fits =
 
 -- ---- the lowest number that is free
 
--- the number of a name, below which each one is another file's
+-- The number of a name: with each lower number, another file has the name.
 pub record IsLowestNumber (volume name : List ℕ) (found : List ℕ) : Type 0 where
   pub number : ℕ
   pub small : number ≤ 77
@@ -102,7 +102,7 @@ lowest_from volume name n (suc left) fits below = elim (cases_Bool (is_none (fil
 pub lowest_number : (volume name : List ℕ) → IsLowestNumber volume name (free_from volume name 0 77)
 lowest_number volume name = lowest_from volume name 0 77 (omega arith) (λ other less. absurd (omega arith))
 
--- a name that no file has stays as it is
+-- A name that no file has is used without a number.
 pub own_free : (volume name : List ℕ) → file_named volume (good_name name) ≡ None → free_from volume name 0 77 ≡ good_name name
 unfolding free_from numbered
 own_free volume name none = rw none refl

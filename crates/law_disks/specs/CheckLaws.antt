@@ -1,4 +1,4 @@
--- Laws of what is told of an image.
+-- Laws of what `check` reports of an image.
 use Rattle.std.specs.Prelude.{◌≡◌, ◌↔◌, ℕ, true, List, [], ◌∷◌, None, Some}
 use Rattle.pm_volume.specs.Directory.{image_fault}
 use Rattle.pm_volume.specs.declared.entry.Entry.{Entry}
@@ -9,15 +9,15 @@ use Rattle.pm_check.specs.declared.note.Form.{Form}
 use Rattle.pm_check.specs.declared.note.Note.{Note}
 use Rattle.pm_check.specs.declared.note.Note.TheVariants as notes
 
--- an image opens as a volume exactly if no fault of it is told
+-- An image has no fault that refuses it as a volume if and only if `image_findings` finds no fault in it.
 abbrev pub GoodImagesOpen : Type 0
 GoodImagesOpen = (image : List ℕ) → image_fault image ≡ None ↔ image_findings image ≡ []
 
--- two files are told to share blocks exactly if there is a block that both have
+-- `shares a b` is true if and only if some block belongs to both files `a` and `b`.
 abbrev pub SharedBlocks : Type 0
 SharedBlocks = (a b : Entry) → shares a b ≡ true ↔ HaveBlock a b
 
--- the form that is told of an image is the first that is noted, and where none is told none is noted
+-- If a format is seen in an image, it is the first format that is noted. If none is seen, no format is noted.
 abbrev pub FormIsNoted : Type 0
 FormIsNoted =
     (image : List ℕ) → ((form : Form) → form_seen image ≡ Some form → (rest : List Note)

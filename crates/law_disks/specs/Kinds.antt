@@ -1,4 +1,4 @@
--- What a file is that was copied from another volume, or that got another kind.
+-- Laws of a file that was copied from another volume, and of a file whose kind was set.
 use Rattle.std.specs.Prelude.{◌≡◌, ◌%◌, ℕ, List, Some, Ok, if◌then◌else◌}
 use Rattle.pm_volume.specs.Directory.{IsVolume}
 use Rattle.pm_volume.specs.Files.{file_named}
@@ -7,8 +7,8 @@ use Rattle.pm_volume.specs.declared.entry.Entry.{Entry}
 use Rattle.pm_filer.specs.Filed.{Copy, Filed, Kind, filed}
 use Rattle.pm_filer.specs.Laws.{IsVolumeOfBytes, file_given}
 
--- what is copied under a name is got under it, in either case of letters, as the other volume gives it, and every other
--- name gives what it gave
+-- After a successful `Copy` between volumes of bytes, the name, in upper or lower case, gives what it gives on the
+-- volume `from`. Every other name gives what it gave before.
 abbrev pub CopyIsGot : Type 0
 CopyIsGot =
     (image name from : List ℕ) (f : Filed) → IsVolumeOfBytes image → IsVolumeOfBytes from
@@ -16,12 +16,13 @@ CopyIsGot =
     → (other : List ℕ) → file_given f.image other
     ≡ (if is_same_name name other then file_given from name else file_given image other)
 
--- two files have one kind and one date
+-- The files `one` and `other` have the same kind and the same date.
 pub record AreAlike (one other : Entry) : Type 0 where
   pub kind : one.kind ≡ other.kind
   pub date : one.date ≡ other.date
 
--- it has the kind and the date that it has there
+-- After a successful `Copy`, the first file of the name has the kind and the date of the first file of this name on the
+-- volume `from`.
 abbrev pub CopyKeepsKind : Type 0
 CopyKeepsKind =
     (image name from : List ℕ) (f : Filed) → IsVolumeOfBytes image → IsVolumeOfBytes from
@@ -29,14 +30,15 @@ CopyKeepsKind =
     → (there here : Entry) → file_named from name ≡ Some there → file_named f.image name ≡ Some here
     → AreAlike here there
 
--- a file that gets another kind has it, and is otherwise the file that it was
+-- After a successful `Kind`, the first file of the name has the given kind, modulo 16, and its entry is otherwise
+-- unchanged.
 abbrev pub KindIsSet : Type 0
 KindIsSet =
     (image name : List ℕ) (kind : ℕ) (f : Filed) → IsVolume image → filed image (Kind name kind) ≡ Ok f
     → (e : Entry) → file_named image name ≡ Some e
     → file_named f.image name ≡ Some (record e { kind = kind % 16 })
 
--- and every name gives what it gave
+-- After a successful `Kind`, every name gives the bytes that it gave before.
 abbrev pub KindKeepsNames : Type 0
 KindKeepsNames =
     (image name : List ℕ) (kind : ℕ) (f : Filed) → IsVolume image → filed image (Kind name kind) ≡ Ok f

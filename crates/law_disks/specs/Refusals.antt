@@ -1,4 +1,4 @@
--- Which refusal is told where several hold: the first in its order.
+-- Which refusal a command or an image gives if several conditions hold: the first one in a fixed order.
 use Rattle.std.specs.Prelude.{◌≡◌, ◌≢◌, ◌<◌, ◌≤◌, ◌⊎◌, ◌+◌, ◌/◌, ◌%◌, ℕ, true, false, List, [], ◌∷◌, ◌++◌, length}
 use Rattle.std.specs.Prelude.{Some, None, Result, Err, IsOk}
 use Rattle.pm_volume.specs.Changes.{slot_named, is_named_beside}
@@ -18,13 +18,14 @@ use Rattle.pm_filer.specs.Filed as order
 use Rattle.pm_filer.specs.declared.fault.FilerFault.{FilerFault}
 use Rattle.pm_filer.specs.declared.fault.FilerFault.TheVariants.{Volume}
 
--- a command is refused for this fault of the volume
+-- The outcome of a command is the refusal with this fault of the volume.
 abbrev pub IsRefused : VolumeFault → Result Filed FilerFault → Type 0
 IsRefused fault outcome = outcome ≡ Err (Volume fault)
 
 -- ---- changes
 
--- a new file: its name is none; a file has it; there are 77 files; there is no room
+-- The refusals of a `Put`, in the order of the checks: the name is invalid; a file has it; there are at least 77 files;
+-- no gap holds the bytes.
 pub record PutTellsFirst (image name : List ℕ) (outcome : Result Filed FilerFault) : Type 0 where
   pub bad_name : is_new_name 15 name ≡ false → IsRefused BadName outcome
   pub there : is_new_name 15 name ≡ true → (e : Entry) → file_named image name ≡ Some e → IsRefused Duplicate outcome
@@ -37,7 +38,8 @@ abbrev pub PutsTellFirst : Type 0
 PutsTellFirst =
     (image name : List ℕ) (kind : ℕ) (bytes : List ℕ) → PutTellsFirst image name (filed image (Put name kind bytes))
 
--- another name: no file has the old one; the new one is none; another file has it
+-- The refusals of a `Change`, in the order of the checks: no file has the old name; the new name is invalid; another
+-- file has the new name.
 pub record ChangeTellsFirst (image old new : List ℕ) (outcome : Result Filed FilerFault) : Type 0 where
   pub no_file : slot_named (directory_of image) old ≡ None → IsRefused NoFile outcome
   pub bad_name : (slot : ℕ) → slot_named (directory_of image) old ≡ Some slot → is_new_name 15 new ≡ false
@@ -50,7 +52,8 @@ pub record ChangeTellsFirst (image old new : List ℕ) (outcome : Result Filed F
 abbrev pub ChangesTellFirst : Type 0
 ChangesTellFirst = (image old new : List ℕ) → ChangeTellsFirst image old new (filed image (Change old new))
 
--- a second copy of the directory: blocks 6 to 9 are not there; a file begins below block 10
+-- The refusals of a `Duplicate`, in the order of the checks: the volume has fewer than 10 blocks; a file begins before
+-- block 10.
 pub record DoublingTells (image : List ℕ) (outcome : Result Filed FilerFault) : Type 0 where
   pub small : block_count (directory_of image) < 10 → IsRefused BadHeader outcome
   pub occupied : 10 ≤ block_count (directory_of image) → (good : List Entry) (e : Entry) (rest : List Entry)
@@ -61,12 +64,13 @@ DoublingTellsFirst = (image : List ℕ) → DoublingTells image (filed image ord
 
 -- ---- directories and images
 
--- the block behind the last of these files, which begin at a block or later
+-- The block after the last of these files, or `from` if there are none.
 abbrev pub end_of : ℕ → List Entry → ℕ
 end_of from [] = from
 end_of from (e ∷ es) = end_of e.end es
 
--- an entry behind good ones: it is not sound; it ends past the volume
+-- The fault of an entry `e` after valid entries, in the order of the checks: the entry is not sound; it ends after the
+-- last block of the volume.
 pub record EntryTellsFirst (blocks n from : ℕ) (good : List Entry) (e : Entry) (rest : List Entry) : Type 0 where
   pub unsound : is_sound_entry (end_of from good) e ≡ false
       → entries_fault blocks n from (good ++ e ∷ rest) ≡ Some (BadEntry (n + length good))
@@ -78,8 +82,8 @@ EntriesTellFirst =
     (blocks n from : ℕ) (good : List Entry) (e : Entry) (rest : List Entry) → AreInOrder blocks from good
     → EntryTellsFirst blocks n from good e rest
 
--- a directory in an image of so many blocks: its header is not sound; it says more blocks; it says more than 77 files;
--- an entry is bad, the first of which is told
+-- The fault of a directory in an image of `blocks` blocks, in the order of the checks: its header is not sound; it
+-- states more blocks than the image has; it states more than 77 files; its entries have a fault.
 pub record DirectoryTellsFirst (directory : List ℕ) (blocks : ℕ) : Type 0 where
   pub header : is_header directory ≡ false → directory_fault directory blocks ≡ Some BadHeader
   pub past_end : is_header directory ≡ true → blocks < block_count directory
@@ -93,8 +97,9 @@ pub record DirectoryTellsFirst (directory : List ℕ) (blocks : ℕ) : Type 0 wh
 abbrev pub DirectoriesTellFirst : Type 0
 DirectoriesTellFirst = (directory : List ℕ) (blocks : ℕ) → DirectoryTellsFirst directory blocks
 
--- an image: it has a part of a block; it has fewer than 6 blocks; its first copy is bad, and the fault is that copy's
--- own, or, beside a good second copy, names it by its number
+-- The fault of an image, in the order of the checks: its length is not a multiple of 512; it has fewer than 6 blocks;
+-- the first copy of its directory has a fault. If the second copy is valid, that fault is given as `FirstCopyBad` with
+-- its number, otherwise as itself.
 pub record ImageTellsFirst (image : List ℕ) : Type 0 where
   pub part : length image % 512 ≢ 0 → image_fault image ≡ Some NotBlocks
   pub short : length image % 512 ≡ 0 → length image < 3072 → image_fault image ≡ Some TooShort

@@ -1,5 +1,5 @@
--- What a removal and another name by the slot make of the list of files. A file of the list stands behind some files
--- and before others; its slot is one more than the number of those before it.
+-- How `RemoveSlot` and `ChangeSlot` change the list of files. The slot of a file is one more than the number of files
+-- before it in the list.
 use Rattle.std.specs.Prelude.{◌≡◌, ◌+◌, ℕ, true, false, List, ◌∷◌, ◌++◌, length, None, Result, Ok, IsOk}
 use Rattle.std.specs.List.{All, list_any}
 use Rattle.pm_volume.specs.Directory.{IsVolume}
@@ -11,26 +11,28 @@ use Rattle.pm_filer.specs.Filed.{Done, Filed, Remove, Change, RemoveSlot, Change
 use Rattle.pm_filer.specs.declared.fault.FilerFault.{FilerFault}
 use Rattle.law_disks.specs.Refusals.{IsRefused}
 
--- these files have in one image the bytes that they have in another
+-- The entries `files` have the same bytes in the images `old` and `new`.
 abbrev pub HaveBytesOf : List ℕ → List ℕ → List Entry → Type 0
 HaveBytesOf old new files = All (λ (e : Entry). file_bytes new e ≡ file_bytes old e) files
 
--- a command is done, and leaves this list of files, of which these have the bytes that they had
+-- A command succeeds with the answer `Done`. The list of files is then `list`, and the entries `stay` have the bytes
+-- that they had.
 pub record LeavesFiles (old : List ℕ) (outcome : Result Filed FilerFault) (list stay : List Entry) : Type 0 where
   pub new : List ℕ
   pub done : outcome ≡ Ok (record { image = new; answer = Done })
   pub files : files_of new ≡ list
   pub bytes : HaveBytesOf old new stay
 
--- a file that is removed by its slot is missing from the list, and every other one stands in it, in the order and with
--- the bytes that it had, whatever names they have
+-- `RemoveSlot` with the slot of a file of a volume succeeds. The list then lacks this file. All other files are in it,
+-- in the order and with the bytes that they had, whatever their names.
 abbrev pub RemovalTakesOne : Type 0
 RemovalTakesOne =
     (image : List ℕ) (before after : List Entry) (e : Entry) → IsVolume image → files_of image ≡ before ++ e ∷ after
     → LeavesFiles image (filed image (RemoveSlot (length before + 1))) (before ++ after) (before ++ after)
 
--- a file that gets another name by its slot stands in the list with that name and is otherwise as it was, and so is
--- every other one, where no other one has the new name; its own name is no other's
+-- `ChangeSlot` with the slot of a file of a volume succeeds if the new name is valid and no other file has it. The file
+-- then has the new name at the same position of the list. Nothing else in the list changes, and all files have the
+-- bytes that they had.
 abbrev pub ChangeNamesOne : Type 0
 ChangeNamesOne =
     (image : List ℕ) (before after : List Entry) (e : Entry) (new : List ℕ) → IsVolume image
@@ -39,7 +41,7 @@ ChangeNamesOne =
     → LeavesFiles image (filed image (ChangeSlot (length before + 1) new))
     (before ++ record e { name = name_field 15 new } ∷ after) (before ++ e ∷ after)
 
--- another name by the slot: the new one is none; another file has it
+-- The refusals of a `ChangeSlot`, in the order of the checks: the new name is invalid; another file has it.
 pub record SlotChangeTellsFirst (before after : List Entry) (new : List ℕ) (outcome : Result Filed FilerFault) : Type 0
   where
     pub bad_name : is_new_name 15 new ≡ false → IsRefused BadName outcome
@@ -52,14 +54,15 @@ SlotChangesTellFirst =
     (image : List ℕ) (before after : List Entry) (e : Entry) (new : List ℕ) → files_of image ≡ before ++ e ∷ after
     → SlotChangeTellsFirst before after new (filed image (ChangeSlot (length before + 1) new))
 
--- a slot without a file is refused as a name that is not there, whatever the new name
+-- `RemoveSlot`, and `ChangeSlot` with any new name, are refused with `NoFile` if the slot has no file.
 abbrev pub EmptySlotsAreRefused : Type 0
 EmptySlotsAreRefused =
     (image : List ℕ) (slot : ℕ) → file_in_slot image slot ≡ None
     → IsRefused NoFile (filed image (RemoveSlot slot))
     × ((new : List ℕ) → IsRefused NoFile (filed image (ChangeSlot slot new)))
 
--- a name stands for the slot of the first file that has it
+-- `Remove` and `Change` of a name give the same result as `RemoveSlot` and `ChangeSlot` of the slot of the first file
+-- that has the name.
 abbrev pub NamesAreSlots : Type 0
 NamesAreSlots =
     (image : List ℕ) (before after : List Entry) (e : Entry) (name : List ℕ) → files_of image ≡ before ++ e ∷ after

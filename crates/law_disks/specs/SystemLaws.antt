@@ -1,19 +1,20 @@
--- What the new code file holds.
+-- What a code file contains after a segment is put into its slot 0.
 use Rattle.std.specs.Prelude.{◌≡◌, ◌≤◌, ◌<◌, ◌%◌, ℕ, List, length, Some}
 use Rattle.pm_bytes.specs.Blocks.{blocks_for}
 use Rattle.pm_codefile.specs.Dictionary.{IsCodeFile, block_in, segment_in, slot_in}
 use Rattle.pm_codefile.specs.declared.file.Slot.{Slot}
 use Rattle.pm_filer.specs.SystemSegments.{with_segment}
 
--- A slot, and the bytes of its segment: as many as its length says, which is a word, and has a name of 8 bytes.
+-- The slot describes `segment`: its length is the number of bytes of the segment, which is 1 to 65,535. Its name has 8
+-- bytes.
 pub record IsSlot (slot : Slot) (segment : List ℕ) : Type 0 where
   pub some : 0 < slot.length
   pub word : slot.length < 65536
   pub size : length segment ≡ slot.length
   pub name : length slot.name ≡ 8
 
--- A code file that was given a segment: slot 0 has its bytes. Each other slot is what it was, and where its segment
--- begins behind the dictionary it has the bytes that it had.
+-- Slot 0 of the code file `new` has the bytes of `segment`. Each other slot is as in `file`. If the segment of such a
+-- slot begins after block 0, its bytes are unchanged too.
 pub record HasBoth (file segment new : List ℕ) : Type 0 where
   pub zero : segment_in new 0 ≡ Some segment
   pub slots : (n : ℕ) → 1 ≤ n → slot_in new n ≡ slot_in file n
@@ -24,7 +25,7 @@ SegmentsStay =
     (file segment : List ℕ) (slot : Slot) → IsCodeFile file → blocks_for (length file) < 65536 → IsSlot slot segment
     → HasBoth file segment (with_segment file slot segment)
 
--- A code file that was given a segment of even length is a code file: it has no fault.
+-- A code file into which a segment of even length is put is a code file: no slot has a fault.
 abbrev pub NewFileIsSound : Type 0
 NewFileIsSound =
     (file segment : List ℕ) (slot : Slot) → IsCodeFile file → blocks_for (length file) < 65536 → IsSlot slot segment

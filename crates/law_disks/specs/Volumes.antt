@@ -1,4 +1,4 @@
--- What a new directory keeps of a volume, and what its largest gap is.
+-- What `Zero` keeps of a volume, and what its largest gap is.
 use Rattle.std.specs.Prelude.{◌≡◌, ◌≤◌, ◌+◌, ℕ, List, [], Ok}
 use Rattle.pm_volume.specs.Directory.{IsVolume, block_count, directory_of, files_begin}
 use Rattle.pm_volume.specs.Files.{files_of}
@@ -7,7 +7,7 @@ use Rattle.pm_volume.specs.Space.{largest_gap}
 use Rattle.pm_filer.specs.Filed.{Filed, Zero, filed}
 use Rattle.pm_filer.specs.Laws.{AreFree, IsVolumeOfBytes}
 
--- a volume without files that is otherwise as it was: its date, its blocks, and where files begin
+-- The volume `new` has no files. Its date, its number of blocks and the block where files begin are those of `old`.
 pub record IsEmptied (old new : List ℕ) : Type 0 where
   pub empty : files_of new ≡ []
   pub date : last_date_of (directory_of new) ≡ last_date_of (directory_of old)
@@ -18,7 +18,7 @@ abbrev pub ZeroKeepsTheVolume : Type 0
 ZeroKeepsTheVolume =
     (image name : List ℕ) (f : Filed) → IsVolumeOfBytes image → filed image (Zero name) ≡ Ok f → IsEmptied image f.image
 
--- so many blocks are free one behind the other, and no more are
+-- Some `size` blocks that follow each other are free, and no greater number of blocks that follow each other are free.
 pub record IsLargestGap (directory : List ℕ) (size : ℕ) : Type 0 where
   pub begin : ℕ
   pub free : AreFree directory begin (begin + size)

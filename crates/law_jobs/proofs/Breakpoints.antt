@@ -104,7 +104,7 @@ watches_stay [] d none = refl
 watches_stay (line ∷ lines) d none =
     watches_stay lines (session_after (order_of line) d) none.1 ∙ watches_stay_once (order_of line) d none.0
 
--- ---- one more and one less, of any values by keys with a test of being the same
+-- ---- adding and removing one value, compared by keys with an equivalence test
 
 or_is : (b c : Bool) → (b ≡ true → c ≡ true) → c ≡ (b || c)
 or_is true c so = so refl
@@ -125,30 +125,30 @@ any_alike p r same [] = refl
 any_alike p r same (x ∷ xs) = rw (same x, any_alike p r same xs) refl
 
 module _ {A K : Type 0} (E : K → K → Bool) (laws : IsEquivalence E) (key : A → K) (q : K) (x : A) (xs : List A) where
-  -- what is asked of one key is asked of another that is the same
+  -- A test of one key gives the same result for an equal key.
   alike : E q (key x) ≡ true → list_any (λ c. E q (key c)) xs ≡ list_any (λ c. E (key x) (key c)) xs
   alike same = any_alike (λ c. E q (key c)) (λ c. E (key x) (key c)) (λ c. laws.congr q (key x) (key c) same) xs
 
-  -- what is there already
+  -- If `x` is in the list already, adding it changes no test.
   there : list_any (λ c. E (key x) (key c)) xs ≡ true → list_any (λ c. E q (key c)) xs ≡ (E q (key x) || list_any (λ c. E q (key c)) xs)
   there has = or_is (E q (key x)) (list_any (λ c. E q (key c)) xs) (λ same. alike same ∙ has)
 
-  -- one more behind the others
+  -- One more value after the others.
   one_more : list_any (λ c. E q (key c)) (xs ++ x ∷ []) ≡ (E q (key x) || list_any (λ c. E q (key c)) xs)
   one_more = list_any-append (λ c. E q (key c)) xs (x ∷ []) ∙ or_turned (E q (key x)) (list_any (λ c. E q (key c)) xs)
 
-  -- what is not there
+  -- If `x` is not in the list, removing it changes no test.
   missing : list_any (λ c. E (key x) (key c)) xs ≡ false → list_any (λ c. E q (key c)) xs ≡ (not (E q (key x)) && list_any (λ c. E q (key c)) xs)
   missing has = and_is (E q (key x)) (list_any (λ c. E q (key c)) xs) (λ same. alike same ∙ has)
 
-  -- all but one
+  -- All values except `x`.
   one_less : list_any (λ c. E q (key c)) (filter (λ c. not (E (key x) (key c))) xs) ≡ (not (E q (key x)) && list_any (λ c. E q (key c)) xs)
   one_less = any-filter_same (λ c. E q (key c)) (λ c. not (E (key x) (key c))) (not (E q (key x))) same_of xs
     where
       same_of : (c : A) → E q (key c) ≡ true → not (E (key x) (key c)) ≡ not (E q (key x))
       same_of c is = ap not (laws.symm (key x) (key c) ∙ sym (laws.congr q (key c) (key x) is))
 
--- ---- places
+-- ---- positions
 
 and_of : (a b : Bool) → (a && b) ≡ true → (a ≡ true) × (b ≡ true)
 and_of true b is = (refl, is)
@@ -186,7 +186,7 @@ same_places = record {
 two_alike : (a b x y : Bool) → a ≡ x → b ≡ y → (a && b) ≡ (x && y)
 two_alike a b x y one two = rw one (rw two refl)
 
--- ---- places and words
+-- ---- positions and words
 
 spot_refl : (x : Spot) → is_same x x ≡ true
 spot_refl (Code a) = same_places.refl a
@@ -232,7 +232,7 @@ spot_congr (Writes a n) (Writes b k) (Writes c l) is = pair_congr a n b k c l is
 pub same_spots : IsEquivalence is_same
 same_spots = record { refl = spot_refl; symm = spot_symm; congr = spot_congr }
 
--- one in the place of another stands where that stood
+-- A breakpoint put in place of another one has the position of the other.
 instead_same : (b c : Breakpoint) (q : Spot) → is_same q (instead b c).spot ≡ is_same q c.spot
 instead_same b c q = by_test (is_same b.spot c.spot) refl
   where

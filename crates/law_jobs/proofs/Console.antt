@@ -23,7 +23,7 @@ use Rattle.pm_session.specs.Sessions.{answers, console_added, console_line, is_q
 use Rattle.law_jobs.specs.Console.{ConsoleIsShown, stays_on, written_by}
 use Rattle.law_jobs.proofs.Shown.{command_made}
 
--- the console after a command is that before it, and behind it what is shown
+-- The console output after a command is the output before it, followed by what the command shows.
 written : (command : Option Order) (d : Session)
     → (session_after command d).machine.devices.console ≡ d.machine.devices.console ++ console_added command d
 written command d =
@@ -34,7 +34,7 @@ written command d =
     all ∙ ap (λ more. d.machine.devices.console ++ more)
     (sym (ap (drop (length d.machine.devices.console)) all ∙ drop-append_seam d.machine.devices.console grown.more))
 
--- ---- `console on` stays
+-- ---- `console on` remains in effect
 
 breaks_keep : (d : Session) (r : Result (List Breakpoint) DebugRefusal) → (with_breaks d r).shows_console ≡ d.shows_console
 breaks_keep d (Ok breaks) = refl

@@ -1,4 +1,4 @@
--- All faults of a text are told with the end that its assembling has.
+-- The job that writes all faults of a text ends as the job that assembles it.
 use Rattle.std.proofs.Common.{◌≡◌, false, List, [], ◌∷◌, Ok, Err, refl}
 use Rattle.pm_reader.specs.Firsts.{first_of}
 use Rattle.pm_source.specs.declared.fault.AsmFault.{AsmFault}

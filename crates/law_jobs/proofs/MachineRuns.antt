@@ -1,4 +1,4 @@
--- Runs beside those of the machine without input.
+-- Runs of a job, and those of the machine without input.
 use Rattle.std.proofs.Common.{◌≡◌, ℕ, zero, suc, ◌+◌, ◌-◌, List, [], ◌∷◌, refl, sym, ap, ◌∙◌, subst, arith}
 use Rattle.pm_words.specs.declared.error.ExecError.{ExecError}
 use Rattle.pm_machine.specs.State.{State}
@@ -16,7 +16,7 @@ use Rattle.pm_tool.specs.Run.{Run, ended_run, run_of, turn}
 then_alike : (a b c : Run) → AreAlike a b → AreAlike b c → AreAlike a c
 then_alike a b c h k = record { ending = h.ending ∙ k.ending; machine = h.machine ∙ k.machine; unread = h.unread ∙ k.unread }
 
--- ---- steps that went
+-- ---- steps that succeeded
 
 turn_went : (show : _) (rest : List ℕ → State → Run) (bytes : List ℕ) (m : State) → (stepped m).1 ≡ Went
     → AreAlike (turn show rest bytes m) (rest bytes (stepped m).0)
@@ -62,15 +62,15 @@ turn_keyed : (show : _) (rest : List ℕ → State → Run) (byte : ℕ) (bytes 
 unfolding turn
 turn_keyed show rest byte bytes m t e = rw e refl
 
--- waiting adds nothing to the count
+-- Waiting adds nothing to the count.
 waiting_counts : (a : Status) → last_counts a Waiting ≡ 0
 waiting_counts status.Running = refl
 waiting_counts status.Ended = refl
 waiting_counts (status.Halted e) = refl
 
--- ---- a run that an answer stopped
+-- ---- a run that the last answer stopped
 
--- the run up to the last step, and what is left of the limit then
+-- The run up to the last step, and the rest of the limit.
 to_the_last : (show : _) (limit count n : ℕ) (bytes : List ℕ) (m t : State) (stop : Stop) → StoppedAfter n limit m count stop t
     → AreAlike (run_of show limit bytes m) (turn show (run_of show (limit - suc n)) bytes (after_steps n m))
 unfolding run_of

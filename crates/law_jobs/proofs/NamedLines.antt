@@ -1,4 +1,4 @@
--- What is told behind the lines of a text says nothing.
+-- The notes after the lines of a text have no meaning.
 use Rattle.std.proofs.Common.{◌≡◌, ℕ, zero, suc, ◌+◌, ◌-◌, ◌*◌, Bool, true, false, List, [], ◌∷◌, ◌++◌, length, map, take, drop}
 use Rattle.std.proofs.Common.{refl, sym, ap, subst, ◌∙◌, arith, Option, None, Some, append_assoc, append-nil}
 use Rattle.std.specs.Prelude.{◌==◌, ◌&&◌, ◌||◌, codes, if◌then◌else◌, is_some, not, slice_index}
@@ -79,7 +79,7 @@ kind_good n name e = looked_up n kind_names name kind_rows e
 
 -- ---- a line that calls a procedure with a name
 
--- a line behind which a comment may follow, and its note
+-- A line after which a comment may follow, and its note.
 record IsNoted (line name : List ℕ) : Type 0 where
   closed : is_open false line ≡ false
   good : list_all is_character line ≡ true
@@ -88,7 +88,7 @@ record IsNoted (line name : List ℕ) : Type 0 where
 digit_good : (d : ℕ) → is_digit d ≡ true → (is_character d ≡ true) × ((d == 34) ≡ false)
 digit_good d h = (grind (arith, nat_tests), grind (arith, nat_tests))
 
--- digits that write a number, behind a front
+-- The digits of a number: quotes are closed after them, and all are valid characters.
 record AreGood (digits : List ℕ) : Type 0 where
   closed : is_open false digits ≡ false
   good : list_all is_character digits ≡ true
@@ -156,7 +156,7 @@ call line name e = by (standard_called line) refl e
 
 -- ---- a line of a segment, or of native code
 
--- what may stand before a comment
+-- A line before a comment: quotes are closed after it, and all its characters are valid.
 record IsPlain (line : List ℕ) : Type 0 where
   closed : is_open false line ≡ false
   good : list_all is_character line ≡ true
@@ -248,7 +248,7 @@ noted file line note e = by (name_called line) refl e
     by None s e = of_native (is_native line) refl e
     by (Some name) s e = call line note (s ∙ e)
 
--- ---- a line says the same with its note
+-- ---- a line has the same meaning with its note
 
 no_return : (l : List ℕ) (i : ℕ) → list_all is_character l ≡ true → (slice_index l i == 13) ≡ false
 no_return [] i h = refl
@@ -261,7 +261,7 @@ no_return (c ∷ l) (suc i) h = no_return l i (and_parts _ _ h).1
 stripped : (l : List ℕ) → list_all is_character l ≡ true → strip_carriage_return l ≡ l
 stripped l h = let none = no_return l (length l - 1) h in rw none refl
 
--- a line with a note
+-- A line with a note.
 abbrev commented : List ℕ → List ℕ → List ℕ
 commented line name = line ++ (codes " ; " ++ name)
 
@@ -278,7 +278,7 @@ same_commented n line name c =
     ∙ comment_says_nothing n (line ++ 32 ∷ []) (32 ∷ name) (still_closed false line c.closed) (rw c.named refl)
     ∙ end_blank_says_nothing n 32 line refl
 
--- what a line says with and without its note, where it ends with a line feed and where not
+-- A line has the same meaning with and without its note, whether it ends with a carriage return or not.
 record SaysSame (file line : List ℕ) : Type 0 where
   whole : (n : ℕ) → line_of n (named_line file line) ≡ line_of n line
   ended : (n : ℕ) → line_of n (strip_carriage_return (named_line file line)) ≡ line_of n (strip_carriage_return line)
@@ -365,7 +365,7 @@ named_feedless file l h = by (note_on file l) refl
     by None e = ap (λ o. no_feed (l ++ comment o)) e ∙ ap no_feed (append-nil l) ∙ h
     by (Some name) e = ap (λ o. no_feed (l ++ comment o)) e ∙ feedless (commented l name) (all_good l name (noted file l name e))
 
--- a front before the first of parts
+-- A line put before the first of the parts.
 abbrev onto : List ℕ → List (List ℕ) → List (List ℕ)
 onto line [] = line ∷ []
 onto line (x ∷ xs) = (line ++ x) ∷ xs

@@ -1,4 +1,4 @@
--- Runs that pass over breakpoints, and that go on where their limit stopped them.
+-- Runs that ignore breakpoints, and that continue where their limit stopped them.
 use Rattle.std.proofs.Common.{◌≡◌, ◌≢◌, ◌≤◌, ◌<◌, ◌⊎◌, inl, inr, ◌∙◌, ap, sym, subst, refl, arith, ℕ, zero, suc, ◌+◌, ◌-◌, Bool, true, false}
 use Rattle.std.proofs.Common.{List, Option, Some, None, not, ◌==◌, ◌&&◌}
 use Rattle.std.specs.Prelude.{if◌then◌else◌}
@@ -120,19 +120,19 @@ module _ (d : Session) (depth : Depth) (watched : List WatchedWord) where
   abbrev At : State → Bool
   At = stops_at watched d.breaks (is_there depth)
 
-  -- what begins at s, behind so many steps
+  -- The run that begins at `s`, after `made` steps.
   abbrev part : ℕ → ℕ → State → Gone
   part made n s = counted made (gone_from d.breaks watched (is_there depth) 0 n s)
 
-  -- and behind it all that passes over breakpoints
+  -- This run and its continuations after the breakpoints that it ignores.
   abbrev whole : ℕ → ℕ → ℕ → State → Passed
   whole made n p s = all_passed d.breaks (made + n) p (left_behind depth watched (part made n s)) (part made n s)
 
-  -- what goes on behind that
+  -- The continuation of a run by at most `m` steps.
   abbrev goes : Passed → ℕ → Option Passed
   goes p m = passing_on (after_passing d p) m (gone_on d.breaks p.left m p.run.machine)
 
-  -- a run looks before a step behind others, whatever was made before these
+  -- A run tests before a step that follows others, for any number of steps executed before these.
   shifted : (made n m : ℕ) (t : State) → run_from (later At) (made + suc n) m t ≡ behind_made made (run_from (later At) (suc n) m t)
   shifted made n m t =
       goes_on_behind (later At) (made + suc n) m t
@@ -161,7 +161,7 @@ module _ (d : Session) (depth : Depth) (watched : List WatchedWord) where
           let e : r.count ≡ 0 + r.count = omega arith in
           ap (λ c. record { count = c; end = r.end; state = r.state }) e
 
-  -- it has made a step, or is the first part
+  -- The run has executed a step, or it is the first part.
   abbrev IsBegun : ℕ → ℕ → Type 0
   IsBegun made n = (made ≡ 0) ⊎ (1 ≤ n)
 
@@ -217,14 +217,14 @@ module _ (d : Session) (depth : Depth) (watched : List WatchedWord) where
 
   -- ---- a part that a breakpoint stopped
 
-  -- it passes over that, and the next part comes
+  -- The run ignores this breakpoint and continues with the next part.
   passed_next : (most q c : ℕ) (run : Gone) → is_there depth run.machine ≡ false
       → all_passed d.breaks most (suc q) (AtBreak depth c watched) run
       ≡ all_passed d.breaks most q (left_behind depth watched (part c (most - c) run.machine)) (part c (most - c) run.machine)
   unfolding all_passed
   passed_next most q c run h = rw h refl
 
-  -- or it stops there
+  -- Or the run stops there.
   passed_there : (most q c : ℕ) (run : Gone) → is_there depth run.machine ≡ true
       → has_rest (all_passed d.breaks most (suc q) (AtBreak depth c watched) run).left ≡ false
   unfolding all_passed
@@ -255,7 +255,7 @@ module _ (d : Session) (depth : Depth) (watched : List WatchedWord) where
   abbrev GoesOn : ℕ → ℕ → ℕ → ℕ → State → Type 0
   GoesOn p made n m s = has_rest (whole made n p s).left ≡ true → goes (whole made n p s) m ≡ Some (whole made (n + m) p s)
 
-  -- where the reason is another there is no rest
+  -- If the reason is another one, the run has no rest.
   no_rest : (p made n : ℕ) (s : State) (reason : BreakReason) → (part made n s).reason ≡ reason
       → left_so depth watched (part made n s).steps reason ≡ Nothing → has_rest (whole made n p s).left ≡ true → ⊥
   no_rest p made n s reason e none some =
@@ -295,7 +295,7 @@ module _ (d : Session) (depth : Depth) (watched : List WatchedWord) where
       few : run.count < n
       few = stopped_within (later At) n s (told_break d.breaks watched run.end u e)
 
-      -- the whole up to this breakpoint, of this limit and of the greater one
+      -- The whole run up to this breakpoint, with this limit and with the greater one.
       now : whole made n (suc q) s ≡ all_passed d.breaks (made + n) (suc q) (AtBreak depth c watched) (part made n s)
       now = ap (λ r. all_passed d.breaks (made + n) (suc q) (left_so depth watched c r) (part made n s)) e
 
@@ -367,7 +367,7 @@ module _ (d : Session) (depth : Depth) where
   unfolding gone_to
   no_run n ended = rw ended (nothing_left d depth watched n d.passes (record { steps = 0; reason = reasons.Ended; machine = d.machine }))
 
-  -- a run that its limit stopped, and what goes on from there, are the run of both limits
+  -- A run that its limit stopped, and its continuation, are the run with the sum of both limits.
   pub passing_goes_on : (a b : ℕ) → a + b ≤ 4294967295 → has_rest (passing d depth a (run a)).left ≡ true
       → passing_on (after_passing d (passing d depth a (run a))) b (gone_on d.breaks (passing d depth a (run a)).left b (passing d depth a (run a)).run.machine)
       ≡ Some (passing d depth (a + b) (run (a + b)))

@@ -13,7 +13,7 @@ use Rattle.law_jobs.specs.ToolLaws.{ImagesAreOfTheirUnits, SavingChangesNothing,
 use Rattle.pm_tool.specs.Run.{Run, run_of}
 use Rattle.pm_tool.specs.Said.{run_said}
 
--- a machine that boots has the images on its units
+-- A machine that boots has the images on its units.
 was_started : (r : Result State BootFault) (m : State) → started r ≡ Ok m → r ≡ Ok m
 was_started (Ok n) m e = cc
 was_started (Err fault) m e = absurd (cc)

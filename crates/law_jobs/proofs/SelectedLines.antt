@@ -1,4 +1,4 @@
--- The lines that are asked for are those that are selected.
+-- The lines that are requested are those that are selected.
 use Rattle.std.proofs.Common.{◌≡◌, ◌≤◌, ℕ, Bool, true, false, List, [], ◌∷◌, ◌++◌, Option, Some, None, refl, arith, nat_le}
 use Rattle.std.specs.Prelude.{◌==◌, ◌%◌, ◌&&◌, ◌||◌, not, if◌then◌else◌, ⊤}
 use Rattle.pm_opcode.specs.Table.{groups, mnemonic_of}
@@ -31,7 +31,7 @@ same_number a b is = grind (arith, nat_tests)
 is_same_number : (a b : ℕ) → a ≡ b → (a == b) ≡ true
 is_same_number a b is = grind (arith, nat_tests)
 
--- ---- the place
+-- ---- the position
 
 abbrev place_if : Bool → CodePlace → Option CodePlace
 place_if b place = if b then Some place else None

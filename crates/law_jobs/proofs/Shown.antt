@@ -41,7 +41,7 @@ use Rattle.law_jobs.specs.Shown.StopsAfter.{rests, all, breaks_there, stops}
 
 -- ---- steps of a run
 
--- so many steps are so many events
+-- A number of steps is the same number of events.
 all_steps : (n : ℕ) (s : State) → after_steps n s ≡ after_all s (replicate n Step)
 unfolding after_steps
 all_steps zero s = refl
@@ -51,15 +51,15 @@ all_steps (suc n) s = sym (after_first n s) ∙ all_steps n (stepped s).0
     after_first zero s = refl
     after_first (suc n) s = ap (λ t. (stepped t).0) (after_first n s)
 
--- the steps that a command makes, and the state that they lead to
+-- The steps that a command executes, and the state that they lead to.
 abbrev Makes : (State → Bool) → ℕ → ℕ → State → State → Type 0
 Makes test first limit s t = (steps : ℕ) × StopsAfter test first limit s steps × (t ≡ after_steps steps s)
 
--- the test of a run that has made so many steps
+-- The test of a run that has executed `made` steps.
 abbrev Asked : ℕ → (State → Bool) → ℕ → State → Bool
 Asked made test = behind_steps made (later test)
 
--- a test that does not hold before a step at which it is looked
+-- A test of such a run that does not hold before a step at which the run tests.
 free_there : (test : State → Bool) (made k : ℕ) (s : State) → first_look made ≤ k → Asked made test k s ≡ false → test s ≡ false
 free_there test zero k s some h = behind (0 + k == 0) (test s) (grind (arith, nat_tests, some)) h
   where
@@ -113,7 +113,7 @@ run_steps test made n s =
     let steps = made_by test made n h.0 s run.end run.count run.state h.1 h.2 in
     (steps.0, steps.1, same ∙ steps.2)
 
--- the test that stops a run which begins at s
+-- The test that stops a run that begins at `s`.
 abbrev Stops : List Breakpoint → List ℕ → (State → Bool) → State → State → Bool
 Stops breaks watches test s = stops_at (watched_words watches s.memory) breaks test
 
@@ -128,9 +128,9 @@ gone_steps breaks watches test n s = ended_steps (has_ended s.status) refl
     ended_steps true e = (0, rests e, after_none s)
     ended_steps false e = run_steps (Stops breaks watches test s) 0 n s
 
--- ---- breakpoints that are passed over
+-- ---- breakpoints that are ignored
 
--- the steps behind a breakpoint are events
+-- The steps after a breakpoint are events.
 once_past : (breaks : List Breakpoint) (watched : List WatchedWord) (depth : Depth) (made most : ℕ) (s : State)
     → (events : List Event) × AreStepsPast (is_there depth s) (stops_at watched breaks (is_there depth)) (most - made) s events
     × ((gone_past breaks watched depth made most s).machine ≡ after_all s events)
@@ -160,7 +160,7 @@ all_past breaks most (suc passes) (AtBreak depth made watched) run =
       rest.2 ∙ ap (λ m. after_all m rest.0) one.2 ∙ sym (events_go_on run.machine one.0 rest.0),
     )
 
--- a run whose steps are these events, behind the breakpoints that it passes over
+-- A run whose steps are these events, after each of the breakpoints that it ignores.
 abbrev MakesAll : Session → ℕ → Left → Gone → (List Event → Type 0) → Type 0
 MakesAll d most left run Up =
     (events : List Event) × AreStepsOfRun d most left run Up events
@@ -184,7 +184,7 @@ begun_events d depth n =
     passing_events d n _ (gone_to d.breaks d.watches (is_there depth) n d.machine) _ (replicate made.0 Step) (made.0, made.1, refl)
     (made.2 ∙ all_steps made.0 d.machine)
 
--- the steps of what is left of a run are events
+-- The steps of the rest of a run are events.
 on_events : (d : Session) (left : Left) (n : ℕ) → d.left ≡ left
     → (events : List Event) × AreStepsOn d left n events
     × ((after_on d (passing_on d n (gone_on d.breaks d.left n d.machine))).machine ≡ after_all d.machine events)
@@ -211,7 +211,7 @@ kept_watching : (d : Session) (r : Result (List ℕ) DebugRefusal) → (with_wat
 kept_watching d (Ok watches) = refl
 kept_watching d (Err refusal) = refl
 
--- bytes that wait are keys
+-- The bytes that are typed are keys.
 typed_events : (bytes : List ℕ) (d : Session) → (after_keys bytes d).machine ≡ after_all d.machine (map Key bytes)
 unfolding after_command
 typed_events [] d = refl
@@ -239,7 +239,7 @@ command_made (Some (Types bytes)) d = (map Key bytes, refl, typed_events bytes d
 
 -- ---- lines
 
--- what a session of a debugger, whatever its breakpoints and watched words, comes to after lines
+-- The state of a session after lines, with any breakpoints and watched words, is that which its events give.
 record Shows (lines : List (List ℕ)) (d : Session) : Type 0 where
   events : List Event
   named : AreEventsOfLines lines d events

@@ -15,7 +15,7 @@ use Rattle.pm_asm.proofs.Outcomes.{assembled_is_spelled}
 use Rattle.pm_asm.specs.Lengths.{AreShort}
 use Rattle.pm_asm.specs.declared.lengths.TheConstants.{LONGEST}
 
--- segments with the same bytes are as short
+-- Segments with the same bytes are equally short.
 same_short : (ss ts : List Segment) → AllZip IsSameSegment ss ts → AreShort ss → AreShort ts
 same_short [] [] z h = tt
 same_short (s ∷ ss) (t ∷ ts) z h = (subst (λ bs. length bs ≤ LONGEST) (sym z.0.bytes) h.0, same_short ss ts z.1 h.1)

@@ -19,7 +19,7 @@ use Rattle.pm_session.specs.Orders.{Order, order_of}
 use Rattle.pm_session.specs.Orders.Order.{Does}
 use Rattle.law_jobs.specs.Console.{after_lines}
 
--- the line is `break`, `reads` or `writes`, with a condition or without, or `clear`
+-- The line is `break`, `reads` or `writes`, with a condition or without, or `clear`.
 abbrev pub is_of_breaks : Option Order → Bool
 is_of_breaks (Some (Does (commands.Break s p o condition))) = true
 is_of_breaks (Some (Does (commands.Clear s p o))) = true
@@ -27,22 +27,22 @@ is_of_breaks (Some (Does (commands.BreakOn spot condition))) = true
 is_of_breaks (Some (Does (commands.ClearOn spot))) = true
 is_of_breaks other = false
 
--- the line is `watch` or `unwatch`
+-- The line is `watch` or `unwatch`.
 abbrev pub is_of_watches : Option Order → Bool
 is_of_watches (Some (Does (commands.Watch a))) = true
 is_of_watches (Some (Does (commands.Unwatch a))) = true
 is_of_watches other = false
 
--- none of the lines is such a command
+-- None of the lines is such a command.
 abbrev pub NoneIs : (Option Order → Bool) → List (List ℕ) → Type 0
 NoneIs test [] = ⊤
 NoneIs test (line ∷ lines) = (test (order_of line) ≡ false) × NoneIs test lines
 
--- lines without `break`, `reads`, `writes` and `clear` leave all breakpoints unchanged
+-- Lines without `break`, `reads`, `writes` and `clear` leave all breakpoints unchanged.
 abbrev pub BreaksStay : Type 0
 BreaksStay = (lines : List (List ℕ)) (d : Session) → NoneIs is_of_breaks lines → (after_lines lines d).breaks ≡ d.breaks
 
--- lines without `watch` and `unwatch` leave the watched words unchanged
+-- Lines without `watch` and `unwatch` leave the watched words unchanged.
 abbrev pub WatchesStay : Type 0
 WatchesStay =
     (lines : List (List ℕ)) (d : Session) → NoneIs is_of_watches lines → (after_lines lines d).watches ≡ d.watches
@@ -53,13 +53,13 @@ BreakSetsOne = (s p o : ℕ) (d : Session) (spot : Spot) → length d.breaks < 6
     → is_set spot (session_after (Some (Does (commands.Break s p o None))) d).breaks
     ≡ (is_same spot (Code (code_place s p o)) || is_set spot d.breaks)
 
--- the same after `break` with a condition, if the address of its word is even
+-- The same after `break` with a condition, if the address of its word is even.
 abbrev pub BreakIfSetsOne : Type 0
 BreakIfSetsOne = (s p o a w : ℕ) (d : Session) (spot : Spot) → is_even a ≡ true → length d.breaks < 64
     → is_set spot (session_after (Some (Does (commands.Break s p o (Some (word_is a w))))) d).breaks
     ≡ (is_same spot (Code (code_place s p o)) || is_set spot d.breaks)
 
--- the same after `reads` and `writes`, for a breakpoint on these words, if all addresses are even
+-- The same after `reads` and `writes`, for a breakpoint on these words, if all addresses are even.
 abbrev pub WordsSetOne : Type 0
 WordsSetOne = (on : Spot) (condition : Option Condition) (d : Session) (spot : Spot) → can_stand on ≡ true
     → can_be_asked condition ≡ true → length d.breaks < 64
@@ -72,7 +72,7 @@ ClearTakesOne = (s p o : ℕ) (d : Session) (spot : Spot)
     → is_set spot (session_after (Some (Does (commands.Clear s p o))) d).breaks
     ≡ (not (is_same spot (Code (code_place s p o))) && is_set spot d.breaks)
 
--- the same after `clear reads` and `clear writes`, for the breakpoint on these words
+-- The same after `clear reads` and `clear writes`, for the breakpoint on these words.
 abbrev pub ClearWordsTakesOne : Type 0
 ClearWordsTakesOne = (on : Spot) (d : Session) (spot : Spot)
     → is_set spot (session_after (Some (Does (commands.ClearOn on))) d).breaks
@@ -98,11 +98,11 @@ is_on_words (Code place) = false
 is_on_words (Reads a n) = true
 is_on_words (Writes a n) = true
 
--- the breakpoints on words
+-- The breakpoints on words.
 abbrev pub on_words : List Breakpoint → List Breakpoint
 on_words breaks = filter (λ b. is_on_words b.spot) breaks
 
--- the breakpoints at other positions and on other words
+-- The breakpoints at other positions and on other words.
 abbrev pub elsewhere : Spot → List Breakpoint → List Breakpoint
 elsewhere spot breaks = filter (λ b. not (is_same spot b.spot)) breaks
 
@@ -113,8 +113,9 @@ BreakStopsThere = (s p o : ℕ) (d : Session) (t : State) → length d.breaks < 
     → is_at_break (session_after (Some (Does (commands.Break s p o None))) d).breaks t
     ≡ (if stands_at (code_place s p o) t then true else is_at_break d.breaks t)
 
--- After `break` with the condition that the word at a is w, a run stops at its position if and only if this word is w
--- or a breakpoint on words stops it, even if another was set there before. At every other position runs stop as before.
+-- After `break` with the condition that the word at a is w, a run stops at its position if and only if the condition
+-- holds or a breakpoint on words stops it. This holds even if another breakpoint was set there before. At every other
+-- position runs stop as before.
 abbrev pub BreakIfStopsSo : Type 0
 BreakIfStopsSo = (s p o a w : ℕ) (d : Session) (t : State) → is_even a ≡ true → length d.breaks < 64
     → is_at_break (session_after (Some (Does (commands.Break s p o (Some (word_is a w))))) d).breaks t
@@ -127,8 +128,9 @@ ClearStopsNoMore = (s p o : ℕ) (d : Session) (t : State)
     → is_at_break (session_after (Some (Does (commands.Clear s p o))) d).breaks t
     ≡ (if stands_at (code_place s p o) t then is_at_break (on_words d.breaks) t else is_at_break d.breaks t)
 
--- After `reads` or `writes` a breakpoint stops a run before a step that reads, or writes, one of these words, if its
--- condition holds, even if another was set on these words before. All other breakpoints stop runs as before.
+-- After `reads` or `writes`, a breakpoint stops a run before a step that reads, or writes, one of these words, if its
+-- condition holds. This holds even if another breakpoint was set on these words before. All other breakpoints stop runs
+-- as before.
 abbrev pub WordsStopSo : Type 0
 WordsStopSo = (on : Spot) (condition : Option Condition) (d : Session) (t : State) → can_stand on ≡ true
     → can_be_asked condition ≡ true → length d.breaks < 64
@@ -143,12 +145,12 @@ ClearWordsStopsNoMore = (on : Spot) (d : Session) (t : State)
 
 -- ---- how a condition is read
 
--- the numbers 1 to 5 of a line, in their order
+-- The numbers 1 to 5 of a line, in their order.
 abbrev pub ConditionIsRead : Type 0
 ConditionIsRead =
     order_of (codes "break 1 2 3 if 4 = 5") ≡ Some (Does (commands.Break 1 2 3 (Some (word_is 4 5))))
 
--- the words of each breakpoint, by address and number
+-- The words of each breakpoint, by address and number.
 pub record WordsAreRead : Type 0 where
   pub reads : order_of (codes "reads 8 2 if 6 = 7") ≡ Some (Does (commands.BreakOn (Reads 8 2) (Some (word_is 6 7))))
   pub writes : order_of (codes "writes 8 2") ≡ Some (Does (commands.BreakOn (Writes 8 2) None))

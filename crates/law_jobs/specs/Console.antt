@@ -8,7 +8,7 @@ use Rattle.pm_session.specs.Orders.{Order, order_of}
 use Rattle.pm_session.specs.Orders.Order.{Does}
 use Rattle.pm_session.specs.Sessions.{answers, console_added, console_line, with_feed}
 
--- a line that is neither `quit` nor `console off`
+-- A line that is neither `quit` nor `console off`.
 abbrev pub stays_on : Option Order → Bool
 stays_on (Some (Does commands.Quit)) = false
 stays_on (Some (Does (commands.ShowConsole shows))) = shows
@@ -18,24 +18,24 @@ abbrev pub StaysOn : List (List ℕ) → Type 0
 StaysOn [] = ⊤
 StaysOn (line ∷ lines) = (stays_on (order_of line) ≡ true) × StaysOn lines
 
--- the session after lines
+-- The session after lines.
 abbrev pub after_lines : List (List ℕ) → Session → Session
 after_lines [] d = d
 after_lines (line ∷ lines) d = after_lines lines (session_after (order_of line) d)
 
--- the bytes that each of these lines writes to the console
+-- The bytes that each of these lines writes to the console.
 abbrev pub written_by : List (List ℕ) → Session → List (List ℕ)
 written_by [] d = []
 written_by (line ∷ lines) d =
     console_added (order_of line) d ∷ written_by lines (session_after (order_of line) d)
 
--- the answer to each of these lines with its line feed, without the console
+-- The answer to each of these lines with its line feed, without the console.
 abbrev pub answers_alone : List (List ℕ) → Session → List (List ℕ)
 answers_alone [] d = []
 answers_alone (line ∷ lines) d =
     with_feed (answer_text (order_of line) d) ∷ answers_alone lines (session_after (order_of line) d)
 
--- texts, each after a line with the bytes of the console that belong to it
+-- Texts, each after a line with the bytes of the console that belong to it.
 abbrev pub behind_console : List (List ℕ) → List (List ℕ) → List ℕ
 behind_console [] texts = []
 behind_console (part ∷ parts) [] = []

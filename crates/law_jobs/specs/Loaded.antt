@@ -17,7 +17,7 @@ use Rattle.pm_machine.specs.Steps.{stepped}
 use Rattle.law_engine.specs.Loads.{IsAtCall, IsAtKeep, IsBootedFrom, IsImage}
 use Rattle.pm_words.specs.declared.layout.TheConstants.{SYSTEM_FRAME}
 
--- the joined bytes of the lines of a segment in the listing
+-- The joined bytes of the lines of a segment in the listing.
 abbrev pub listed : Segment → List ℕ
 listed s = listed_bytes (listed_segment s)
 
@@ -42,8 +42,8 @@ AssembledLoadsListed s =
     placed s.places n ≡ None → IsAtCall n p s → (stepped s).1 ≡ Went →
     StandsAsListed text shown n s.registers.sp (stepped s).0.memory
 
--- If a step keeps the segment of slot n, which has no address, by standard procedure 21 and succeeds, memory has the
--- segment as it is listed, directly below the SP after the operand is popped.
+-- Take a step that keeps the segment of slot n, which has no address, by standard procedure 21. If the step succeeds,
+-- memory has the segment as it is listed, directly below the SP after the operand is popped.
 abbrev pub AssembledKeepsListed : State → Type 0
 AssembledKeepsListed s =
     (text shown file image : List ℕ) (unit n : ℕ) →

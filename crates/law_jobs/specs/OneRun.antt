@@ -17,7 +17,7 @@ pub record IsOneRun (command : ℕ → Command) (a b : ℕ) (d : Session) : Type
   pub answer : answer_text (Some (Does (commands.On b))) (session_after (Some (Does (command a))) d)
       ≡ answer_text (Some (Does (command (a + b)))) d
 
--- two commands are one run if the first of them leaves something to continue
+-- Two commands are one run if the first of them leaves something to continue.
 abbrev pub GoesOnAsOne : (ℕ → Command) → Type 0
 GoesOnAsOne command =
     (a b : ℕ) (d : Session) → a + b ≤ 4294967295

@@ -12,11 +12,11 @@ use Rattle.pm_code.specs.Item.Item.{Jump}
 use Rattle.pm_source.specs.declared.fault.AsmFault.{AsmFault}
 use Rattle.pm_source.specs.declared.fault.AsmFault.TheVariants.{Syntax, Unknown, Range, NoLabel, Twice, Far}
 
--- a list of faults begins with this fault
+-- A list of faults begins with this fault.
 abbrev pub BeginsWith : AsmFault → List AsmFault → Type 0
 BeginsWith fault faults = (rest : List AsmFault) × (faults ≡ fault ∷ rest)
 
--- a statement is in place, and if it begins a procedure, a later line ends one
+-- A statement is in place, and if it begins a procedure, a later line ends one.
 pub record IsPlaced (r : Reading) (said : Statement) (rest : List Line) : Type 0 where
   pub placed : is_in_place r said ≡ true
   pub ended : is_begin said ≡ true → list_any ends rest ≡ true
@@ -40,7 +40,7 @@ LinesTellFirst =
     (n : ℕ) (r : Reading) (said : Statement) (flaw : Flaw) (rest : List Line)
     → LineTellsFirst n r said flaw rest (line_faults n r (Says said flaw) rest)
 
--- the faults of a jump begin with the first of these: its procedure does not have its label; the label is too far
+-- The faults of a jump begin with the first of these: its procedure does not have its label; the label is too far.
 pub record JumpTellsFirst (places : Places) (line at op : ℕ) (target : Target Name) (told : List AsmFault)
     : Type 0 where
   pub no_label : is_unknown_target places target ≡ true → BeginsWith (NoLabel line) told
@@ -51,7 +51,7 @@ JumpsTellFirst =
     (places : Places) (line at op : ℕ) (target : Target Name)
     → JumpTellsFirst places line at op target (item_faults places line at (Jump op target))
 
--- the faults of a text are those of its labels if none of its lines has a fault
+-- The faults of a text are those of its labels if none of its lines has a fault.
 pub record TextTellsFirst (text : List ℕ) : Type 0 where
   pub lines : (fault : AsmFault) → BeginsWith fault (faults_of_lines text) → BeginsWith fault (faults text)
   pub labels : faults_of_lines text ≡ [] → faults text ≡ all_label_faults (source_of text)

@@ -31,25 +31,25 @@ pub record IsAskedFor (wanted : Selection) (s : State) : Type 0 where
   pub there : StandsThere wanted.code s
   pub call : wanted.calls ≡ true → is_at_call s ≡ true
 
--- a selected line is shown after its prefix, with a line feed
+-- A selected line is shown after its prefix, with a line feed.
 abbrev pub AskedLinesAreShown : Type 0
 AskedLinesAreShown = (wanted : Selection) (s : State) → IsAskedFor wanted s
     → shown_line wanted s ≡ front wanted s ++ trace_line s ++ 10 ∷ []
 
--- nothing is shown for any other step
+-- Nothing is shown for any other step.
 abbrev pub OtherLinesAreNot : Type 0
 OtherLinesAreNot = (wanted : Selection) (s : State) → (IsAskedFor wanted s → ⊥) → shown_line wanted s ≡ []
 
--- the numbers less than n, in ascending order
+-- The numbers less than n, in ascending order.
 abbrev pub bytes_below : ℕ → List ℕ
 bytes_below zero = []
 bytes_below (suc n) = bytes_below n ++ n ∷ []
 
--- the numbers of RNP, CIP, RBP, CBP, CXP, CLP and CGP
+-- The numbers of RNP, CIP, RBP, CBP, CXP, CLP and CGP.
 abbrev pub call_numbers : List ℕ
 call_numbers = 173 ∷ 174 ∷ 193 ∷ 194 ∷ 205 ∷ 206 ∷ 207 ∷ []
 
--- of the 256 opcodes exactly these are calls or returns
+-- Of the 256 opcodes exactly these are calls or returns.
 abbrev pub CallsByNumber : Type 0
 CallsByNumber = map (λ b. is_call_or_return (mnemonic_of b)) (bytes_below 256)
     ≡ map (λ b. list_any (λ n. n == b) call_numbers) (bytes_below 256)

@@ -43,32 +43,32 @@ pub data StopsAfter (test : State → Bool) (first limit : ℕ) (s : State) : �
   stops : (n : ℕ) → n < limit → GoesOn test first n s → (first ≤ n → test (after_steps n s) ≡ false)
       → (stepped (after_steps n s)).1 ≢ stop.Went → StopsAfter test first limit s (n + 1)
 
--- these events are the steps of a run of at most `limit` steps to a state at which the test holds, tested from step
--- number `first` on
+-- These events are the steps of a run of at most `limit` steps to a state at which the test holds, tested from step
+-- number `first` on.
 abbrev pub AreStepsFrom : ℕ → (State → Bool) → ℕ → State → List Event → Type 0
 AreStepsFrom first test limit s events =
     (steps : ℕ) × StopsAfter test first limit s steps × (events ≡ replicate steps Step)
 
--- these events are the steps of such a run that begins at s, and tests from its second step on
+-- These events are the steps of such a run that begins at s, and tests from its second step on.
 abbrev pub AreStepsTo : (State → Bool) → ℕ → State → List Event → Type 0
 AreStepsTo test limit s events = AreStepsFrom 1 test limit s events
 
--- the number of the first step, counted from 0, before which a run tests that has executed `made` steps: every step
--- except the first of the whole run
+-- The number of the first step, counted from 0, before which a run tests that has executed `made` steps: every step
+-- except the first of the whole run.
 abbrev pub first_look : ℕ → ℕ
 first_look zero = 1
 first_look (suc made) = 0
 
 -- ---- breakpoints that are ignored
 
--- these events are the steps of a run after the ignored breakpoint at s: none if the run is at its end, else those of a
--- run that begins there
+-- These events are the steps of a run after the ignored breakpoint at s: none if the run is at its end, else those of a
+-- run that begins there.
 abbrev pub AreStepsPast : Bool → (State → Bool) → ℕ → State → List Event → Type 0
 AreStepsPast true test limit s events = events ≡ []
 AreStepsPast false test limit s events = AreStepsTo test limit s events
 
--- these events are the steps of a run of at most `most` steps, which ended at s, after each of the breakpoints that it
--- ignores
+-- These events are the steps of a run of at most `most` steps, which ended at s, after each of the breakpoints that it
+-- ignores.
 abbrev pub AreStepsBehind : List Breakpoint → ℕ → ℕ → Left → State → List Event → Type 0
 AreStepsBehind breaks most zero left s events = events ≡ []
 AreStepsBehind breaks most (suc passes) Nothing s events = events ≡ []
@@ -79,22 +79,22 @@ AreStepsBehind breaks most (suc passes) (AtBreak depth made watched) s events =
     × AreStepsBehind breaks most passes (left_past breaks (AtBreak depth made watched) most s)
     (gone_past breaks watched depth made most s).machine more × (events ≡ first ++ more)
 
--- these events are the steps of a run up to its end `run`, and those after the breakpoints that it ignores
+-- These events are the steps of a run up to its end `run`, and those after the breakpoints that it ignores.
 abbrev pub AreStepsOfRun : Session → ℕ → Left → Gone → (List Event → Type 0) → List Event → Type 0
 AreStepsOfRun d most left run Up events =
     (first more : List Event) × Up first × AreStepsBehind d.breaks most d.passes left run.machine more
     × (events ≡ first ++ more)
 
--- these events are the steps of a run that begins in a session, to this depth
+-- These events are the steps of a run that begins in a session, to this depth.
 abbrev pub AreStepsOfBegun : Session → Depth → ℕ → Gone → (State → Bool) → List Event → Type 0
 AreStepsOfBegun d depth limit run test events =
     AreStepsOfRun d limit (left_of depth d.watches d.machine run) run (AreStepsTo test limit d.machine) events
 
--- the rest of a run
+-- The rest of a run.
 abbrev pub rest_of : Session → Depth → ℕ → List WatchedWord → ℕ → Gone
 rest_of d depth made watched limit = gone_from d.breaks watched (is_there depth) made (countable made limit) d.machine
 
--- these events are the steps of the rest of a run
+-- These events are the steps of the rest of a run.
 abbrev pub AreStepsOn : Session → Left → ℕ → List Event → Type 0
 AreStepsOn d Nothing limit events = events ≡ []
 AreStepsOn d (AtBreak depth made watched) limit events = events ≡ []
@@ -106,7 +106,7 @@ AreStepsOn d (Rest depth made watched) limit events =
 
 -- ---- sessions
 
--- a watched word differs from its value at the time of the command
+-- A watched word differs from its value at the time of the command.
 abbrev pub has_changed_since : Session → State → Bool
 has_changed_since d s = has_changed (watched_words d.watches d.machine.memory) s.memory
 
@@ -135,14 +135,14 @@ AreEventsOf (Some (Does (commands.On n))) d events = AreStepsOn d d.left n event
 AreEventsOf (Some (Types bytes)) d events = events ≡ map Key bytes
 AreEventsOf other d events = events ≡ []
 
--- the events of lines in a session, one line after the other
+-- The events of lines in a session, one line after the other.
 abbrev pub AreEventsOfLines : List (List ℕ) → Session → List Event → Type 0
 AreEventsOfLines [] d events = events ≡ []
 AreEventsOfLines (line ∷ lines) d events =
     (first more : List Event) × AreEventsOf (order_of line) d first
     × AreEventsOfLines lines (session_after (order_of line) d) more × (events ≡ first ++ more)
 
--- none of the lines is `quit`
+-- None of the lines is `quit`.
 abbrev pub GoesOnAfter : List (List ℕ) → Type 0
 GoesOnAfter [] = ⊤
 GoesOnAfter (line ∷ lines) = (is_quit (order_of line) ≡ false) × GoesOnAfter lines

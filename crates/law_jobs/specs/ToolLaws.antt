@@ -16,7 +16,7 @@ use Rattle.pm_tool.specs.declared.outcome.Job.TheVariants as jobs
 use Rattle.pm_tool.specs.Outcomes.{Said}
 use Rattle.pm_tool.specs.Said.{job_said, run_said}
 
--- the bytes that these events key
+-- The bytes that these events key.
 abbrev pub keyed_in : List Event → List ℕ
 keyed_in [] = []
 keyed_in (Key byte ∷ events) = byte ∷ keyed_in events
@@ -25,7 +25,7 @@ keyed_in (Poke address word ∷ events) = keyed_in events
 keyed_in (Mount unit image ∷ events) = keyed_in events
 keyed_in (Eject unit ∷ events) = keyed_in events
 
--- all these events are steps and keys
+-- All these events are steps and keys.
 abbrev pub are_steps_and_keys : List Event → Bool
 are_steps_and_keys [] = true
 are_steps_and_keys (Key byte ∷ events) = are_steps_and_keys events
@@ -34,25 +34,25 @@ are_steps_and_keys (Poke address word ∷ events) = false
 are_steps_and_keys (Mount unit image ∷ events) = false
 are_steps_and_keys (Eject unit ∷ events) = false
 
--- a run from m leaves the machine in the state after these steps and keys, whose bytes are those that it read
+-- A run from m leaves the machine in the state after these steps and keys, whose bytes are those that it read.
 pub record IsOfEvents (run : Run) (bytes : List ℕ) (m : State) (events : List Event) : Type 0 where
   pub alone : are_steps_and_keys events ≡ true
   pub left : run.machine ≡ after_all m events
   pub read : bytes ≡ keyed_in events ++ run.unread
 
--- each run is a list of steps and keys, and the bytes of the keys are exactly those that are read
+-- Each run is a list of steps and keys, and the bytes of the keys are exactly those that are read.
 abbrev pub RunsAreEvents : Type 0
 RunsAreEvents =
     (show : _) (limit : ℕ) (bytes : List ℕ) (m : State)
     → (events : List Event) × IsOfEvents (run_of show limit bytes m) bytes m events
 
--- runs that differ only in what they show
+-- Runs that differ only in what they show.
 pub record AreAlike (run other : Run) : Type 0 where
   pub ending : run.ending ≡ other.ending
   pub machine : run.machine ≡ other.machine
   pub unread : run.unread ≡ other.unread
 
--- the choice of what is shown of a run changes nothing else of the run
+-- The choice of what is shown of a run changes nothing else of the run.
 abbrev pub ShowingChangesNothing : Type 0
 ShowingChangesNothing =
     (show other : _) (limit : ℕ) (bytes : List ℕ) (m : State)
@@ -71,7 +71,7 @@ GoesOn run limit [] m count Waiting t = AreAlike (run limit [] m) (ended_run [] 
 GoesOn run limit (byte ∷ bytes) m count Waiting t =
     AreAlike (run limit (byte ∷ bytes) m) (run (limit - count) bytes (next t (Key byte)))
 
--- each run is of this kind
+-- Each run is of this kind.
 abbrev pub RunsGoByTheMachine : Type 0
 RunsGoByTheMachine =
     (show : _) (limit count : ℕ) (bytes : List ℕ) (m t : State) (stop : Stop) →
@@ -88,7 +88,7 @@ ImagesAreOfTheirUnits =
     → ((run_said savings.All (run_of show 0 input m)).image ≡ d4)
     × ((run_said savings.All (run_of show 0 input m)).others ≡ d5 ∷ d9 ∷ d10 ∷ d11 ∷ d12 ∷ [])
 
--- the results of two runs are the same except for the images that are saved
+-- The results of two runs are the same except for the images that are saved.
 pub record SayTheSame (told other : Said) : Type 0 where
   pub written : told.written ≡ other.written
   pub exit : told.exit ≡ other.exit
@@ -111,13 +111,13 @@ SavingChangesNothing = (run : Run) → SavesApart run
 
 -- ---- all faults of a text
 
--- a job has the status and the message of another, and if its status is `Ended`, it has written nothing
+-- A job has the status and the message of another, and if its status is `Ended`, it has written nothing.
 pub record EndsAs (told other : Said) : Type 0 where
   pub exit : told.exit ≡ other.exit
   pub message : told.message ≡ other.message
   pub nothing : told.exit ≡ exits.Ended → told.written ≡ []
 
--- the job that writes all faults of a text ends as the job that assembles it
+-- The job that writes all faults of a text ends as the job that assembles it.
 abbrev pub FaultsEndAsAssembling : Type 0
 FaultsEndAsAssembling =
     (input : List ℕ) → EndsAs (job_said (jobs.Asm asm.Faults) input) (job_said (jobs.Asm asm.File) input)

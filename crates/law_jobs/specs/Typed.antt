@@ -17,7 +17,7 @@ pub record IsTwoKeys (d : Session) : Type 0 where
 abbrev pub TypesAreKeys : Type 0
 TypesAreKeys = (d : Session) → IsTwoKeys d
 
--- the line contains no line feed
+-- The line contains no line feed.
 abbrev pub IsOneLine : List ℕ → Type 0
 IsOneLine [] = ⊤
 IsOneLine (c ∷ line) = ((c == 10) ≡ false) × IsOneLine line

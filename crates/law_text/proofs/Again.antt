@@ -1,4 +1,4 @@
--- The instructions of a procedure are the parts of its code, whatever follows.
+-- The instructions of a procedure are the parts of its code, for any bytes after it.
 use Rattle.std.proofs.Common.{◌≡◌, ◌<◌, ◌≤◌, ℕ, ◌+◌, ◌-◌, ◌⊎◌, Bool, true, false, ltb, eqb, List, [], ◌∷◌, ◌++◌}
 use Rattle.std.proofs.Common.{length, take, refl, sym, ap, ◌∙◌, arith, inl, inr, append_assoc, Option, Some}
 use Rattle.std.specs.Prelude.{◌&&◌, nat_lt}
@@ -13,12 +13,12 @@ use Rattle.pm_code.proofs.Sizes.{length-item, size-some, length-code}
 use Rattle.pm_disasm.proofs.Read.{instruction_is_read}
 use Rattle.pm_code.proofs.ItemBytes.{either}
 
--- the parts that items are
+-- The parts of items.
 abbrev pub parts_of_items : ℕ → List (Item ℕ) → List Part
 parts_of_items at [] = []
 parts_of_items at (item ∷ items) = record { at = at; bytes = item_bytes at item; item = Some item } ∷ parts_of_items (at + size at item) items
 
--- no forced place lies strictly inside an item
+-- No forced offset is strictly inside an item.
 abbrev pub AreWhole : List ℕ → ℕ → List (Item ℕ) → Type 0
 AreWhole forced at [] = Unit {0}
 AreWhole forced at (item ∷ items) =
@@ -28,7 +28,7 @@ passed : (forced : List ℕ) (at : ℕ) (xs ys : List ℕ) (next : ℕ) → next
 passed forced at [] ys next e = ap (λ n. parts forced 0 n ys) (omega arith)
 passed forced at (x ∷ xs) ys next e = passed forced (at + 1) xs ys next (omega arith)
 
--- an instruction that is taken is one part
+-- An instruction that is read is one part.
 one_part : (forced : List ℕ) (at : ℕ) (xs ys : List ℕ) (n : ℕ) (item : Option (Item ℕ)) → length xs ≡ n → 0 < n
     → taken forced at (xs ++ ys) ≡ Some (record { size = n; item = item })
     → parts forced 0 at (xs ++ ys) ≡ record { at = at; bytes = xs; item = item } ∷ parts forced 0 (at + n) ys
@@ -45,7 +45,7 @@ uncut_is : (forced : List ℕ) (at : ℕ) (n : ℕ) (item : Option (Item ℕ)) �
     → uncut forced at (Some (record { size = n; item = item })) ≡ Some (record { size = n; item = item })
 uncut_is forced at n item e = rw e refl
 
--- The code of items is split into them, and goes on with what follows.
+-- The code of items is split into them, followed by the parts of the rest.
 pub split_again : (forced : List ℕ) (at : ℕ) (items : List (Item ℕ)) (rest : List ℕ) → AreItems at items → AreInstructions items → AreWhole forced at items
     → parts forced 0 at (code_bytes at items ++ rest) ≡ parts_of_items at items ++ parts forced 0 (end_of at items) rest
 split_again forced at [] rest h i w = refl
@@ -76,7 +76,7 @@ earlier at (item ∷ items) place h = elim (either (eqb at place) (is_among (bou
   | inr e ↦ earlier (at + size at item) items place e
 ]
 
--- a place at a boundary, or before the code
+-- An offset at a boundary, or before the code.
 abbrev Clear : ℕ → List (Item ℕ) → ℕ → Type 0
 Clear at items place = (place ≤ at) ⊎ IsIn (boundaries at items) place
 
@@ -115,7 +115,7 @@ rest_clear : (at : ℕ) (item : Item ℕ) (items : List (Item ℕ)) (forced : Li
 rest_clear at item items [] h = tt
 rest_clear at item items (f ∷ forced) h = (clear_of_rest at item items f h.0, rest_clear at item items forced h.1)
 
--- no forced place lies strictly inside an item, if each is a boundary
+-- No forced offset is strictly inside an item if each is a boundary or before the code.
 are_whole : (at : ℕ) (items : List (Item ℕ)) (forced : List ℕ) → AllByRecursion (Clear at items) forced → AreWhole forced at items
 are_whole at [] forced h = tt
 are_whole at (item ∷ items) forced h = (none_inside at item items forced h, are_whole (at + size at item) items forced (rest_clear at item items forced h))

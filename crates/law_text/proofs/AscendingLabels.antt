@@ -1,4 +1,4 @@
--- The faults of labels ascend, where lines say the program that they are of.
+-- The faults of labels ascend if the lines spell the segments that they belong to.
 use Rattle.std.proofs.Common.{◌≡◌, ◌≤◌, ◌+◌, ℕ, Bool, true, false, List, [], ◌∷◌, ◌++◌, map, refl, sym, subst, arith, append_assoc, ap, Option, Some, None}
 use Rattle.std.specs.Prelude.{if◌then◌else◌, ◌||◌}
 use Rattle.std.specs.List.{list_all, list_any}
@@ -25,7 +25,7 @@ use Rattle.law_text.specs.Same.{AscendFrom, FaultsAscend}
 use Rattle.law_text.proofs.Ascending.{AreAt, before, both, line_faults_ascend, lower, one}
 use Rattle.pm_source.proofs.Exactly.{faultless_is_said}
 
--- a statement names its line
+-- The statement names its line.
 abbrev IsOf : ℕ → Statement → Type 0
 IsOf n (Code (Items line label items)) = line ≡ n
 IsOf n (Entry line name) = line ≡ n
@@ -129,7 +129,7 @@ line_is_of : (n : ℕ) (text : List ℕ) → LineOf n (line_of n text)
 unfolding line_of
 line_is_of n text = by_of n (list_all is_character text) (cut (uncommented false text))
 
--- statements stand in lines that ascend from one on
+-- The statements are in lines that ascend from `n` on.
 abbrev StandFrom : ℕ → List Statement → Type 0
 StandFrom n [] = Unit {0}
 StandFrom n (s ∷ said) = (m : ℕ) × ((n ≤ m) × (IsOf m s × StandFrom m said))
@@ -152,7 +152,7 @@ said_stand n [] said h = subst (StandFrom n) (sym h) tt
 said_stand n (text ∷ texts) said h =
     line_stands n (line_of n text) (lines_from (n + 1) texts) said (line_is_of n text) (λ said h. said_stand (n + 1) texts said h) h
 
--- the faults of a line's items name the line
+-- The faults of the items of a line name the line.
 item_at : (n : ℕ) (places : Places) (at : ℕ) (item : Item Name) → AreAt n (item_faults places n at item)
 item_at n places at (Plain i named) = tt
 item_at n places at (OneByte b) = tt
@@ -166,7 +166,7 @@ items_at : (n : ℕ) (places : Places) (at : ℕ) (items : List (Item Name)) →
 items_at n places at [] = tt
 items_at n places at (item ∷ items) = both n _ _ (item_at n places at item) (items_at n places (at + size at item) items)
 
--- the faults behind those of a part ascend from wherever the statements behind it do
+-- The faults `more` ascend from every line from which the statements `said` after the part ascend.
 abbrev Behind : List Statement → List AsmFault → Type 0
 Behind said more = (m : ℕ) → StandFrom m said → AscendFrom m more
 

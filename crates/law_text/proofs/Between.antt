@@ -1,4 +1,4 @@
--- Blanks between operands and between words say nothing.
+-- Spaces and tabs between operands and between parts of a line have no meaning.
 use Rattle.std.proofs.Common.{◌≡◌, ℕ, Bool, true, false, List, [], ◌∷◌, ◌++◌, map, refl, sym, ap, ◌∙◌, arith, append_assoc}
 use Rattle.std.specs.Prelude.{not, ◌==◌, ◌&&◌, if◌then◌else◌}
 use Rattle.std.specs.List.{onto_first}
@@ -12,7 +12,7 @@ use Rattle.law_text.proofs.EndBlanks.{items_alike, no_comma, operands_end, piece
 no_quote : (c : ℕ) → is_blank c ≡ true → (c == 34) ≡ false
 no_quote c h = grind (arith, nat_tests)
 
--- a blank in front of the first piece is trimmed off
+-- A space or tab before the first piece is removed.
 trimmed_first : (c : ℕ) (ps : List (List ℕ)) → is_blank c ≡ true → is_empty ps ≡ false → map trimmed (onto_first c ps) ≡ map trimmed ps
 trimmed_first c [] h e = absurd (cc)
 trimmed_first c (p ∷ ps) h e = rw h refl
@@ -29,7 +29,7 @@ before c rest h =
     ap (λ cs. if is_empty cs then [] else map trimmed (pieces false (c ∷ rest))) off
     ∙ ap (λ ts. if is_empty (unindented rest) then [] else ts) (front_trimmed c rest h)
 
--- the pieces of a text are those before a comma and those behind it
+-- The pieces of a text are those before a comma and those after it.
 onto_some : (x : ℕ) (ps qs : List (List ℕ)) → is_empty ps ≡ false → onto_first x (ps ++ qs) ≡ onto_first x ps ++ qs
 onto_some x [] qs e = absurd (cc)
 onto_some x (p ∷ ps) qs e = refl
@@ -92,7 +92,7 @@ before_comma c front rest h k =
     ∙ ap (λ ts. ts ++ map trimmed (pieces false rest)) (ap (map trimmed) (pieces_end c false front h) ∙ trimmed_last c (pieces false front) h)
     ∙ sym (around_comma front rest k)
 
--- words
+-- Parts that are split at spaces.
 twice : (c d : ℕ) (front rest : List ℕ) → is_blank c ≡ true → is_blank d ≡ true → words (front ++ c ∷ d ∷ rest) ≡ words (front ++ d ∷ rest)
 twice c d [] rest h k = rw h refl
 twice c d (x ∷ []) rest h k =

@@ -1,4 +1,4 @@
--- The forced places are boundaries of what is written, and so is each place that a written jump names.
+-- The forced offsets are boundaries of the written items, and so is each offset that a written jump names.
 use Rattle.std.proofs.Common.{◌≡◌, ◌<◌, ◌≤◌, ℕ, zero, suc, ◌+◌, ◌-◌, Bool, true, false, cond, ltb, eqb, List, [], ◌∷◌}
 use Rattle.std.proofs.Common.{◌++◌, length, map, take, refl, sym, ◌∙◌, subst, arith, inl, inr, IfSome, Option, Some, None}
 use Rattle.std.specs.Prelude.{◌&&◌, ◌||◌, nat_lt}
@@ -14,7 +14,7 @@ use Rattle.pm_code.proofs.ItemBytes.{all-append, either}
 use Rattle.pm_disasm.proofs.Fronts.{Fronts, fronts}
 use Rattle.pm_disasm.proofs.Joined.{still, Joins, part_joins}
 
--- what is taken is not cut at a forced place
+-- What is read is not cut at a forced offset.
 abbrev Whole : List ℕ → ℕ → Front → Type 0
 Whole forced at f = (place : ℕ) → IsIn forced place → at < place → at + f.size ≤ place
 
@@ -56,7 +56,7 @@ pub or_right : (a b : Bool) → b ≡ true → (a || b) ≡ true
 or_right true b e = refl
 or_right false b e = e
 
--- A forced place at the code or behind is where a part begins, or the end.
+-- A forced offset in the code or after it is the beginning of a part, or the end.
 forced_ends : (forced : List ℕ) (skip at : ℕ) (bytes : List ℕ) (place end : ℕ) → AllByRecursion IsByte bytes → IsIn forced place → at + skip ≤ place
     → place ≤ end → end ≡ at + length bytes → IsIn (ends_of end (parts forced skip at bytes)) place
 forced_ends forced skip at [] place end b h low high e = let t : eqb end place ≡ true = eq-eqb _ _ (omega arith) in rw t refl
@@ -94,7 +94,7 @@ bounds_behind n m [] ys place e h = subst (λ k. IsIn (boundaries k ys) place) e
 bounds_behind n m (x ∷ xs) ys place e h =
     or_right (eqb n place) (is_among (boundaries (n + size n x) (xs ++ ys)) place) (bounds_behind (n + size n x) m xs ys place e h)
 
--- Where a part begins, and the end, are boundaries of what is written.
+-- The beginnings of parts, and the end, are boundaries of the written items.
 ends_written : (forced ends : List ℕ) (allowed : Bool) (skip at : ℕ) (bytes : List ℕ) (place end : ℕ) → AllByRecursion IsByte bytes → skip ≤ length bytes
     → end ≡ at + length bytes → IsIn (ends_of end (parts forced skip at bytes)) place
     → IsIn (boundaries (at + skip) (written ends allowed (parts forced skip at bytes))) place
@@ -139,7 +139,7 @@ ends_written forced ends allowed zero at (x ∷ bytes) place end b s e h =
           | inr e ↦ bounds_behind at (at + 1 + bytes_after_first o) w more place (sym j.1) (next (bytes_after_first o) j.0 e)
         ]
 
--- Each forced place within the code is a boundary of what is written.
+-- Each forced offset within the code is a boundary of the written items.
 pub forced_written : (forced : List ℕ) (allowed : Bool) (at : ℕ) (code : List ℕ) (place : ℕ) → AllByRecursion IsByte code → IsIn forced place → at ≤ place
     → place ≤ at + length code → IsIn (boundaries at (items_in forced allowed at code)) place
 forced_written forced allowed at code place b h low high =
@@ -148,7 +148,7 @@ forced_written forced allowed at code place b h low high =
     subst (λ n. IsIn (boundaries n (written ends allowed (parts forced 0 at code))) place) (omega arith)
     (ends_written forced ends allowed 0 at code place (at + length code) b (omega arith) refl e)
 
--- what holds of all numbers that a test passes
+-- If every number of `ps` passes the test, each of them is in `xs`.
 all_passed : (xs ps : List ℕ) → list_all (is_among xs) ps ≡ true → AllByRecursion (IsIn xs) ps
 all_passed xs [] h = tt
 all_passed xs (p ∷ ps) h = let both = and_parts (is_among xs p) (list_all (is_among xs) ps) h in (both.0, all_passed xs ps both.1)
@@ -179,12 +179,12 @@ pub all-map : {A : Type 0} (P Q : A → Type 0) (xs : List A) → ((x : A) → P
 all-map P Q [] f h = tt
 all-map P Q (x ∷ xs) f h = (f x h.0, all-map P Q xs f h.1)
 
--- names among some places are names among more
+-- Names among some offsets are names among more offsets.
 pub named_then : (xs ys : List ℕ) (items : List (Item ℕ)) → ((place : ℕ) → IsIn xs place → IsIn ys place) → AllByRecursion (NamesWithin xs) items
     → AllByRecursion (NamesWithin ys) items
 named_then xs ys items f h = all-map (NamesWithin xs) (NamesWithin ys) items (λ item k. all-map (IsIn xs) (IsIn ys) (item_places item) f k) h
 
--- Each place that a written jump names is a boundary of what is written.
+-- Each offset that a written jump names is a boundary of the written items.
 pub jumps_written : (forced : List ℕ) (allowed : Bool) (at : ℕ) (code : List ℕ) → AllByRecursion IsByte code
     → AllByRecursion (NamesWithin (boundaries at (items_in forced allowed at code))) (items_in forced allowed at code)
 jumps_written forced allowed at code b =

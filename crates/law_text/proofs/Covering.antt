@@ -29,7 +29,7 @@ use Rattle.law_text.proofs.ShownSegment.{AllFound, shown_well}
 use Rattle.law_text.proofs.Standing.{dictionary_there}
 use Rattle.law_text.specs.ListingLaws.{LinesCoverProcedures, LinesCoverSegments}
 
--- lines that follow each other from one offset to another, with the bytes that stand there
+-- Lines that follow each other from offset `at` to offset `end`, with the bytes of the segment at their offsets.
 record Covers (segment : List ℕ) (at end : ℕ) (lines : List Listed) : Type 0 where
   within : at ≤ end
   placed : StandFrom at lines
@@ -41,7 +41,7 @@ module _ (segment : List ℕ) where
       let no : end - at ≡ 0 = omega arith in
       record { within = omega arith; placed = tt; bytes = ap (λ n. take n (drop at segment)) (sym no) }
 
-  -- a line in front
+  -- One more line before the others.
   line_covers : (number at n end : ℕ) (what : List ℕ) (lines : List Listed) → end ≤ length segment → Covers segment (at + n) end lines
       → Covers segment at end (stored segment number at n what ∷ lines)
   line_covers number at n end what lines short c =
@@ -72,7 +72,7 @@ module _ (segment : List ℕ) where
       line_covers number at 2 end (entry_line place) (stored_entries segment number (at + 2) places ++ rest) short
       (entries_cover number (at + 2) end places rest short (subst (λ n. Covers segment n end rest) (omega arith) c))
 
--- a procedure with a count of entries that leaves its code some room, and what follows its table
+-- A procedure whose code has bytes left with this count of entries, and what follows its table.
 module _ (segment : List ℕ) (a : Attributes) (b : AllByRecursion IsByte segment) (t : IsTable segment a) (end : ℕ) (rest : List Listed)
     (short : end ≤ length segment) (c : Covers segment (a.jtab + 2) end rest) where
   with_covers : (allowed : Bool) (count : ℕ) → a.enter + 8 + 2 * count ≤ a.jtab
@@ -112,7 +112,7 @@ module _ (segment : List ℕ) (a : Attributes) (b : AllByRecursion IsByte segmen
   unfolding procedure_of
   procedure_covers = count_covers (least_from segment a 0 61) (least_fits segment a 0 61)
 
--- its text is that of its lines
+-- The text of the procedure is that of its lines.
 procedure_text : (slot : ℕ) (segment : List ℕ) (n : ℕ) (a : Attributes) → a.enter ≤ a.exit
     → table_listing_or slot segment n (Some a) ≡ listed_lines slot (stored_procedure segment a (procedure_of segment a))
 procedure_text slot segment n a after =
@@ -128,7 +128,7 @@ lines_cover_procedures slot segment n a b found after =
 
 -- ---- a whole segment
 
--- the lines of procedures, and what follows them
+-- The lines of procedures, followed by the lines `rest`.
 record Follow (slot : ℕ) (segment : List ℕ) (number at end : ℕ) (ps : List Procedure) (rest : List Listed) : Type 0 where
   lines : List Listed
   text : tables_listing slot segment number (length ps) ++ listed_lines slot rest ≡ listed_lines slot lines

@@ -1,4 +1,4 @@
--- How a shown line is cut into its first word and what follows.
+-- How a shown line is split into its first word and the text after it.
 use Rattle.std.proofs.Common.{◌≡◌, ℕ, Bool, true, false, List, [], ◌∷◌, ◌++◌, refl, ap, ◌∙◌, arith, None}
 use Rattle.std.specs.Prelude.{◌&&◌, ◌==◌}
 use Rattle.std.specs.List.{list_all}
@@ -15,7 +15,7 @@ and_parts false b e = absurd (cc)
 pub and_turned : (a b : Bool) → a ≡ true → b ≡ true → (a && b) ≡ true
 and_turned a b e f = rw (e, f) refl
 
--- what a character of a word is not
+-- A character of a word: it is valid, and it is not a space, a tab, or a character with a special meaning.
 pub record IsWordly (c : ℕ) : Type 0 where
   pub character : is_character c ≡ true
   pub blank : is_blank c ≡ false
@@ -40,7 +40,7 @@ word_cut (c ∷ w) tail h t =
     let solid : is_blank c ≡ false = (wordly c parts.0).blank in
     rw solid (ap (onto_word c) (word_cut w tail parts.1 t))
 
--- the first word of text that begins with one
+-- The first word of a text that begins with a word.
 pub first_cut : (w tail : List ℕ) → is_empty w ≡ false → list_all is_name_character w ≡ true → ends_word tail ≡ true
     → cut (w ++ tail) ≡ record { word = w; rest = tail }
 unfolding cut
@@ -63,13 +63,13 @@ word_passes (c ∷ w) rest h =
     let quote = x.quote in
     rw (comment, quote) (ap (λ cs. c ∷ cs) (word_passes w rest parts.1))
 
--- text behind a word, without comment
+-- The text after a word, without a comment.
 pub record IsRest (tail : List ℕ) : Type 0 where
   pub behind : ends_word tail ≡ true
   pub characters : list_all is_character tail ≡ true
   pub whole : uncommented false tail ≡ tail
 
--- how text is cut behind its first word
+-- How a text is split after its first word.
 pub record IsCut (text w tail : List ℕ) : Type 0 where
   pub characters : list_all is_character text ≡ true
   pub whole : uncommented false text ≡ text
@@ -89,7 +89,7 @@ by_cut n text w tail c =
     ∙ ap (λ b. line_by n b (cut text)) c.characters
     ∙ ap (line_by n true) c.parts
 
--- a word that can stand at the front of a line and is no label
+-- A word that can begin a line and is not a label.
 pub record IsFront (w : List ℕ) : Type 0 where
   pub some : is_empty w ≡ false
   pub plain : list_all is_name_character w ≡ true
@@ -102,7 +102,7 @@ spoken_line n w tail f t =
     let unmarked = f.unmarked in
     by_cut n (w ++ tail) w tail (cut_behind w tail f.some f.plain t) ∙ rw (some, unmarked) refl
 
--- Blanks before it do not matter.
+-- Spaces before a line have no meaning.
 pub indented : (n : ℕ) (cs : List ℕ) → line_of n (32 ∷ cs) ≡ line_of n cs
 unfolding line_of cut
 indented n cs = refl

@@ -29,7 +29,7 @@ use Rattle.law_text.proofs.ShownProcedures.{IsLow, IsWhole, all_append, all_back
 use Rattle.law_text.proofs.ShownPrograms.{AreCharacters, IsWholeSegment, lines_joined, said_line, whole_segments}
 use Rattle.law_text.proofs.SpokenLines.{IsWritableItem, item_line, jump_entry_line}
 
--- a pair of digits
+-- Two hexadecimal digits.
 digit_again : (d : ℕ) → d < 16 → digit_value (upper_digit d) ≡ d
 digit_again d h = grind (arith, nat_tests)
 
@@ -64,7 +64,7 @@ pairs_characters (b ∷ bs) h =
     let low = digit_character (b % 16) (omega arith) in
     rw (high, low) (pairs_characters bs h.1)
 
--- a line without its line feed
+-- A line without its line feed.
 abbrev line_text : ℕ → Listed → List ℕ
 line_text number l = padded 2 number ++ (32 ∷ padded 3 l.procedure ++ (32 ∷ padded 5 l.at ++ (pairs_text l.bytes ++ (32 ∷ 32 ∷ l.what))))
 
@@ -89,7 +89,7 @@ ended number l rest =
         ∙ sym (append_assoc b (32 ∷ c ++ (d ++ (32 ∷ 32 ∷ e))) (10 ∷ rest)))
         ∙ sym (append_assoc a (32 ∷ b ++ (32 ∷ c ++ (d ++ (32 ∷ 32 ∷ e)))) (10 ∷ rest))
 
--- A line whose numbers are those of a machine, of which each character may stand in a text.
+-- A line whose numbers are those of a machine, and whose characters are valid in a text.
 record IsLine (l : Listed) : Type 0 where
   procedure : l.procedure < 2 ^ 64
   at : l.at < 2 ^ 64
@@ -130,7 +130,7 @@ line_characters number l n h =
     word_then : (w rest : List ℕ) → IsWord w → list_all is_character rest ≡ true → list_all is_character (w ++ rest) ≡ true
     word_then w rest k e = list_all-append is_character w rest ∙ and_turned _ _ (word_characters w k.plain) e
 
--- the lines of a program
+-- The lines of a program.
 abbrev texts_of : List Segment → List (List ℕ)
 texts_of [] = []
 texts_of (s ∷ ss) = map (line_text s.number) (listed_segment s) ++ texts_of ss
@@ -159,7 +159,7 @@ lines_characters : (number : ℕ) (ls : List Listed) (texts : List (List ℕ)) �
 lines_characters number [] texts n h k = k
 lines_characters number (l ∷ ls) texts n h k = (line_characters number l n h.0, lines_characters number ls texts n h.1 k)
 
--- what stands behind the bytes of each line
+-- The text after the bytes of each line.
 record IsNamed (l : Listed) : Type 0 where
   procedure : l.procedure < 2 ^ 64
   what : list_all is_character l.what ≡ true
@@ -199,7 +199,7 @@ procedures_named number [] rest n w k = k
 procedures_named number (p ∷ ps) rest n w k =
     procedure_named number p (listed_procedures (number + 1) ps rest) (omega (arith, n)) w.0 (procedures_named (number + 1) ps rest (omega (arith, n)) w.1 k)
 
--- the bytes of each line are bytes, and its offset lies before the end
+-- The bytes of each line are bytes, and its offset is before the end.
 append_bytes : (xs ys : List ℕ) → AreBytes (xs ++ ys) → AreBytes xs × AreBytes ys
 append_bytes [] ys h = (tt, h)
 append_bytes (x ∷ xs) ys h = let more = append_bytes xs ys h.1 in ((h.0, more.0), more.1)
@@ -246,7 +246,7 @@ listing_is_read ss h short =
     ∙ ap (map line_value) (lines_joined (texts_of ss) (program_characters ss w short))
     ∙ program_again ss w short
 
--- the lines of one segment
+-- The lines of one segment.
 of_same : (n : ℕ) (ls : List Listed) (ds : List Denoted) → of_segment n (map (denoted_line n) ls ++ ds) ≡ map (denoted_line n) ls ++ of_segment n ds
 of_same n [] ds = refl
 of_same n (l ∷ ls) ds = let same = itself n in rw same (ap (λ more. denoted_line n l ∷ more) (of_same n ls ds))
@@ -279,7 +279,7 @@ placed_again : (n at : ℕ) (ls : List Listed) → StandFrom at ls → ArePlaced
 placed_again n at [] h = tt
 placed_again n at (l ∷ ls) h = (h.0, placed_again n (at + length l.bytes) ls h.1)
 
--- a segment's lines, in a program
+-- The lines of a segment, in a program.
 record IsDenoted (n : ℕ) (ss : List Segment) : Type 0 where
   bytes : bytes_of_lines (of_segment n (denoted_program ss)) ≡ bytes_of_segment (segment_numbered n ss)
   placed : ArePlacedFrom 0 (of_segment n (denoted_program ss))

@@ -1,4 +1,4 @@
--- A blank behind a line says nothing.
+-- A space or tab after a line has no meaning.
 use Rattle.std.proofs.Common.{◌≡◌, ◌⊎◌, ℕ, Bool, true, false, List, [], ◌∷◌, ◌++◌, map, reverse, refl, ap, ◌∙◌, arith, inl, inr, None, Some, Option}
 use Rattle.std.specs.Prelude.{not, ◌==◌, ◌&&◌, if◌then◌else◌}
 use Rattle.std.specs.List.{list_all, onto_first}
@@ -14,7 +14,7 @@ use Rattle.pm_source.specs.Line.Keyword.{OfSegment, OfProcedure, OfExit, OfJump,
 use Rattle.pm_source.specs.Line.Line.{Blank}
 use Rattle.law_text.specs.Same.{EndBlankSaysNothing}
 
--- text with a character behind it, or the same
+-- A text followed by a character, or the text itself.
 abbrev Ends : ℕ → List ℕ → List ℕ → Type 0
 Ends c xs ys = (xs ≡ ys) ⊎ (xs ≡ ys ++ c ∷ [])
 
@@ -22,7 +22,7 @@ under : (c : ℕ) (f : List ℕ → List ℕ) (xs ys : List ℕ) → (f (ys ++ c
 under c f xs ys k (inl e) = inl (ap f e)
 under c f xs ys k (inr e) = inr (ap f e ∙ k)
 
--- a text with it is read as one without it
+-- A text is read in the same way with and without the character.
 same_end : {A : Type 0} (c : ℕ) (f : List ℕ → A) (xs ys : List ℕ) → f (ys ++ c ∷ []) ≡ f ys → Ends c xs ys → f xs ≡ f ys
 same_end c f xs ys k (inl e) = ap f e
 same_end c f xs ys k (inr e) = ap f e ∙ k
@@ -36,7 +36,7 @@ no_comma c h = grind (arith, nat_tests)
 a_character : (c : ℕ) → is_blank c ≡ true → is_character c ≡ true
 a_character c h = grind (arith, nat_tests)
 
--- in a comment it is cut off with it
+-- In a comment the character is removed with the comment.
 uncommented_end : (c : ℕ) (quoted : Bool) (line : List ℕ) → is_blank c ≡ true → Ends c (uncommented quoted (line ++ c ∷ [])) (uncommented quoted line)
 uncommented_end c quoted [] h = let no = no_comment c h in inr (rw no refl)
 uncommented_end c quoted (x ∷ xs) h = by ((x == 59) && not quoted) (uncommented_end c (if x == 34 then not quoted else quoted) xs h)
@@ -56,7 +56,7 @@ unindented_end c (x ∷ xs) h = by (is_blank x) (unindented_end c xs h)
     by true more = more
     by false more = inr refl
 
--- the first word is the same, and what follows it ends with the blank or is the same
+-- The first word is the same. The text after it ends with the space or tab, or is the same.
 record Cuts (c : ℕ) (a b : Cut) : Type 0 where
   word : a.word ≡ b.word
   rest : Ends c a.rest b.rest
@@ -89,7 +89,7 @@ cut_of : (c : ℕ) (xs ys : List ℕ) → is_blank c ≡ true → Ends c xs ys �
 unfolding cut
 cut_of c xs ys h e = word_of c (unindented xs) (unindented ys) h (unindented_of c xs ys h e)
 
--- words and operands
+-- Parts and operands.
 words_end : (c : ℕ) (xs : List ℕ) → is_blank c ≡ true → words (xs ++ c ∷ []) ≡ words xs
 words_end c [] h = rw h refl
 words_end c (x ∷ []) h =
@@ -102,7 +102,7 @@ onto_last c [] = []
 onto_last c (p ∷ []) = (p ++ c ∷ []) ∷ []
 onto_last c (p ∷ q ∷ ps) = p ∷ onto_last c (q ∷ ps)
 
--- pieces are one at least
+-- There is at least one piece.
 pub some_piece : (quoted : Bool) (xs : List ℕ) → is_empty (pieces quoted xs) ≡ false
 some_piece quoted [] = refl
 some_piece quoted (x ∷ xs) = by ((x == 44) && not quoted) (pieces (if x == 34 then not quoted else quoted) xs)
@@ -167,7 +167,7 @@ operands_end c xs h =
     ap (λ b. if b then [] else map trimmed (pieces false (xs ++ c ∷ []))) (blank_end c xs h)
     ∙ ap (λ ts. if is_empty (unindented xs) then [] else ts) (ap (map trimmed) (pieces_end c false xs h) ∙ trimmed_last c (pieces false xs) h)
 
--- Texts with the same operands and the same words.
+-- Texts with the same operands and the same parts.
 pub record AreAlike (a b : List ℕ) : Type 0 where
   pub operands : operands a ≡ operands b
   pub words : words a ≡ words b

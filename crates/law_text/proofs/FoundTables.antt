@@ -1,4 +1,4 @@
--- The table of a procedure that stands in a segment is found by its number.
+-- The table of a procedure that is in a segment is found by its number.
 use Rattle.std.proofs.Common.{◌≡◌, ◌≤◌, ℕ, ◌+◌, ◌-◌, ◌*◌, ◌%◌, Bool, true, leb, List, [], ◌∷◌, ◌++◌}
 use Rattle.std.proofs.Common.{length, drop, reverse, refl, sym, ap, ◌∙◌, arith, drop-drop, Some}
 use Rattle.std.specs.Prelude.{◌&&◌, nat_le, slice_index, ◌==◌}
@@ -27,7 +27,7 @@ less_is a b c e =
 pub stored_byte : (segment bytes : List ℕ) (at p k : ℕ) → drop at segment ≡ bytes → p ≡ at + k → slice_index segment p ≡ slice_index bytes k
 stored_byte segment bytes at p k e f = ap (slice_index segment) f ∙ sym (get_or-drop at segment k 0) ∙ ap (λ bs. slice_index bs k) e
 
--- where a table begins
+-- The attributes of a procedure follow its code and its entries.
 attributes_there : (segment : List ℕ) (number : ℕ) (p : Procedure) (s : StandsIn segment number p)
     → drop (code_end p + 2 * length p.entries) segment ≡ attribute_bytes number p ++ s.rest
 attributes_there segment number p s =
@@ -38,7 +38,7 @@ attributes_there segment number p s =
     ∙ ap (drop (length entries)) (table_there segment number p s).there
     ∙ drop-append_seam entries (attribute_bytes number p ++ s.rest)
 
--- What the table says that a word of the dictionary leads to.
+-- The table that a word of the dictionary leads to.
 pub table_found : (segment : List ℕ) (number at : ℕ) (p : Procedure) → StandsIn segment number p → 1 ≤ number → number ≤ procedures_in segment
     → at + (2 * number + 2) ≡ length segment → word_in segment at ≡ at - jtab_of p → jtab_of p ≤ at
     → attributes_in segment number ≡ Some (attributes_of number p)

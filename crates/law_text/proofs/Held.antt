@@ -1,4 +1,4 @@
--- The code file of a program holds it.
+-- The code file of a program holds the program.
 use Rattle.std.proofs.Common.{◌≡◌, ◌<◌, ◌≤◌, ℕ, zero, suc, ◌+◌, ◌-◌, ◌%◌, Bool, true, false, All, List, [], ◌∷◌, length, map}
 use Rattle.std.proofs.Common.{take, replicate, get_or, refl, sym, ap, subst, ◌∙◌, arith, length-append, Option, Some, None}
 use Rattle.std.specs.Prelude.{◌==◌, ◌&&◌, nat_le, if◌then◌else◌, option_map, slice_range, sum}
@@ -24,7 +24,7 @@ use Rattle.pm_codefile.specs.Dictionary.{file_fault}
 use Rattle.pm_code.specs.Program.{IsProgram}
 use Rattle.pm_code.specs.Laws.{FileHoldsProgram, FileIsAccepted}
 
--- a slot of a program: no segment, or a sound one that is not too long
+-- A slot of a program: no segment, or a valid one that is not too long.
 abbrev IsSlot : Option Segment → Type 0
 IsSlot None = Unit {0}
 IsSlot (Some s) = IsSegment s × (length (segment_bytes s) ≤ 65534)
@@ -45,7 +45,7 @@ slots_count : (n count : ℕ) (ss : List Segment) → length (slots_of n count s
 slots_count n zero ss = refl
 slots_count n (suc count) ss = ap suc (slots_count (n + 1) count ss)
 
--- a slot has the segment of its number
+-- A slot has the segment with its number.
 slot_there : (n count i : ℕ) (ss : List Segment) → i < count → get_or (slots_of n count ss) i None ≡ segment_numbered (n + i) ss
 slot_there n zero i ss l = absurd (omega arith)
 slot_there n (suc count) zero ss l = let e : n ≡ n + 0 = omega arith in ap (λ k. segment_numbered k ss) e
@@ -62,7 +62,7 @@ numbered_below n (s ∷ ss) t h e = by (s.number == n) refl (numbered_below n ss
     by true f more e = omega (arith, eqb-true s.number n f, h.0.number)
     by false f more e = more e
 
--- the names have 8 bytes
+-- The names have 8 bytes.
 name_eight : (slot : Option Segment) → IsSlot slot → length (name_of_segment slot) ≡ 8
 name_eight None h = refl
 name_eight (Some s) h =
@@ -70,7 +70,7 @@ name_eight (Some s) h =
     let few : length s.name ≤ 8 = leb-true _ _ (and_parts (nat_le 1 (length s.name)) (nat_le (length s.name) 8) parts.0).1 in
     omega (arith, length-append s.name (replicate (8 - length s.name) 32), length-replicate {A = ℕ} (8 - length s.name) 32)
 
--- the lengths are even and fit a word
+-- The lengths are even and fit a word.
 abbrev slot_length : Option Segment → ℕ
 slot_length slot = length (bytes_of_segment slot)
 
@@ -89,13 +89,13 @@ length_even (Some s) h = omega (arith, length-segment s h.0, ends_even 0 s.proce
 length_some : (s : Segment) → IsSegment s → 0 < length (segment_bytes s)
 length_some s h = omega (arith, length-segment s h)
 
--- what each of a list is, each is that is taken
+-- A fact about all elements of a list holds for each element that is read.
 all_get : {A : Type 0} (P : A → Type 0) (d : A) (xs : List A) → P d → AllByRecursion P xs → (k : ℕ) → P (get_or xs k d)
 all_get P d [] none h k = none
 all_get P d (x ∷ xs) none h zero = h.0
 all_get P d (x ∷ xs) none h (suc k) = all_get P d xs none h.1 k
 
--- the segments are parts of their joined bytes
+-- The segments are parts of their joined bytes.
 lengths_joined : (slots : List (Option Segment)) → sum (map slot_length slots) ≡ length (joined_bytes slots)
 lengths_joined [] = refl
 lengths_joined (s ∷ slots) =
@@ -122,7 +122,7 @@ joined_part (s ∷ slots) (suc i) l =
 not_zero : (n : ℕ) → 0 < n → (n == 0) ≡ false
 not_zero n h = grind (arith, nat_tests)
 
--- what is read in a slot is its segment
+-- What is read from a slot is its segment.
 chosen : (slot : Option Segment) (n : ℕ) (part : List ℕ) → IsSlot slot → n ≡ slot_length slot → part ≡ bytes_of_segment slot
     → (if n == 0 then None else Some part) ≡ option_map segment_bytes slot
 chosen None n part h e f = let t : (n == 0) ≡ true = eq-eqb n 0 e in rw t refl

@@ -30,7 +30,7 @@ least_is segment a u t (suc count) f e low high = elim (cases_lt t u) [
   | inr more ↦ (let same : t ≡ u = omega arith in let w : fits segment a t ≡ true = ap (fits segment a) same ∙ e in rw w (ap Some same))
 ]
 
--- a jump takes one of 60 entries
+-- A jump uses at most 60 entries of the table.
 few_entries : (next : ℕ) (target : Target ℕ) → IsNear next target → entries_for target ≤ 60
 few_entries next (To place) h = omega arith
 few_entries next (Through k) h = omega (arith, h)
@@ -45,7 +45,7 @@ few_needed : (at : ℕ) (items : List (Item ℕ)) → AreItems at items → entr
 few_needed at [] h = omega arith
 few_needed at (item ∷ items) h = omega (arith, few_used at item h.0, few_needed (at + size at item) items h.1)
 
--- where no entry may be taken, none is
+-- If no entry is allowed, none is used.
 none_for : (target : Target ℕ) → is_allowed false target ≡ true → entries_for target ≡ 0
 none_for (To place) h = refl
 none_for (Through k) h = absurd (true≢false (sym h))

@@ -1,4 +1,4 @@
--- What a listing denotes is the code file's.
+-- The bytes that a listing denotes are those of the code file.
 use Rattle.std.proofs.Common.{◌≡◌, [], refl, sym, ap, subst, ◌∙◌, Option, Some, None}
 use Rattle.std.specs.Prelude.{option_map}
 use Rattle.std.specs.Option.{unwrap_or}
@@ -13,7 +13,7 @@ use Rattle.pm_source.proofs.Programs.{spelled_is_program}
 use Rattle.pm_asm.specs.Assembled.{AssembledIsListed, Assembles}
 use Rattle.pm_asm.proofs.Outcomes.{assembled_is_spelled}
 
--- the bytes of a segment, none if there is none
+-- The bytes of a segment, or no bytes if there is no segment.
 bytes_or_none : (o : Option Segment) → bytes_of_segment o ≡ unwrap_or (option_map segment_bytes o) []
 bytes_or_none None = refl
 bytes_or_none (Some s) = refl

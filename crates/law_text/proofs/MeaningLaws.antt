@@ -1,4 +1,4 @@
--- Statements do what their text says.
+-- Statements do what their text states.
 use Rattle.std.proofs.Common.{◌≡◌, ◌≢◌, ◌<◌, ◌≤◌, inl, inr, ℕ, zero, suc, ◌+◌, ◌-◌, ◌*◌, ◌/◌, ◌%◌, ◌&&◌, ◌==◌, Bool, true, false, not, cond, drop, set}
 use Rattle.std.proofs.Common.{append-nil, nat_lt, List, [], ◌∷◌, ◌++◌, length, get_or, Result, Ok, Err, refl, sym, ap, ◌∙◌, subst, arith, length-append}
 use Rattle.std.specs.Prelude.{int_le, Option, Some, None}
@@ -72,7 +72,7 @@ use Rattle.law_text.specs.Meaning.{Said, arithmetic_said, as_said, check_said, f
 use Rattle.law_text.specs.Meaning.{then_said, value_said, variable_said, variable_there, word_there, IsLike}
 use Rattle.law_text.specs.Meaning.Said.{Gives, Fails, Unsaid}
 
--- ---- what is said and what a row gives
+-- ---- what a statement states and what a rule results in
 
 abbrev Agrees : {A : Type 0} → Said A → Result A ExecError → Type 0
 Agrees (Gives x) r = r ≡ Ok x
@@ -95,7 +95,7 @@ abbrev OnStack : List ℕ → ℕ → List ℕ → Type 0
 OnStack m sp [] = Unit {0}
 OnStack m sp (w ∷ ws) = (word_at m sp ≡ w) × OnStack m (sp + 2) ws
 
--- words on the stack, and those above them
+-- Words on the stack, and the words above them.
 parted : (m : List ℕ) (sp : ℕ) (ws vs : List ℕ) → OnStack m sp (ws ++ vs) → OnStack m sp ws × OnStack m (sp + 2 * length ws) vs
 parted m sp [] vs h = let e : sp + 2 * length {A = ℕ} [] ≡ sp = omega arith in (tt, subst (λ a. OnStack m a vs) (sym e) h)
 parted m sp (w ∷ ws) vs h =
@@ -103,7 +103,7 @@ parted m sp (w ∷ ws) vs h =
     let e : sp + 2 + 2 * length ws ≡ sp + 2 * length (w ∷ ws) = omega arith in
     ((h.0, more.0), subst (λ a. OnStack m a vs) e more.1)
 
--- a word that is written below them
+-- A word that is written below the words on the stack.
 beside : (m : List ℕ) (sp a w : ℕ) (vs : List ℕ) → a % 2 ≡ 0 → sp % 2 ≡ 0 → a < sp → OnStack m sp vs → OnStack (with_word m a w) sp vs
 beside m sp a w [] even there below h = tt
 beside m sp a w (v ∷ vs) even there below h =
@@ -130,20 +130,20 @@ pushes m sp np w even room =
     let below : (sp - 2) % 2 ≡ 0 = omega (arith, even, room) in
     rw (first, evenly (sp - 2) below) refl
 
--- ---- rows
+-- ---- rules
 
--- what a row is to give that puts a value on the stack
+-- The result that a rule must have that puts a value on the stack.
 abbrev put : List ℕ → ℕ → Said ℕ → Said (List ℕ × ℕ)
 put m above said = then_said said (λ w. Gives (with_word m (above - 2) w, above - 2))
 
--- where a row stands: on so many operands
+-- The operands `ws` of a rule are on the stack, from address `sp` up to `above`.
 record Fits (m : List ℕ) (sp above : ℕ) (ws : List ℕ) : Type 0 where
   even : sp % 2 ≡ 0
   is : above ≡ sp + 2 * length ws
   low : above ≤ 65504
   there : OnStack m sp ws
 
--- the first operand of a row, popped
+-- The first operand of a rule, popped.
 first_pop : (m : List ℕ) (sp above w : ℕ) (ws : List ℕ) → Fits m sp above (w ∷ ws) → pop m sp ≡ Ok (taken w (sp + 2))
 first_pop m sp above w ws f =
     let is = f.is in
@@ -159,7 +159,7 @@ rest_fits m sp above w ws f =
 none_left : (m : List ℕ) (sp above : ℕ) → Fits m sp above [] → above ≡ sp
 none_left m sp above f = let is = f.is in omega (arith, is)
 
--- the end of a row that puts a value
+-- The end of a rule that puts a value on the stack.
 ends : (m : List ℕ) (sp np above : ℕ) → Fits m sp above [] → np + 2 ≤ above → (x : Said ℕ) (r : Result ℕ ExecError) → Agrees x r
     → Agrees (put m above x) (r >>= λ w. push m sp np w)
 ends m sp np above f room x r h = agrees_then x r _ _ h (λ w e.
@@ -328,7 +328,7 @@ one_step u = refl
 
 -- ---- what is fetched
 
--- one operation, as far as something is said of it
+-- The operation is the given one, if the text states something about its result.
 abbrev IsSame : Operation → Operation → Type 0
 IsSame (operation.Arithmetic o) x = x ≡ operation.Arithmetic o
 IsSame (operation.Variable o) x = x ≡ operation.Variable o
@@ -336,7 +336,7 @@ IsSame (operation.Pointer o) x = x ≡ operation.Pointer o
 IsSame (operation.Jump (jump.Short c n)) x = x ≡ operation.Jump (jump.Short c n)
 IsSame _ x = Unit {0}
 
--- a scope and the number of a variable in it, of an instruction wherever it stands
+-- The scope and the number of a variable are the same for any position of the instruction.
 same_scope : (v : Scope) (i : Instr) (start len : ℕ) → filled_scope v (record i { start = start; len = len }) ≡ filled_scope v i
 same_scope Global i start len = refl
 same_scope Local i start len = refl
@@ -389,14 +389,14 @@ same_placed operation.Nothing i start len = tt
 same_placed operation.End i start len = tt
 same_placed operation.Unimplemented i start len = tt
 
--- the machine fetches an item's instruction, whatever the free stack holds
+-- The machine fetches the instruction of an item, for any contents of the free stack.
 record Fetched (s : State) (ipc at : ℕ) (item : Item ℕ) : Type 0 where
   instruction : Instr
   fetches : (t : List ℕ) → IsLike s t → fetched t ipc ≡ Ok instruction
   operation : IsSame (item_operation at item) (operation_of instruction)
   bytes : instruction.len ≡ size at item
 
--- a byte of the memory that is not on the free stack
+-- A byte of the memory that is not on the free stack.
 like_byte : (s : State) (t : List ℕ) (a : ℕ) → IsStack s.registers.sp s.registers.np → IsLike s t → is_free s a ≡ false → byte_at t a ≡ byte_at s.memory a
 like_byte s t a stack like away = elim (cases_Bool (is_even a)) [
   | inl even ↦
@@ -415,7 +415,7 @@ like_byte_there : (s : State) (t : List ℕ) (a b : ℕ) → IsStack s.registers
 unfolding byte_at
 like_byte_there s t a b stack like away is = like_byte s t a stack like away ∙ is
 
--- bytes that stand somewhere, as the memory goes on from there
+-- Bytes that are in memory, which continues after them.
 there_on : (s : State) (t : List ℕ) (a : ℕ) (bs : List ℕ) → IsStack s.registers.sp s.registers.np → IsLike s t → StandThere s a bs
     → drop a (bytes_of t) ≡ bs ++ drop (a + length bs) (bytes_of t)
 there_on s t a [] stack like h = let e : a + length {A = ℕ} [] ≡ a = omega arith in ap (λ k. drop k (bytes_of t)) (sym e)
@@ -436,7 +436,7 @@ same_parity origin at even = ap (λ n. n == 1) (parity origin at even)
     parity : (origin at : ℕ) → origin % 2 ≡ 0 → (origin + at) % 2 ≡ at % 2
     parity origin at even = omega (arith, even)
 
--- an instruction whose spelling stands there
+-- An instruction whose spelling is in memory.
 spelled_there : (s : State) (origin at : ℕ) (i : Instr) (named : List ℕ) → IsStack s.registers.sp s.registers.np → origin % 2 ≡ 0
     → in_range (form_of i.op) i ≡ true → (names_bytes (form_of i.op) ≡ true → length named ≡ i.count)
     → StandThere s (origin + at) (spelling (is_odd at) 0 i named) → (t : List ℕ) → IsLike s t
@@ -469,7 +469,7 @@ plain_fetched s origin at i named stack even plain h =
 abbrev jump_instruction : ℕ → ℕ → Target ℕ → Instr
 jump_instruction at op goal = record (bare op) { a = distance (at + 2) goal }
 
--- the byte of a jump is the low byte of its distance, and stands for it
+-- The byte of a jump is the low byte of its distance, and represents it.
 jump_low : (at : ℕ) (goal : Target ℕ) → IsNear (at + 2) goal → distance (at + 2) goal % 256 ≡ jump_byte (at + 2) goal
 jump_low at (To place) near = let here = near.0 in let there = near.1 in omega (arith, here, there)
 jump_low at (Through k) near = omega (arith, near)
@@ -518,7 +518,7 @@ jump_fetched s origin at op goal stack even is h =
         ≡ record (jump_instruction at op goal) { start = 0; len = n }
     placed_jump f a n at op goal e = rw e refl
 
--- ---- a state behind some operands, whose values stand on the stack, the last one first
+-- ---- a state after some operands, whose values are on the stack, the last one first
 
 record Holds (s : State) (vs : List ℕ) (ipc : ℕ) (u : State) : Type 0 where
   memory : IsLike s u.memory
@@ -527,7 +527,7 @@ record Holds (s : State) (vs : List ℕ) (ipc : ℕ) (u : State) : Type 0 where
   there : OnStack u.memory (s.registers.sp - 2 * length vs) vs
   others : u ≡ record s { memory = u.memory; registers = u.registers; steps = u.steps }
 
--- a machine that runs, with a stack
+-- A machine that runs, with a valid stack.
 record Ready (s : State) : Type 0 where
   running : s.status ≡ status.Running
   stack : IsStack s.registers.sp s.registers.np
@@ -538,13 +538,13 @@ is_running s u vs ipc ready h = ap (λ (x : State). x.status) h.others ∙ ready
 next_ipc : (origin at len : ℕ) → ((origin + at) % 65536 + len) % 65536 ≡ (origin + (at + len)) % 65536
 next_ipc origin at len = omega arith
 
--- what is fetched behind some operands
+-- What is fetched after some operands.
 fetched_there : (s u : State) (ipc at : ℕ) (item : Item ℕ) (vs : List ℕ) → Holds s vs ipc u → (st : Fetched s ipc at item)
     → fetched u.memory u.registers.ipc ≡ Ok st.instruction
 fetched_there s u ipc at item vs h st =
     ap (λ (r : Registers). fetched u.memory r.ipc) h.registers ∙ st.fetches u.memory h.memory
 
--- the row of a part, on its operands
+-- The rule of a part, with its operands.
 operands_fit : (s u : State) (ipc : ℕ) (ws vs : List ℕ) → Ready s → Holds s (ws ++ vs) ipc u
     → Fits u.memory u.registers.sp (s.registers.sp - 2 * length vs) ws
 operands_fit s u ipc ws vs ready h =
@@ -588,7 +588,7 @@ NodeEnds s vs next (Gives w) t = Holds s (w ∷ vs) next t
 NodeEnds s vs next (Fails e) t = Halts s e t
 NodeEnds s vs next Unsaid t = Unit {0}
 
--- a step whose row puts a value
+-- A step whose rule puts a value on the stack.
 settles : (s u : State) (i : Instr) (ws vs : List ℕ) (origin at : ℕ) (x : Said ℕ) (r : Result (List ℕ × ℕ) ExecError) → Ready s
     → Holds s (ws ++ vs) ((origin + at) % 65536) u → s.registers.np + 2 * (length vs + 1) ≤ s.registers.sp
     → fetched u.memory u.registers.ipc ≡ Ok i
@@ -666,7 +666,7 @@ node_of operation.Nothing s u origin at item ws vs ready st h more is = tt
 node_of operation.End s u origin at item ws vs ready st h more is = tt
 node_of operation.Unimplemented s u origin at item ws vs ready st h more is = tt
 
--- where an instruction ends, its item does
+-- The item ends where its instruction ends.
 to_size : (s : State) (vs : List ℕ) (origin at len : ℕ) (item : Item ℕ) (x : Said ℕ) (t : State) → len ≡ size at item
     → NodeEnds s vs ((origin + (at + len)) % 65536) x t → NodeEnds s vs ((origin + (at + size at item)) % 65536) x t
 to_size s vs origin at len item x t e h = subst (λ n. NodeEnds s vs ((origin + (at + n)) % 65536) x t) e h
@@ -726,7 +726,7 @@ values_count (Tree p missing operands before) s ws h =
     let last : length (parts_of operands ++ p ∷ []) ≡ length (parts_of operands) + 1 = length-append (parts_of operands) (p ∷ []) in
     rw (sym e) (omega (arith, fewer, both, last))
 
--- the part of a tree, behind its operands
+-- The part of a tree, after its operands.
 value_ends : (s t : State) (ipc next : ℕ) (others vs : List ℕ) (x : Said ℕ) → ipc ≡ next → NodeEnds s (others ++ vs) ipc x t
     → ForestEnds s vs next (then_said x (λ w. Gives (w ∷ others))) t
 value_ends s t ipc next others vs Unsaid e h = tt
@@ -749,7 +749,7 @@ part_ends s u origin at p others vs (Gives ws) ready even st more h =
     (p ∷ [])) % 65536) others vs (value_said s (operation_at p) ws)
     (ap (λ a. (origin + (a + size a p.item)) % 65536) st.0) ends
 
--- the operands and the part of a tree, behind the trees before it
+-- The operands and the part of a tree, after the trees before it.
 operands_end : (s t : State) (origin at : ℕ) (p : Part) (n : ℕ) (operands : Forest) (others vs : List ℕ) → Ready s → origin % 2 ≡ 0
     → StandFrom s origin at (p ∷ []) → s.registers.np + 2 * (length (others ++ vs) + 1) ≤ s.registers.sp
     → ForestEnds s (others ++ vs) ((origin + at) % 65536) (values_said s operands) (after_steps n t)
@@ -801,7 +801,7 @@ forest_ends (Tree p missing operands before) s u origin at vs ready even h st ro
 
 -- ---- the last operation of a statement
 
--- lists that are alike at a place stay so where both are written
+-- If two lists are alike at a position, they are still alike there after the same write to both.
 alike_set : (xs ys : List ℕ) (k j w : ℕ) → length xs ≡ length ys → get_or xs j 0 ≡ get_or ys j 0 → get_or (set xs k w) j 0 ≡ get_or (set ys k w) j 0
 alike_set [] [] k j w size h = refl
 alike_set [] (y ∷ ys) k j w size h = absurd (omega (arith, size))
@@ -825,7 +825,7 @@ like_done (Writes a w) s m size like = like_written s m a w size like
 like_done (Jumps ipc) s m size like = like
 like_done GoesOn s m size like = like
 
--- what a last operation does to memory and registers: it takes all operands
+-- What the last operation does to memory and registers: it pops all operands.
 abbrev done_to : List ℕ → Registers → ℕ → Done → List ℕ × Registers
 done_to m r above d = (memory_behind d m, record r { sp = above; ipc = ipc_behind d r.ipc })
 
@@ -835,7 +835,7 @@ taking m r above x = then_said x (λ d. Gives (done_to m r above d))
 abbrev both_parts : State → Result (List ℕ × Registers) ExecError → Result State ExecError
 both_parts s r = r >>= λ t. Ok (record s { memory = t.0; registers = t.1 })
 
--- a step whose row takes all
+-- A step whose rule pops all operands.
 finishes : (s u : State) (i : Instr) (ws : List ℕ) (origin at : ℕ) (x : Said Done) (r : Result (List ℕ × Registers) ExecError) → Ready s
     → length s.memory ≡ 32768 → Holds s ws ((origin + at) % 65536) u → fetched u.memory u.registers.ipc ≡ Ok i
     → performed (operation_of i) (past_instruction i u) ≡ or_fails (both_parts (past_instruction i u) r)
@@ -867,7 +867,7 @@ finishes s u i ws origin at (Gives d) r ready size h there does agrees =
 
 -- ---- stores
 
--- what a row on the stack gives, with the registers
+-- The result of a rule on the stack, together with the registers.
 abbrev with_sp : Registers → Result (List ℕ × ℕ) ExecError → Result (List ℕ × Registers) ExecError
 with_sp r row = row >>= λ t. Ok (t.0, record r { sp = t.1 })
 
@@ -882,7 +882,7 @@ written_agrees m r above a w = elim (cases_Bool (is_even a)) [
   | inr odd ↦ rw odd refl
 ]
 
--- a store of a variable
+-- A store of a variable.
 store_agrees : (o : Variable) (s : State) (m : List ℕ) (r : Registers) (ws : List ℕ) → IsLike s m → r.base ≡ s.registers.base → r.mp ≡ s.registers.mp
     → Fits m r.sp s.registers.sp ws → Agrees (taking m r s.registers.sp (store_said s o ws)) (with_sp r (variable_row o m r))
 unfolding variable_row store_row
@@ -902,7 +902,7 @@ store_agrees (variable.Store scope b) s m r (w ∷ []) like base mp f =
     stored_there s m r (Gives a) place w above e h = rw (h, e) (written_agrees m r above a w)
 store_agrees (variable.Store scope b) s m r (v ∷ w ∷ ws) like base mp f = tt
 
--- a store through an address
+-- A store through an address.
 store_through_agrees : (o : Pointer) (m : List ℕ) (r : Registers) (above : ℕ) (ws : List ℕ) → Fits m r.sp above ws
     → Agrees (taking m r above (store_through_said o ws)) (with_sp r (pointer_row o m r.sp r.np))
 unfolding pointer_row store_indirect_row
@@ -922,7 +922,7 @@ store_through_agrees (pointer.Move b) m r above ws f = tt
 
 -- ---- jumps
 
--- where a jump leads that stands at a place
+-- The address to which a jump leads.
 leads_agrees : (s : State) (m : List ℕ) (r : Registers) (origin at above : ℕ) (goal : Target ℕ) → IsLike s m → r.jtab ≡ s.registers.jtab
     → r.ipc ≡ (origin + (at + 2)) % 65536 → IsNear (at + 2) goal
     → Agrees (taking m r above (leads_said s origin goal)) (jumped true m (record r { sp = above }) (distance (at + 2) goal) >>= λ t. Ok (m, t))
@@ -956,7 +956,7 @@ register_parts : (s : State) (row : Result Registers ExecError) → or_fails (on
 register_parts s (Ok t) = refl
 register_parts s (Err e) = refl
 
--- a jump that may be taken
+-- A jump that may be taken.
 taken_agrees : (b : Bool) (x : Said Done) (m : List ℕ) (r : Registers) (above offset : ℕ)
     → Agrees (taking m r above x) (with_memory m (jumped true m (record r { sp = above }) offset))
     → Agrees (taking m r above (cond b x (Gives GoesOn))) (with_memory m (jumped b m (record r { sp = above }) offset))
@@ -990,7 +990,7 @@ short_agrees IfEqual x m r above offset (b ∷ a ∷ []) f h =
     rw (first_pop m r.sp above b (a ∷ []) f, first_pop m (r.sp + 2) above a [] g, sym same) (taken_agrees (a == b) x m r above offset h)
 short_agrees IfEqual x m r above offset (c ∷ b ∷ a ∷ ws) f h = tt
 
--- the offset of a short jump is its operand
+-- The offset of a short jump is its operand.
 compared_never : (o : Relation) (k : Option Kind) (c : Condition) (n : ℕ) → comparison_of o k ≡ operation.Jump (jump.Short c n) → ⊥
 compared_never o (Some k) c n h = cc
 compared_never o None c n h = cc
@@ -1016,7 +1016,7 @@ offset_is operation.Unimplemented i c n h = absurd (cc)
 
 -- ---- statements
 
--- the last part of a statement, of which these are the operands
+-- The last part of a statement, with its operands.
 all_fit : (s u : State) (ipc : ℕ) (ws : List ℕ) → Ready s → Holds s ws ipc u → Fits u.memory u.registers.sp s.registers.sp ws
 all_fit s u ipc ws ready h =
     let even = ready.stack.even_sp in

@@ -24,7 +24,7 @@ abbrev pub is_plain : Form → Bool
 is_plain forms.Plain = true
 is_plain _ = false
 
--- the names of so many opcodes from op on
+-- The names of the opcodes from `op` on, as many as the first argument states.
 names_from : ℕ → ℕ → List (List ℕ)
 names_from op zero = []
 names_from op (suc count) = mnemonic_of op ∷ names_from (op + 1) count
@@ -38,12 +38,12 @@ unfolding names_from named_in
 named_by_table name op zero = refl
 named_by_table name op (suc count) = ap (λ rest. if bytes_eq name (mnemonic_of op) then Some op else rest) (named_by_table name (op + 1) count)
 
--- whether the number of an opcode is in the range of its name's first opcode, and stands for it
+-- Whether the number of an opcode is in the range of the first opcode of its name, and represents it.
 gives : ℕ → ℕ → ℕ → Option (ℕ × ℕ) → Bool
 gives op first n None = false
 gives op first n (Some range) = nat_le range.0 n && (nat_le n range.1 && (nat_le n 127 && (first + (n - range.0) == op)))
 
--- whether the first opcode of a name is read as the opcode, given the number that stands in it
+-- Whether the first opcode of a name is read as the opcode, given the number in the name.
 found : ℕ → Option ℕ → Option ℕ → Bool
 found op number None = false
 found op None (Some first) = (first == op) && is_none (short_range op)
@@ -91,7 +91,7 @@ pub or_false : (a b : Bool) → a ≡ false → (a || b) ≡ true → b ≡ true
 or_false false b e h = h
 or_false true b e h = absurd (cc)
 
--- what is known of the name of an opcode
+-- The facts that are known about the name of an opcode.
 record IsKnown (op : ℕ) : Type 0 where
   front : IsFront (mnemonic_of op)
   keyword : keyword_of (mnemonic_of op) ≡ mnemonic_keyword (named_from (mnemonic_of op) 0 256)
@@ -118,13 +118,13 @@ known op l u =
       found = ap (found op (implied op)) (named_by_table word 0 256) ∙ four.1;
     }
 
--- A name of one opcode, in which no number stands.
+-- A name of one opcode, without a number.
 pub record IsNamed (op : ℕ) : Type 0 where
   pub front : IsFront (mnemonic_of op)
   pub keyword : keyword_of (mnemonic_of op) ≡ Some (Mnemonic op)
   pub alone : short_range op ≡ None
 
--- A name of several opcodes: the first of them, and the range of the numbers that stand in them.
+-- A name of several opcodes: the first opcode, and the range of the numbers in the names.
 pub record IsShort (op n : ℕ) : Type 0 where
   pub front : IsFront (mnemonic_of op)
   pub first : ℕ
@@ -202,7 +202,7 @@ is_short op n l u e =
         let more = and_parts (is_plain (form_of op)) (gives op first n (short_range first)) parts.1 in
         within first (short_range first) refl more.1 (plain_is (form_of first) parts.0) (k.keyword ∙ ap mnemonic_keyword s) k
 
--- A number stands only in opcodes without operands.
+-- Only opcodes without operands have a number in their name.
 pub no_number : (op : ℕ) → op < 256 → is_unassigned (form_of op) ≡ false → is_plain (form_of op) ≡ false → implied op ≡ None
 unfolding found
 no_number op l u f = let k : IsKnown op = known op l u in go (implied op) refl (named_from (mnemonic_of op) 0 256) k.found

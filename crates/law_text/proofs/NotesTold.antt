@@ -1,4 +1,4 @@
--- What is told of the segments and procedures of programs.
+-- The notes for the segments and procedures of programs.
 use Rattle.std.proofs.Common.{◌≡◌, ◌<◌, ◌≤◌, ℕ, zero, suc, ◌+◌, ◌-◌, ◌*◌, Bool, true, false, List, [], ◌∷◌, ◌++◌, length, map}
 use Rattle.std.proofs.Common.{replicate, get_or, refl, sym, ap, subst, ◌∙◌, arith, append_assoc, length-append, Option, Some, None}
 use Rattle.std.specs.Prelude.{◌==◌, ◌&&◌, nat_le, nat_lt, if◌then◌else◌, codes, option_map, slice_index, not, reverse}
@@ -50,7 +50,7 @@ below_sixteen P a b c d e f g h i j k l m o p q (suc (suc (suc (suc (suc (suc (s
     upper (suc (suc (suc (suc (suc (suc (suc zero))))))) s = q
     upper (suc (suc (suc (suc (suc (suc (suc (suc n)))))))) s = absurd (omega arith)
 
--- what a line of a segment is, as each note sees it
+-- A line of a segment, as each note sees it.
 record IsSegmentLine (n : ℕ) (name : List ℕ) : Type 0 where
   calls : name_called (segment_line n name) ≡ None
   native : is_native (segment_line n name) ≡ false
@@ -134,7 +134,7 @@ layout_kind names ns segments n named sixteen each low =
     ∙ word_in-right front (replicate 320 0) 192 (2 * n) long
     ∙ zero_word 320 (2 * n) (omega arith)
 
--- the names of a program's slots have 8 bytes
+-- The names of the slots of a program have 8 bytes.
 numbered_eight : (n : ℕ) (ss : List Segment) → AllByRecursion IsSegment ss → length (name_of_segment (segment_numbered n ss)) ≡ 8
 numbered_eight n [] h = refl
 numbered_eight n (s ∷ ss) h = by (s.number == n) (numbered_eight n ss h.1)
@@ -231,7 +231,7 @@ others_told file (d ∷ ds) rest h = let no : (d == 48) ≡ false = not_zero d h
     not_zero : (d : ℕ) → 48 < d → (d == 48) ≡ false
     not_zero d h = grind (arith, nat_tests)
 
--- what stands behind the number of a procedure
+-- The text after the number of a procedure.
 abbrev behind_number : ℕ → ℕ → ℕ → List ℕ
 behind_number level parameters locals = words_text (level_text level ∷ decimal parameters ∷ decimal locals ∷ [])
 

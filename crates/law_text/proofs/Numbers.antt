@@ -19,7 +19,7 @@ use Rattle.pm_source.specs.Line.{byte_operand, slot_operand, word_operand, bound
 use Rattle.law_text.proofs.Cutting.{and_parts, and_turned}
 use Rattle.law_text.proofs.Operanded.{IsWord}
 
--- digits, at least one
+-- The list `ds` is not empty and consists of decimal digits.
 pub record IsShown (n : ℕ) (ds : List ℕ) : Type 0 where
   pub some : is_empty ds ≡ false
   pub digits : list_all is_ascii_digit ds ≡ true
@@ -52,7 +52,7 @@ unsigned_again n h negative =
     let digits = s.digits in
     rw (some, digits, v, m) refl
 
--- where the first is a digit, no sign is read
+-- If the first character is a digit, no sign is read.
 no_sign : (ds : List ℕ) → is_empty ds ≡ false → list_all is_ascii_digit ds ≡ true → number ds ≡ decimal_number false ds
 no_sign [] e h = absurd (cc)
 no_sign (c ∷ cs) e h =
@@ -108,7 +108,7 @@ pub padded_value : (width n : ℕ) → n < 2 ^ 64 → digits_value 10 (padded wi
 unfolding padded
 padded_value width n h = zeros_value (width - length (decimal n)) (decimal n) ∙ (decimal_is_IsNumeral n h).1
 
--- a number with zeros in front is a word
+-- A number with zeros before it is one part, without spaces.
 pub padded_word : (width n : ℕ) → n < 2 ^ 64 → IsWord (padded width n)
 unfolding padded
 padded_word width n h = record { some = behind (width - length (decimal n)); plain = digit_names (padded width n) (padded_digits width n h) }
@@ -117,7 +117,7 @@ padded_word width n h = record { some = behind (width - length (decimal n)); pla
     behind zero = let s : IsShown n (decimal n) = shown n h in s.some
     behind (suc k) = refl
 
--- Labels of different places differ.
+-- The labels of different offsets differ.
 pub same_label : (m n : ℕ) → m < 2 ^ 64 → n < 2 ^ 64 → label_text m ≡ label_text n → m ≡ n
 same_label m n h k e = sym (padded_value 5 m h) ∙ ap tail_value e ∙ padded_value 5 n k
   where
@@ -138,7 +138,7 @@ label_name n h =
     let digits = digit_continues (padded 5 n) (padded_digits 5 n (omega arith)) in
     rw (five, digits) refl
 
--- numbers as operands
+-- Numbers as operands.
 pub byte_shown : (b : ℕ) → b < 256 → byte_operand (decimal b) ≡ Some (b, true)
 byte_shown b h =
     let read = number_shown b (omega arith) in

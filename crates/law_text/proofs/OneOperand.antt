@@ -1,4 +1,4 @@
--- A number is read as its value, however it is written.
+-- A number is read as its value, in every notation.
 use Rattle.std.proofs.Common.{◌≡◌, ◌<◌, ◌-◌, ℕ, zero, suc, Bool, true, false, List, [], ◌∷◌, ◌++◌, length}
 use Rattle.std.proofs.Common.{map, reverse, refl, sym, ap, subst, ◌∙◌, arith, inl, inr, Option, Some, None}
 use Rattle.std.specs.Prelude.{◌==◌, ◌&&◌, ◌||◌, not, is_some, min, nat_lt, slice_index, if◌then◌else◌}
@@ -30,7 +30,7 @@ use Rattle.law_text.proofs.Numbers.{number_shown}
 use Rattle.law_text.proofs.Quoting.{all_but_last, marked, one_less}
 use Rattle.law_text.proofs.Operanded.{append_nil, first_of_words}
 
--- zeros in front, and hexadecimal digits
+-- Zeros before the digits, and hexadecimal digits.
 pub number_without_zero : NumberWithoutZero
 number_without_zero c digits h =
     let minus : (c == 45) ≡ false = grind (arith, nat_tests) in
@@ -83,7 +83,7 @@ base_says_nothing digits h = by (is_empty digits) (nat_lt 4 (length digits)) (li
     by false true c e f g k = absurd (cc)
     by false false false e f g k = absurd (cc)
 
--- The text of a number: its first character, and what all are not.
+-- The text of a number: its first character, and the characters that it does not have.
 abbrev is_numberly : ℕ → Bool
 is_numberly c = is_ascii_hexdigit c || (c == 45) || (c == 36)
 
@@ -151,7 +151,7 @@ is_number (c ∷ cs) h = by (c == 45) (c == 36) refl refl h
         let parts = and_parts (is_ascii_digit c) (list_all is_ascii_digit cs) (decimals false (c ∷ cs) k).1 in
         record { first = c; others = cs; text = refl; begins = digit parts.0; all = of_digits cs parts.1 }
 
--- what the text of a number is not
+-- Characters that the text of a number does not have.
 unmarked_from : (cs : List ℕ) (i : ℕ) → list_all is_numberly cs ≡ true → (slice_index cs i == 33) ≡ false
 unmarked_from [] i h = refl
 unmarked_from (c ∷ cs) zero h = one c (and_parts _ _ h).0
@@ -160,7 +160,7 @@ unmarked_from (c ∷ cs) zero h = one c (and_parts _ _ h).0
     one c h = grind (arith, nat_tests)
 unmarked_from (c ∷ cs) (suc i) h = unmarked_from cs i (and_parts _ _ h).1
 
--- What reads a number as its value, and the rest as no operand of its kind.
+-- A number is read by its value, and not as another kind of operand.
 record IsRead (t : List ℕ) : Type 0 where
   marked : is_marked t ≡ false
   jump : jump_operand t ≡ None
@@ -213,7 +213,7 @@ IsSame t u = (is_some (number t) ≡ true) × (number t ≡ number u)
 other_number : (t u : List ℕ) → IsSame t u → IsRead u
 other_number t u h = read_number u (ap is_some (sym h.1) ∙ h.0)
 
--- each kind of operand
+-- Each kind of operand.
 number_one : (t u : List ℕ) → IsOneOperand t u → number t ≡ number u
 number_one t u (inl e) = ap number e
 number_one t u (inr h) = h.1
@@ -253,7 +253,7 @@ all_one operand k (t ∷ ts) (u ∷ us) z =
 all_one operand k [] (u ∷ us) z = absurd z
 all_one operand k (t ∷ ts) [] z = absurd z
 
--- what has one operand, or two
+-- Functions of one operand, or of two.
 single : {A : Type 0} (f : List (List ℕ) → A) → ((t u : List ℕ) → IsOneOperand t u → f (t ∷ []) ≡ f (u ∷ []))
     → ((t s u r : List ℕ) (ts us : List (List ℕ)) → f (t ∷ s ∷ ts) ≡ f (u ∷ r ∷ us)) → (ts us : List (List ℕ)) → AllZip IsOneOperand ts us → f ts ≡ f us
 single f one more [] [] z = refl
@@ -391,7 +391,7 @@ procedures_one (a ∷ b ∷ c ∷ d ∷ x ∷ xs) (e ∷ f ∷ g ∷ h ∷ []) z
 segments_one : (n m name : List ℕ) → IsOneOperand n m → segment_operands (n ∷ name ∷ []) ≡ segment_operands (m ∷ name ∷ [])
 segments_one n m name h = let e = number_one n m h in rw e refl
 
--- a number as a part of an operand
+-- A number as a part of an operand.
 marked_one : (n m : List ℕ) → IsOneOperand n m → number_operand (n ++ 33 ∷ []) ≡ number_operand (m ++ 33 ∷ [])
 marked_one n m h = part n ∙ ap (λ o. o >>= λ v. Some ((v.0, true), v.1)) (numeral_one 0 127 65536 n m h) ∙ sym (part m)
   where

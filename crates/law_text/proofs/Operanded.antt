@@ -52,7 +52,7 @@ reversed_some (c ∷ w) e = ap is_empty (reverse-append (c ∷ []) w) ∙ some_m
     some_more [] ys = refl
     some_more (x ∷ xs) ys = refl
 
--- A word between blanks.
+-- A part between spaces.
 pub record IsWord (w : List ℕ) : Type 0 where
   pub some : is_empty w ≡ false
   pub plain : list_all is_name_character w ≡ true
@@ -85,7 +85,7 @@ all_trimmed : (ts : List (List ℕ)) → AllByRecursion IsOperand ts → map tri
 all_trimmed [] h = refl
 all_trimmed (t ∷ ts) h = ap (λ u. u ∷ map trimmed (map (λ t. 32 ∷ t) ts)) (back_trimmed t h.0) ∙ ap (λ us. t ∷ us) (all_trimmed ts h.1)
 
--- the pieces of operands, each behind a blank
+-- The pieces of operands, each after a space.
 one_piece : (t rest p : List ℕ) (ps : List (List ℕ)) → IsOperand t → pieces false rest ≡ p ∷ ps → pieces false (32 ∷ t ++ rest) ≡ (32 ∷ t ++ p) ∷ ps
 one_piece t rest p ps o e = ap (onto_first 32) (o.piece rest p ps e)
 
@@ -151,7 +151,7 @@ words_end : (ws : List (List ℕ)) → ends_word (words_text ws) ≡ true
 words_end [] = refl
 words_end (w ∷ ws) = refl
 
--- The words that are shown are read again.
+-- The parts that are shown are read again.
 pub words_shown : (ws : List (List ℕ)) → AllByRecursion IsWord ws → words (words_text ws) ≡ ws
 words_shown [] h = refl
 words_shown (w ∷ ws) h = first_of_words w (words_text ws) h.0.some h.0.plain (words_end ws) ∙ ap (λ us. w ∷ us) (words_shown ws h.1)
@@ -168,7 +168,7 @@ pub words_rest : (ws : List (List ℕ)) → AllByRecursion IsWord ws → IsRest 
 words_rest [] h = record { behind = refl; characters = refl; whole = refl }
 words_rest (w ∷ ws) h = record { behind = refl; characters = words_characters (w ∷ ws) h; whole = words_whole (w ∷ ws) h }
 
--- Two words with a blank between them are one operand.
+-- Two parts with a space between them are one operand.
 pub two_words : (a b : List ℕ) → IsOperand a → IsOperand b → IsOperand (a ++ 32 ∷ b)
 two_words a b f g = record {
   characters = list_all-append is_character a (32 ∷ b) ∙ and_turned _ _ f.characters g.characters;

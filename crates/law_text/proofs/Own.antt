@@ -1,4 +1,4 @@
--- A procedure's own count of entries gives its items; a smaller count needs as many entries.
+-- The count of entries of a procedure produces its items; a smaller count needs as many entries.
 use Rattle.std.proofs.Common.{◌≡◌, ◌≤◌, ℕ, ◌+◌, Bool, true, false, eqb, List, [], ◌∷◌, ◌++◌, length, refl, sym, ap}
 use Rattle.std.proofs.Common.{◌∙◌, subst, arith, inl, inr, append-nil, append_assoc, length-append, Option, Some, None}
 use Rattle.std.specs.List.{list_all, AllByRecursion}
@@ -43,7 +43,7 @@ written-append ends allowed (p ∷ ps) qs =
     ap (λ xs. written_as ends allowed p.bytes p.item ++ xs) (written-append ends allowed ps qs)
     ∙ sym (append_assoc (written_as ends allowed p.bytes p.item) (written ends allowed ps) (written ends allowed qs))
 
--- the boundaries of items are where their parts begin, and where the next part does
+-- The boundaries of items are the beginnings of their parts and of the next part.
 ends_behind : (at : ℕ) (items : List (Item ℕ)) (ps : List Part) (end place : ℕ) → IsIn (ends_of end ps) (end_of at items) → IsIn (boundaries at items) place
     → IsIn (ends_of end (parts_of_items at items ++ ps)) place
 ends_behind at [] ps end place h k =
@@ -54,7 +54,7 @@ ends_behind at (item ∷ items) ps end place h k = elim (either (eqb at place) (
       (ends_behind (at + size at item) items ps end place h e)
 ]
 
--- the first part begins where the bytes do
+-- The first part begins where the bytes begin.
 first_begins : (at end : ℕ) (b : ℕ) (bytes : List ℕ) (ps : List Part) (o : Option Front) → IsIn (ends_of end (part_of at (b ∷ bytes) o ∷ ps)) at
 first_begins at end b bytes ps None = let t : eqb at at ≡ true = eq-eqb _ _ refl in rw t refl
 first_begins at end b bytes ps (Some f) = let t : eqb at at ≡ true = eq-eqb _ _ refl in rw t refl
@@ -68,13 +68,14 @@ pub needed-append : (xs ys : List (Item ℕ)) → entries_needed xs ≤ entries_
 needed-append [] ys = omega arith
 needed-append (x ∷ xs) ys = omega (arith, needed-append xs ys)
 
--- What is written for the bytes behind the code of items.
+-- The items that are written for the bytes after the code of items.
 abbrev pub items_behind : List ℕ → ℕ → List (Item ℕ) → List ℕ → List (Item ℕ)
 items_behind forced at items behind =
     let code = code_bytes at items ++ behind in
     written (ends_of (at + length code) (parts forced 0 at code)) true (parts forced 0 (end_of at items) behind)
 
--- What is written for the code of instructions with something behind it begins with them, the forced places being boundaries.
+-- If the forced offsets are boundaries, the items written for the code of instructions with bytes after it begin with
+-- these instructions.
 pub items_first : (forced : List ℕ) (at : ℕ) (items : List (Item ℕ)) (behind : List ℕ) → AreItems at items → AreInstructions items
     → AllByRecursion (IsIn (boundaries at items)) forced → AllByRecursion (NamesWithin (boundaries at items)) items
     → items_in forced true at (code_bytes at items ++ behind) ≡ items ++ items_behind forced at items behind
@@ -92,14 +93,14 @@ items_first forced at items behind h i f w =
     ∙ written-append ends true (parts_of_items at items) next
     ∙ ap (λ xs. xs ++ written ends true next) (all_written ends at items named)
 
--- What is written for the code of instructions alone are these.
+-- The items written for only the code of instructions are these instructions.
 pub items_again : (forced : List ℕ) (at : ℕ) (items : List (Item ℕ)) → AreItems at items → AreInstructions items
     → AllByRecursion (IsIn (boundaries at items)) forced → AllByRecursion (NamesWithin (boundaries at items)) items
     → items_in forced true at (code_bytes at items) ≡ items
 items_again forced at items h i f w =
     ap (items_in forced true at) (sym (append-nil (code_bytes at items))) ∙ items_first forced at items [] h i f w ∙ append-nil items
 
--- With something behind it no fewer entries are needed.
+-- With bytes after the code, no fewer entries are needed.
 pub at_least_as_many : (forced : List ℕ) (at : ℕ) (items : List (Item ℕ)) (behind : List ℕ) → AreItems at items → AreInstructions items
     → AllByRecursion (IsIn (boundaries at items)) forced → AllByRecursion (NamesWithin (boundaries at items)) items
     → entries_needed items ≤ entries_needed (items_in forced true at (code_bytes at items ++ behind))

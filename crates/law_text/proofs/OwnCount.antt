@@ -1,4 +1,4 @@
--- A procedure of instructions is read with its own count of entries, and with no smaller one.
+-- A procedure of instructions is read with its own count of entries, and with no smaller count.
 use Rattle.std.proofs.Common.{◌≡◌, ◌<◌, ◌≤◌, ℕ, zero, suc, ◌+◌, ◌-◌, ◌*◌, Bool, true, false, List, [], ◌∷◌, ◌++◌, length}
 use Rattle.std.proofs.Common.{take, drop, reverse, refl, sym, ap, ◌∙◌, subst, arith, append_assoc, append-nil, drop-drop}
 use Rattle.std.specs.Prelude.{◌&&◌, nat_le, ◌==◌}
@@ -18,7 +18,7 @@ use Rattle.law_text.proofs.Again.{later, earlier}
 use Rattle.law_text.proofs.Own.{items_again, at_least_as_many}
 use Rattle.pm_disasm.proofs.Stored.{Table, entries_read, entries_after}
 
--- what stands behind the code of a procedure
+-- The bytes after the code of a procedure.
 abbrev pub behind_code : ℕ → Procedure → List ℕ → List ℕ
 behind_code number p rest = entry_bytes (code_end p) (reverse p.entries) ++ (attribute_bytes number p ++ rest)
 
@@ -29,7 +29,7 @@ code_there segment number p s =
     s.there ∙ append_assoc (code_of p) (entries ++ attribute_bytes number p) s.rest
     ∙ ap (λ bs. code_of p ++ bs) (append_assoc entries (attribute_bytes number p) s.rest)
 
--- its jump table
+-- The jump table of the procedure.
 pub table_there : (segment : List ℕ) (number : ℕ) (p : Procedure) (s : StandsIn segment number p)
     → Table segment (code_end p) (jtab_of p) 0 p.entries (attribute_bytes number p ++ s.rest)
 table_there segment number p s =
@@ -40,7 +40,7 @@ table_there segment number p s =
       ends = omega arith;
     }
 
--- its code, and what a smaller count takes for code too
+-- The code of the procedure, and what a smaller count reads as code too.
 pub code_taken : (segment : List ℕ) (number t : ℕ) (p : Procedure) (s : StandsIn segment number p) → t ≤ length p.entries
     → code_with segment (attributes_of number p) t ≡ code_of p ++ take (2 * (length p.entries - t)) (behind_code number p s.rest)
 code_taken segment number t p s n =
@@ -48,7 +48,7 @@ code_taken segment number t p s n =
     ap (λ k. take k (drop p.start segment)) count ∙ ap (take (length (code_of p) + 2 * (length p.entries - t))) (code_there segment number p s)
     ∙ take-append-add (code_of p) (behind_code number p s.rest) (2 * (length p.entries - t))
 
--- its entries lie in its code
+-- The entries of the procedure are in its code.
 pub entries_inside : (p : Procedure) → IsProcedure p → AllByRecursion (λ place. (p.start ≤ place) × (place ≤ code_end p)) p.entries
 entries_inside p h =
     all-map (IsIn (places_of p)) (λ place. (p.start ≤ place) × (place ≤ code_end p)) p.entries
@@ -68,7 +68,7 @@ all_taken P (suc n) (x ∷ xs) h = (h.0, all_taken P n xs h.1)
 pub level_again : (level : ℕ) → level < 256 → cast_unsigned w8 (cast_signed w8 level) ≡ level
 level_again level h = of_z-to_z w8 level h
 
--- With its own count a procedure of instructions is read.
+-- With its own count, a procedure of instructions is read as itself.
 pub own_count : (segment : List ℕ) (number : ℕ) (p : Procedure) → StandsIn segment number p → AreInstructions p.items
     → procedure_with segment (attributes_of number p) true (length p.entries) ≡ p
 own_count segment number p s i =
@@ -89,7 +89,7 @@ all_below : (end : ℕ) (places : List ℕ) → AllByRecursion (λ place. place 
 all_below end [] h = refl
 all_below end (place ∷ places) h = and_from _ _ (le-leb _ _ h.0) (all_below end places h.1)
 
--- It fits.
+-- The count of the procedure fits.
 pub own_fits : (segment : List ℕ) (number : ℕ) (p : Procedure) → StandsIn segment number p → AreInstructions p.items
     → fits segment (attributes_of number p) (length p.entries) ≡ true
 own_fits segment number p s i =
@@ -119,7 +119,7 @@ none_true : (a : Bool) → (a && false) ≡ false
 none_true true = refl
 none_true false = refl
 
--- A smaller one does not.
+-- A smaller count does not fit.
 pub smaller_count_fails : SmallerCountFails
 smaller_count_fails segment number p t s i n =
     let a = attributes_of number p in

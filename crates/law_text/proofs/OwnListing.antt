@@ -1,4 +1,4 @@
--- The listing of a segment's bytes is that of the program that they spell.
+-- The listing of the bytes of a segment is that of the program that they spell.
 use Rattle.std.proofs.Common.{◌≡◌, ℕ, ◌+◌, ◌-◌, ◌*◌, false, cond, ltb, List, [], ◌∷◌, ◌++◌, length, map, drop, take}
 use Rattle.std.proofs.Common.{reverse, refl, sym, ap, ◌∙◌, arith, append-nil, append_assoc, drop-drop, length-append}
 use Rattle.std.specs.Prelude.{codes}
@@ -26,7 +26,7 @@ use Rattle.law_text.proofs.ShownSegment.{AllFound, shown_from, shown_well}
 use Rattle.law_text.proofs.Standing.{dictionary_there}
 use Rattle.pm_disasm.proofs.Stores.{lines_joined}
 
--- a line with the bytes that stand where it says
+-- A line with the bytes that are at its offset.
 abbrev restored : List ℕ → Listed → Listed
 restored segment l = stored segment l.procedure l.at (length l.bytes) l.what
 
@@ -35,7 +35,7 @@ line_restored segment rest at l here there =
     ap (λ bs. record { procedure = l.procedure; at = l.at; bytes = bs; what = l.what })
     (ap (λ n. take (length l.bytes) (drop n segment)) here ∙ ap (take (length l.bytes)) there ∙ take-append_seam l.bytes rest)
 
--- lines that stand one behind another are those of the bytes there
+-- Lines that follow each other are those of the bytes at their offsets.
 lines_restored : (segment rest : List ℕ) (at : ℕ) (ls : List Listed) → drop at segment ≡ listed_bytes ls ++ rest → StandFrom at ls
     → map (restored segment) ls ≡ ls
 lines_restored segment rest at [] h s = refl
@@ -59,7 +59,7 @@ entries_are segment number at [] = refl
 entries_are segment number at (place ∷ places) =
     ap (λ ls. stored segment number at 2 (entry_line place) ∷ ls) (entries_are segment number (at + 2) places)
 
--- the lines of a procedure and of what follows it
+-- The lines of a procedure, and those of what follows it.
 procedure_is : (segment : List ℕ) (number : ℕ) (p : Procedure) (rest : List Listed)
     → map (restored segment) (listed_procedure number p rest)
     ≡ stored_procedure segment (attributes_of number p) p ++ map (restored segment) rest
@@ -78,7 +78,7 @@ procedure_is segment number p rest =
     ∙ sym (append_assoc items (entries ++ last ∷ []) (map f rest))
     ∙ ap (λ n. (items ++ (stored_entries segment number n (reverse p.entries) ++ last ∷ [])) ++ map f rest) (sym at)
 
--- each procedure is read as itself
+-- Each procedure is read as itself.
 abbrev AllOwn : List ℕ → ℕ → List Procedure → Type 0
 AllOwn segment number [] = Unit {0}
 AllOwn segment number (p ∷ ps) = (procedure_of segment (attributes_of number p) ≡ p) × AllOwn segment (number + 1) ps

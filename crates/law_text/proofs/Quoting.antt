@@ -56,7 +56,7 @@ marked ds =
     let some : nat_le 1 (length (ds ++ 33 ∷ [])) ≡ true = grind (arith, common_steps, nat_tests) in
     rw (some, less, last) refl
 
--- a number with its mark or without it
+-- A number with its mark, or without it.
 abbrev mark_if : ℕ → Bool → List ℕ
 mark_if n marked = decimal n ++ (if marked then codes "!" else [])
 
@@ -94,14 +94,14 @@ small_if : (n : ℕ) (long : Bool) → (long && nat_lt n 128) ≡ true → n < 1
 small_if n true e = grind (arith, nat_tests)
 small_if n false e = absurd (cc)
 
--- a number that is marked where it has two bytes and needs one
+-- A number has its mark if it has two bytes and one byte would be enough.
 pub number_text_shown : (n : ℕ) (long : Bool) → n < 32768 → number_operand (number_text n long) ≡ Some ((n, long && nat_lt n 128), true)
 number_text_shown n long h = mark_shown n (long && nat_lt n 128) h (small_if n long)
 
 pub marked_word : (n : ℕ) (long : Bool) → n < 2 ^ 64 → IsWord (number_text n long)
 marked_word n long h = mark_word n (long && nat_lt n 128) h
 
--- a target as a text has it
+-- A target as it is in a text.
 abbrev pub shown_target : Target ℕ → Target Name
 shown_target (To place) = To (label_text place)
 shown_target (Through k) = Through k
@@ -122,7 +122,7 @@ pub target_word : (t : Target ℕ) → IsWritable t → IsWord (target_text t)
 target_word (To place) h = label_word place (omega arith)
 target_word (Through k) h = let w : IsWord (decimal k) = decimal_word k (omega arith) in record { some = refl; plain = w.plain }
 
--- lists of words and of labels
+-- Lists of numbers and of labels.
 pub words_again : (ws : List ℕ) → AllByRecursion (λ w. w < 65536) ws → all_operands word_operand (map decimal ws) ≡ Some (ws, true)
 words_again [] h = refl
 words_again (w ∷ ws) h =
@@ -147,7 +147,7 @@ pub same_count : (places : List ℕ) → length (map label_text places) ≡ leng
 same_count [] = refl
 same_count (p ∷ places) = omega (arith, same_count places)
 
--- quoted text
+-- Quoted text.
 unhex : (d : ℕ) → d < 16 → lower_hex (hex_digit d) ≡ Some d
 unhex d h = grind (arith, nat_tests)
 
@@ -177,7 +177,7 @@ all_again : (bytes : List ℕ) → AllByRecursion IsByte bytes → unescaped (fl
 all_again [] h = refl
 all_again (c ∷ bytes) h = escaped_again c (flat_map escaped bytes) bytes h.0 (all_again bytes h.1)
 
--- what stands between quotes: characters that are no quote
+-- Characters between quotes: all valid characters except a quote.
 abbrev is_inner : ℕ → Bool
 is_inner c = is_character c && not (c == 34)
 

@@ -1,4 +1,4 @@
--- In the rows of shown code the exit stands once, where it is, and no label stands twice.
+-- The rows of shown code contain the exit once, at its offset, and no label twice.
 use Rattle.std.proofs.Common.{◌≡◌, ◌<◌, ℕ, ◌^◌, ◌+◌, Bool, true, false, eqb, List, [], ◌∷◌, refl, sym, ap, ◌∙◌, arith, Some, None}
 use Rattle.std.specs.Prelude.{◌==◌}
 use Rattle.std.specs.List.{AllByRecursion, IsDistinct}
@@ -39,7 +39,7 @@ exit_passed n used exit at rows e =
     ap (λ b. exit_place at (put_if (is_among used at) (Items n (Some (label_text at)) []) (put_if b Exit rows))) e
     ∙ there (is_among used at) n at (label_text at) rows
 
--- The exit stands where it is.
+-- The exit is at its offset.
 pub exit_stands : (n : ℕ) (used : List ℕ) (exit at : ℕ) (items : List (Item ℕ)) → IsIn (boundaries at items) exit
     → exit_place at (rows_of n used exit at items) ≡ exit
 exit_stands n used exit at [] i = go (eqb exit at) refl
@@ -81,7 +81,7 @@ no_exits n used exit at (item ∷ items) h =
     no_exit_at n used exit at (Items m None (labelled_item item ∷ []) ∷ more) (below exit at h)
     ∙ no_exits (m + 1) used exit (at + size at item) items (omega (arith, h))
 
--- The exit stands once.
+-- The exit occurs once.
 pub one_exit : (n : ℕ) (used : List ℕ) (exit at : ℕ) (items : List (Item ℕ)) → IsIn (boundaries at items) exit → exits_of (rows_of n used exit at items) ≡ 1
 one_exit n used exit at [] i = go (eqb exit at) refl
   where
@@ -105,7 +105,7 @@ one_exit n used exit at (item ∷ items) i = go (eqb exit at) refl (one_exit (li
         no_exit_at n used exit at (Items m None (labelled_item item ∷ []) ∷ more) e
         ∙ f (or_false (at == exit) (is_among (boundaries (at + size at item) items) exit) (turned exit at e) i)
 
--- a name that is none of the labels
+-- A name that is not one of the labels.
 abbrev IsOther : Name → List Row → Type 0
 IsOther name rows = AllByRecursion (λ label. bytes_eq name label ≡ false) (labels_of rows)
 
@@ -141,7 +141,7 @@ no_names : IsDistinct bytes_eq []
 unfolding IsDistinct
 no_names = tt
 
--- No label stands twice.
+-- No label occurs twice.
 pub labels_distinct : (n : ℕ) (used : List ℕ) (exit at : ℕ) (items : List (Item ℕ)) → end_of at items < 2 ^ 64
     → IsDistinct bytes_eq (labels_of (rows_of n used exit at items))
 labels_distinct n used exit at [] l =

@@ -1,4 +1,4 @@
--- A code file that holds a program is shown as a program of the same bytes.
+-- A code file that holds a program is shown as a program with the same bytes.
 use Rattle.std.proofs.Common.{◌≡◌, ◌<◌, ◌≤◌, ℕ, zero, suc, ◌+◌, ◌-◌, true, false, cond, eqb, List, [], ◌∷◌, ◌++◌}
 use Rattle.std.proofs.Common.{length, map, replicate, reverse, refl, sym, ap, ◌∙◌, subst, arith, inl, inr, Some, None}
 use Rattle.std.specs.Prelude.{◌&&◌, ◌||◌, not, nat_le, ◌==◌, option_map}
@@ -23,7 +23,7 @@ all-reverse : (P : ℕ → Type 0) (xs : List ℕ) → AllByRecursion P xs → A
 all-reverse P [] h = tt
 all-reverse P (x ∷ xs) h = subst (AllByRecursion P) (sym (reverse-append (x ∷ []) xs)) (all-append P (reverse xs) (x ∷ []) (all-reverse P xs h.1) (h.0, tt))
 
--- spaces at the front are cut
+-- Spaces at the beginning are removed.
 cut-spaces : (xs ys : List ℕ) → AllByRecursion (λ c. c ≡ 32) xs → cut (xs ++ ys) ≡ cut ys
 cut-spaces [] ys h = refl
 cut-spaces (x ∷ xs) ys h = let t : eqb x 32 ≡ true = eq-eqb x 32 h.0 in rw t (cut-spaces xs ys h.1)
@@ -52,7 +52,7 @@ marked : (xs : List ℕ) → 1 ≤ length xs → or_mark xs ≡ xs
 marked [] h = absurd (omega arith)
 marked (x ∷ xs) h = refl
 
--- The name of a program's segment is shown as it is.
+-- The name of a segment of a program is shown as it is.
 name_shown : (name : List ℕ) (n : ℕ) → is_segment_name name ≡ true → shown_name (name ++ replicate n 32) ≡ name
 name_shown name n h =
     let parts = and_parts (nat_le 1 (length name) && nat_le (length name) 8) (list_all is_name_character name) h in
@@ -67,7 +67,7 @@ name_shown name n h =
     ∙ ap or_mark (same_characters name good)
     ∙ marked name some
 
--- below its first segment a program has none
+-- A program has no segment below its first.
 none_below : (n least : ℕ) (ss : List Segment) → n < least → AscendFrom least ss → segment_numbered n ss ≡ None
 none_below n least [] l h = refl
 none_below n least (s ∷ ss) l h =
@@ -77,7 +77,7 @@ none_below n least (s ∷ ss) l h =
 later_numbered : (n m : ℕ) (s : Segment) (ss : List Segment) → s.number ≡ n → n < m → segment_numbered m (s ∷ ss) ≡ segment_numbered m ss
 later_numbered n m s ss e l = let t : eqb s.number m ≡ false = grind (arith, nat_tests, e) in rw t refl
 
--- the segments that are left hold all slots from one slot on
+-- The segments that remain are those of all slots from slot `n` on.
 record Left (file : List ℕ) (ss left : List Segment) (n : ℕ) : Type 0 where
   well : AllByRecursion ShownWell left
   sound : AllByRecursion IsSegment left

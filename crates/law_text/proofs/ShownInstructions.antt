@@ -1,4 +1,4 @@
--- The operands of an instruction that names no place are read again, form by form.
+-- The operands of an instruction that names no offset are read again, form by form.
 use Rattle.std.proofs.Common.{◌≡◌, ◌<◌, ℕ, zero, suc, ◌+◌, ◌*◌, ◌/◌, ◌%◌, Bool, true, false, eqb}
 use Rattle.std.proofs.Common.{List, [], ◌∷◌, ◌++◌, length, refl, sym, ap, subst, ◌∙◌, arith, Some}
 use Rattle.std.specs.Prelude.{◌&&◌, ◌==◌, nat_le, nat_lt, codes, if◌then◌else◌}
@@ -25,7 +25,7 @@ use Rattle.law_text.proofs.Numbers.{decimal_word, byte_shown, word_shown}
 use Rattle.law_text.proofs.Quoting.{number_text_shown, marked_word, words_again, words_operands, quoted_operand, text_shown}
 use Rattle.law_text.proofs.Mnemonics.{is_plain}
 
--- What an instruction is whose operands have a form.
+-- The facts about an instruction whose operands have a form.
 pub record IsOfForm (form : Form) (i : Instr) (named : List ℕ) : Type 0 where
   pub ranges : in_range form i ≡ true
   pub word : i.a < 65536
@@ -34,7 +34,7 @@ pub record IsOfForm (form : Form) (i : Instr) (named : List ℕ) : Type 0 where
   pub count : length named ≡ i.count
   pub bytes : AllByRecursion IsByte named
 
--- what an instruction that names these bytes is said as
+-- The meaning of an instruction with these operand bytes.
 abbrev pub said_plain : Instr → List ℕ → Said (Item Name)
 said_plain i named = Some (Plain i named, NoFlaw)
 
@@ -54,7 +54,7 @@ none_named : (named : List ℕ) (n : ℕ) → length named ≡ n → 0 ≡ n →
 none_named [] n e f = refl
 none_named (b ∷ named) n e f = absurd (omega (arith, e, f))
 
--- an instruction that names no bytes
+-- An instruction without operand bytes.
 pub unnamed : (i j : Instr) (named : List ℕ) → j ≡ i → length named ≡ i.count → j.count ≡ 0 → said_plain j [] ≡ said_plain i named
 unnamed i j named e l z = ap (λ k. said_plain k []) e ∙ ap (said_plain i) (none_named named i.count l (sym z ∙ ap (λ k. k.count) e))
 
@@ -144,7 +144,7 @@ chars_is i named h =
     at_most : (n : ℕ) → n < 256 → nat_le n 255 ≡ true
     at_most n h = grind (arith, nat_tests)
 
--- what words of bytes are
+-- The words of bytes.
 record AreWordsOf (bytes ws : List ℕ) : Type 0 where
   flat : flat_words ws ≡ bytes
   ranges : AllByRecursion (λ w. w < 65536) ws
@@ -187,7 +187,7 @@ words_is i named h =
     at_most : (n : ℕ) → n < 256 → nat_le n 255 ≡ true
     at_most n h = grind (arith, nat_tests)
 
--- a comparison of a type, with what is left of its size and mark
+-- A comparison of a type, with the rest of its size and mark.
 abbrev compared : ℕ → ℕ → Bool → ℕ → Instr
 compared op size long type =
     record (bare op) { a = type; b = if is_sized type then size else 0; long = if is_sized type then long && nat_lt size 128 else false }
@@ -203,7 +203,7 @@ unsized_is : (op size : ℕ) (long : Bool) (type : ℕ) (w : List ℕ) → type_
     → comparison op (w ∷ []) ≡ said_plain (compared op size long type) [] → IsType op size long type
 unsized_is op size long type w t h e = (subst IsOperand (sym t) (of_word w h), ap (λ u. comparison op (words u)) t ∙ ap (comparison op) (word_of w h) ∙ e)
 
--- the words of a type and its size
+-- The parts of a type and its size.
 two_words_of : (a b : List ℕ) → IsWord a → IsWord b → words (a ++ 32 ∷ b) ≡ a ∷ b ∷ []
 two_words_of a b h k = first_of_words a (32 ∷ b) h.some h.plain refl ∙ ap (λ ws. a ∷ ws) (word_of b k)
 
@@ -266,7 +266,7 @@ typed_is i named h =
     as_clear true = refl
     as_clear false = refl
 
--- The operands of each form that names no place, but the form without operands.
+-- The operands of each form that names no offset, except the form without operands.
 pub read_as : (form : Form) (i : Instr) (named : List ℕ) → names_place form ≡ false → is_plain form ≡ false → IsOfForm form i named → IsReadAs form i named
 read_as forms.Plain i named p q h = absurd (cc)
 read_as forms.Ub i named p q h = one_byte_is i named h

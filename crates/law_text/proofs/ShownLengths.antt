@@ -1,4 +1,4 @@
--- Where the code of procedures ends, against the length of their bytes.
+-- Where the code of procedures ends, and the length of their bytes.
 use Rattle.std.proofs.Common.{◌≡◌, ◌≤◌, ℕ, ◌+◌, ◌*◌, List, [], ◌∷◌, ◌++◌, length, reverse, refl, arith}
 use Rattle.std.specs.List.{AllByRecursion}
 use Rattle.std.proofs.lemmas.List.{length-append, length-reverse}
@@ -45,7 +45,7 @@ procedure_length k p =
       length-reverse p.entries,
     )
 
--- The code of each procedure ends within the bytes of all.
+-- The code of each procedure ends within the bytes of all procedures.
 pub ends_within : (at k last : ℕ) (ps : List Procedure) → FollowFrom at ps → at + length (procedures_bytes k ps) ≤ last
     → AllByRecursion (λ p. code_end p ≤ last) ps
 ends_within at k last [] f l = tt

@@ -1,4 +1,4 @@
--- The rows that the shown lines of a procedure's code say.
+-- The rows that the shown lines of the code of a procedure spell.
 use Rattle.std.proofs.Common.{◌≡◌, ◌<◌, ◌≤◌, ℕ, ◌^◌, ◌+◌, ◌*◌, Bool, true, false, eqb, List, []}
 use Rattle.std.proofs.Common.{◌∷◌, ◌++◌, length, map, refl, sym, ap, subst, ◌∙◌, arith, Some, None}
 use Rattle.std.specs.Prelude.{◌==◌, codes, if◌then◌else◌}
@@ -31,18 +31,18 @@ next_if b n = if b then n + 1 else n
 abbrev pub rows_at : ℕ → List ℕ → ℕ → ℕ → List Row → List Row
 rows_at n used exit at rest = put_if (is_among used at) (Items n (Some (label_text at)) []) (put_if (exit == at) Exit rest)
 
--- the number of the line behind those of a place
+-- The number of the line after those of an offset.
 abbrev pub line_behind : ℕ → List ℕ → ℕ → ℕ → ℕ
 line_behind n used exit at = next_if (exit == at) (next_if (is_among used at) n)
 
--- the rows of items, the lines being numbered from n
+-- The rows of items, with lines numbered from `n` on.
 abbrev pub rows_of : ℕ → List ℕ → ℕ → ℕ → List (Item ℕ) → List Row
 rows_of n used exit at [] = rows_at n used exit at []
 rows_of n used exit at (item ∷ items) =
     rows_at n used exit at (Items (line_behind n used exit at) None (labelled_item item ∷ [])
     ∷ rows_of (line_behind n used exit at + 1) used exit (at + size at item) items)
 
--- texts that say statements, as lines numbered from n
+-- Texts that spell statements, as lines numbered from `n` on.
 abbrev pub Show : ℕ → List (List ℕ) → List Statement → Type 0
 Show n texts said = AreSaid (lines_from n texts) said
 
@@ -63,12 +63,12 @@ shows_at n used exit at texts rows said l h =
     (put_if (exit == at) Exit rows) said (label_line n at l)
     (shows_if (exit == at) (next_if (is_among used at) n) (codes ".EXIT") Exit texts rows said (exit_line (next_if (is_among used at) n)) h)
 
--- the number of the line behind the code
+-- The number of the line after the code.
 abbrev pub line_after : ℕ → List ℕ → ℕ → ℕ → List (Item ℕ) → ℕ
 line_after n used exit at [] = line_behind n used exit at
 line_after n used exit at (item ∷ items) = line_after (line_behind n used exit at + 1) used exit (at + size at item) items
 
--- items shown with what follows
+-- Items that are shown, and what follows them.
 abbrev pub lines_then : List ℕ → ℕ → ℕ → List (Item ℕ) → List (List ℕ) → List (List ℕ)
 lines_then used exit at [] rest = lines_at used exit at rest
 lines_then used exit at (item ∷ items) rest = lines_at used exit at ((32 ∷ 32 ∷ shown_item item) ∷ lines_then used exit (at + size at item) items rest)
@@ -107,7 +107,7 @@ code_then used exit at (item ∷ items) texts =
     at_then used exit at ((32 ∷ 32 ∷ shown_item item) ∷ code_lines used exit (at + size at item) items) texts
     ∙ ap (λ ls. lines_at used exit at ((32 ∷ 32 ∷ shown_item item) ∷ ls)) (code_then used exit (at + size at item) items texts)
 
--- What the rows hold: the items, where they end, the exit and the places of labels.
+-- The contents of the rows: the items, where they end, the exit and the offsets of labels.
 same_items : (b c : Bool) (n : ℕ) (name : Name) (rows : List Row) → items_of (put_if b (Items n (Some name) []) (put_if c Exit rows)) ≡ items_of rows
 same_items true true n name rows = refl
 same_items true false n name rows = refl
@@ -134,7 +134,7 @@ same_end true false n at name rows = refl
 same_end false true n at name rows = refl
 same_end false false n at name rows = refl
 
--- where the rows end, also if they began elsewhere
+-- Where the rows end, for any offset at which they begin.
 pub rows_end : (n : ℕ) (used : List ℕ) (exit at from : ℕ) (items : List (Item ℕ)) → code_end from (rows_of n used exit at items) ≡ end_of from items
 rows_end n used exit at from [] = same_end (is_among used at) (exit == at) n from (label_text at) []
 rows_end n used exit at from (item ∷ items) =
@@ -167,7 +167,7 @@ place_here n used exit at rows q u e =
     let same : bytes_eq (label_text at) (label_text q) ≡ true = (bytes_eq-Decides (label_text at) (label_text q)).1 (ap label_text e) in
     rw there (rw same (ap Some e))
 
--- labels of other places are passed over
+-- The labels of other offsets are skipped.
 passed : (b c : Bool) (n at : ℕ) (label name : Name) (rows : List Row) → bytes_eq label name ≡ false
     → place_of at (put_if b (Items n (Some label) []) (put_if c Exit rows)) name ≡ place_of at rows name
 passed true true n at label name rows e = rw e refl
@@ -179,7 +179,7 @@ place_passed : (n : ℕ) (used : List ℕ) (exit at : ℕ) (rows : List Row) (q 
     → place_of at (rows_at n used exit at rows) (label_text q) ≡ place_of at rows (label_text q)
 place_passed n used exit at rows q l k e = passed (is_among used at) (exit == at) n at (label_text at) (label_text q) rows (other_label at q l k e)
 
--- A label leads where it stands.
+-- A label leads to its own offset.
 pub place_of_label : (n : ℕ) (used : List ℕ) (exit at : ℕ) (items : List (Item ℕ)) (q : ℕ) → IsIn used q → IsIn (boundaries at items) q
     → end_of at items < 2 ^ 64 → q < 2 ^ 64 → place_of at (rows_of n used exit at items) (label_text q) ≡ Some q
 place_of_label n used exit at [] q u i l k = go (eqb at q) refl

@@ -1,4 +1,4 @@
--- A segment of a program is shown as one of the same bytes.
+-- A segment of a program is shown as one with the same bytes.
 use Rattle.std.proofs.Common.{◌≡◌, ◌≤◌, ℕ, ◌+◌, ◌-◌, ◌*◌, false, cond, ltb, List, [], ◌∷◌, ◌++◌, length, map, drop}
 use Rattle.std.proofs.Common.{reverse, refl, sym, ap, ◌∙◌, subst, arith, length-append, length-drop, drop-drop, Some}
 use Rattle.std.specs.List.{AllByRecursion}
@@ -21,7 +21,7 @@ use Rattle.law_text.proofs.Standing.{AllStand, all_stand, dictionary_there}
 use Rattle.pm_code.proofs.Laid.{are_segment_bytes, dictionary_reversed, tables_before}
 use Rattle.law_text.proofs.FoundTables.{table_found, stored_byte}
 
--- what is shown for procedures that are numbered from one number on
+-- The procedures that are shown for procedures numbered from `number` on.
 abbrev pub shown_from : List ℕ → ℕ → List Procedure → List Procedure
 shown_from segment number [] = []
 shown_from segment number (p ∷ ps) = procedure_of segment (attributes_of number p) ∷ shown_from segment (number + 1) ps
@@ -29,7 +29,7 @@ shown_from segment number (p ∷ ps) = procedure_of segment (attributes_of numbe
 abbrev pub shown_segment : Segment → Segment
 shown_segment s = record s { procedures = shown_from (segment_bytes s) 1 s.procedures }
 
--- each procedure's table is found by its number
+-- The table of each procedure is found by its number.
 abbrev pub AllFound : List ℕ → ℕ → List Procedure → Type 0
 AllFound segment number [] = Unit {0}
 AllFound segment number (p ∷ ps) = (attributes_in segment number ≡ Some (attributes_of number p)) × AllFound segment (number + 1) ps
@@ -45,7 +45,7 @@ all_found segment rest at number k (p ∷ ps) t e few s b =
           (other_words segment at (length segment + 6) k (jtab_of p) (map jtab_of ps) rest t) (omega (arith, e)) (omega (arith, few)) s.1 b.1,
     )
 
--- the count of procedures is the last byte
+-- The count of procedures is the last byte.
 count_there : (s : Segment) → IsSegment s → procedures_in (segment_bytes s) ≡ length s.procedures
 count_there s h =
     let segment : List ℕ = segment_bytes s in
@@ -71,7 +71,7 @@ tables_shown segment number (p ∷ ps) s f =
     ap (λ ls. ls ++ tables_lines segment (number + 1) (length ps)) one
     ∙ ap (λ ls. procedure_lines number (procedure_of segment a) ++ ls) (tables_shown segment (number + 1) ps s.1 f.1)
 
--- What is shown for procedures that stand in a segment.
+-- The procedures that are shown for the procedures of a segment.
 record AreShownAs (segment : List ℕ) (number at : ℕ) (ps : List Procedure) : Type 0 where
   procedures : AllByRecursion IsProcedure (shown_from segment number ps)
   count : length (shown_from segment number ps) ≡ length ps

@@ -33,7 +33,7 @@ use Rattle.law_text.proofs.Quoting.{shown_target, IsWritable, target_shown, targ
 use Rattle.law_text.proofs.Mnemonics.{IsNamed, IsShort, is_named, is_short, is_plain, plain_is, is_unassigned, no_number}
 use Rattle.law_text.proofs.ShownInstructions.{IsOfForm, IsReadAs, said_plain, cleared, unnamed, read_as}
 
--- an item as a text has it
+-- An item as it is in a text.
 abbrev pub labelled_item : Item ℕ → Item Name
 labelled_item (Plain i named) = Plain i named
 labelled_item (Jump op target) = Jump op (shown_target target)
@@ -45,7 +45,7 @@ IsWritableItem (Jump op target) = IsWritable target
 IsWritableItem (Case low high otherwise places) = IsWritable otherwise × AllByRecursion (λ p. p < 100000) places
 IsWritableItem _ = Unit {0}
 
--- the words of directives
+-- The names of directives.
 bytes_word : keyword_of (codes ".BYTE") ≡ Some OfBytes
 unfolding keyword_of directives
 bytes_word = refl
@@ -70,7 +70,7 @@ end_word : keyword_of (codes ".END") ≡ Some OfEnd
 unfolding keyword_of directives
 end_word = refl
 
--- A line of an item, from what its operands are.
+-- A line of an item, by the facts about its operands.
 spoken_item : (n : ℕ) (front : List ℕ) (ts : List (List ℕ)) (keyword : Keyword) (s : Statement) → IsFront front → keyword_of front ≡ Some keyword
     → AllByRecursion IsOperand ts → said n keyword (operands_text ts) ≡ Some (s, NoFlaw)
     → line_of n (32 ∷ 32 ∷ front ++ operands_text ts) ≡ Says s NoFlaw
@@ -108,7 +108,7 @@ assigned forms.Unassigned i h = absurd (cc)
 abbrev PlainLine : ℕ → Instr → List ℕ → List (List ℕ) → Type 0
 PlainLine n i named ts = line_of n (32 ∷ 32 ∷ mnemonic_of i.op ++ operands_text ts) ≡ Says (Code (Items n None (Plain i named ∷ []))) NoFlaw
 
--- an instruction without operands, or with the number that stands in its opcode
+-- An instruction without operands, or with a number in its opcode.
 bare_line : (n : ℕ) (i : Instr) (named : List ℕ) → i.op < 256 → form_of i.op ≡ forms.Plain → IsOfForm forms.Plain i named
     → PlainLine n i named (operand_texts forms.Plain i named)
 bare_line n i named l f h = go (implied i.op) refl
@@ -217,7 +217,7 @@ item_line n at (Jump op target) h w = jump_line n op target h.0 h.1 w
 item_line n at (Case low high otherwise places) h w = case_line n at low high otherwise places h w.0 w.1
 item_line n at (OneByte b) h w = byte_line n b h
 
--- A line of a directive, from what its words are.
+-- A line of a directive, by the facts about its parts.
 directive_line : (n : ℕ) (front : List ℕ) (ws : List (List ℕ)) (keyword : Keyword) (s : Statement) → IsFront front → keyword_of front ≡ Some keyword
     → AllByRecursion IsWord ws → said n keyword (words_text ws) ≡ Some (s, NoFlaw)
     → line_of n (front ++ words_text ws) ≡ Says s NoFlaw

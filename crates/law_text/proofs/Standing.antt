@@ -9,7 +9,7 @@ use Rattle.pm_disasm.proofs.Stored.{Table}
 use Rattle.pm_code.proofs.ItemBytes.{AreBytes}
 use Rattle.pm_code.proofs.Laid.{dictionary_reversed, length-jtabs, length-procedure, length-procedures, length-segment}
 
--- each procedure stands there
+-- Each procedure is in the segment.
 abbrev pub AllStand : List ℕ → ℕ → List Procedure → Type 0
 AllStand segment number [] = Unit {0}
 AllStand segment number (p ∷ ps) = StandsIn segment number p × AllStand segment (number + 1) ps

@@ -57,7 +57,7 @@ map-contains f b (x ∷ xs) h = elim (front-or-rest (f x) b (map f xs) h) [
 
 -- ---- labels
 
--- a label of code has a place there
+-- A label of code has an offset there.
 placed : (rows : List Row) (at : ℕ) (name : Name) → Contains (labels_of rows) name → (place : ℕ) × (place_of at rows name ≡ Some place)
 placed [] at name h = absurd (none-there name h)
 placed (Exit ∷ rows) at name h = placed rows at name h
@@ -71,7 +71,7 @@ placed (Items line (Some label) items ∷ rows) at name h = elim (cases_Bool (by
       ]
 ]
 
--- and what has a place is a label of it
+-- A name with an offset there is a label of the code.
 labelled : (rows : List Row) (at : ℕ) (name : Name) (place : ℕ) → place_of at rows name ≡ Some place → Contains (labels_of rows) name
 labelled [] at name place h = cc
 labelled (Exit ∷ rows) at name place h = labelled rows at name place h
@@ -85,7 +85,7 @@ labelled (Items line (Some label) items ∷ rows) at name place h = elim (cases_
 
 -- ---- one procedure
 
--- what a symbol of a procedure says
+-- The facts about a symbol of a procedure.
 record IsOf (segment procedure start : ℕ) (p : Source) (x : Symbol) : Type 0 where
   owner : x.segment ≡ segment
   number : x.procedure ≡ procedure
@@ -128,7 +128,7 @@ tells segment procedure start p x h = by x.label refl h.stands
 
 -- ---- the procedures of a segment
 
--- a symbol of the procedures of a segment that are numbered from n on, and of which the first is entered at an offset
+-- A symbol of the procedures of a segment that are numbered from `n` on, the first of which begins at offset `at`.
 record IsAmong (segment n at : ℕ) (ps : List Source) (x : Symbol) : Type 0 where
   before : List Source
   procedure : Source
@@ -177,7 +177,7 @@ among segment n at (p ∷ ps) x h =
           }
     ]
 
--- the procedure of a text and that of the program in the same place
+-- The procedure of a text, and that of the program at the same position.
 from_parts : (segment n at : ℕ) (before : List Source) (p : Source) (after : List Source) (front : List Procedure) (q : Procedure)
     (back : List Procedure) (x : Symbol)
     → found_procedures at (before ++ p ∷ after) ≡ front ++ q ∷ back → length front ≡ length before → IsOf segment (n + length before) q.start p x

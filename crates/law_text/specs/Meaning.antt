@@ -1,4 +1,4 @@
--- What a statement does, in the terms of its text, and the law that the machine does so.
+-- What a statement does, in the terms of its text, and the law that the machine does this.
 use Rattle.std.specs.Prelude.{◌≡◌, ℕ, zero, suc, ◌+◌, ◌-◌, ◌*◌, ◌%◌, ◌<◌, ◌≤◌, ◌==◌, ◌&&◌, Bool, false, not, nat_le}
 use Rattle.std.specs.Prelude.{nat_lt, true, List, [], ◌∷◌, length, Result, Ok, Err, if◌then◌else◌, int_le}
 use Rattle.pm_words.specs.declared.error.ExecError.{ExecError}
@@ -34,15 +34,15 @@ use Rattle.pm_trees.specs.Parts.{Part}
 use Rattle.pm_trees.specs.Trees.{Forest, parts_of}
 use Rattle.pm_trees.specs.Trees.Forest.{Bare, Tree}
 
--- ---- what is said
+-- ---- what a text states
 
--- What a text says of a value: the value, the error of the machine that comes in its place, or nothing.
+-- What a text states about a value: the value, the error of the machine instead of it, or nothing (`Unsaid`).
 pub data Said (A : Type 0) : Type 0 where
   Gives : A → Said A
   Fails : ExecError → Said A
   Unsaid : Said A
 
--- one after another: the first error is the answer
+-- One computation after another; the first error is the result.
 abbrev pub then_said : {A B : Type 0} → Said A → (A → Said B) → Said B
 then_said (Gives x) f = f x
 then_said (Fails e) f = Fails e
@@ -52,7 +52,7 @@ abbrev pub as_said : {A : Type 0} → Result A ExecError → Said A
 as_said (Ok x) = Gives x
 as_said (Err e) = Fails e
 
--- nothing is said of an operation whose operands are not of this number
+-- An operation is `Unsaid` if the number of its operands differs from the number that it requires.
 abbrev pub on_none : {A : Type 0} → Said A → List ℕ → Said A
 on_none x [] = x
 on_none x (a ∷ ws) = Unsaid
@@ -62,7 +62,7 @@ on_one f [] = Unsaid
 on_one f (a ∷ []) = f a
 on_one f (b ∷ a ∷ ws) = Unsaid
 
--- the last operand stands first in the list
+-- An operation on two operands `a` and `b`; the last operand is the first in the list.
 abbrev pub on_two : {A : Type 0} → (ℕ → ℕ → Said A) → List ℕ → Said A
 on_two f [] = Unsaid
 on_two f (b ∷ []) = Unsaid
@@ -78,15 +78,16 @@ on_three f (d ∷ c ∷ b ∷ a ∷ ws) = Unsaid
 
 -- ---- variables of a state
 
--- the free stack: from NP up to SP. Operands are put there, so of what a statement reads there nothing is said.
+-- Whether address `a` is on the free stack, from NP up to but not including SP. Operands are pushed there, so nothing
+-- is stated about what a statement reads there.
 abbrev pub is_free : State → ℕ → Bool
 is_free s a = nat_le s.registers.np a && nat_lt a s.registers.sp
 
--- the word at an address
+-- The word at address `a`: `InvalidMemory` if `a` is odd, `Unsaid` if it is on the free stack.
 unfoldable pub word_there : State → ℕ → Said ℕ
 word_there s a = if is_even a then (if is_free s a then Unsaid else Gives (word_at s.memory a)) else Fails InvalidMemory
 
--- the frame so many static links up from a frame
+-- The frame that is reached from frame `f` by `n` static links.
 unfoldable pub frame_up : State → ℕ → ℕ → Said ℕ
 frame_up s f zero = Gives f
 frame_up s f (suc n) = then_said (frame_up s f n) (word_there s)
@@ -96,7 +97,7 @@ frame_there s Global = Gives s.registers.base
 frame_there s Local = Gives s.registers.mp
 frame_there s (Intermediate n) = if nat_lt 127 n then Fails NoSegment else frame_up s s.registers.mp n
 
--- where a variable stands
+-- The address of variable `b` of a scope.
 abbrev pub variable_there : State → Scope → ℕ → Said ℕ
 variable_there s scope b = then_said (frame_there s scope) (λ f. Gives ((f + 10 + 2 * b) % 65536))
 
@@ -118,7 +119,7 @@ variable_said s (variable.Address scope b) ws = on_none (variable_there s scope 
 variable_said s (variable.Load scope b) ws = on_none (then_said (variable_there s scope b) (word_there s)) ws
 variable_said s (variable.Store scope b) ws = Unsaid
 
--- x.k as a place and as a value, and an item of an array
+-- x.k as an address and as a value, and the address of an item of an array.
 abbrev pub pointer_said : State → Pointer → List ℕ → Said ℕ
 pointer_said s (pointer.Increment k) ws = on_one (λ a. Gives ((a + 2 * k) % 65536)) ws
 pointer_said s (pointer.Load k) ws = on_one (λ a. word_there s ((a + 2 * k) % 65536)) ws
@@ -131,7 +132,8 @@ value_said s (operation.Variable o) ws = variable_said s o ws
 value_said s (operation.Pointer o) ws = pointer_said s o ws
 value_said s other ws = Unsaid
 
--- how far a jump leads from the next instruction, as a word; by entry k of the jump table, how far that lies from JTAB
+-- The distance of a jump from the next instruction, as a word. For entry `k` of the jump table, the distance of this
+-- entry from JTAB.
 abbrev pub distance : ℕ → Target ℕ → ℕ
 distance next (To place) = place - next
 distance next (Through k) = 65526 - 2 * k
@@ -144,7 +146,8 @@ item_operation at other = operation.Unimplemented
 abbrev pub operation_at : Part → Operation
 operation_at p = item_operation p.place.offset p.item
 
--- The values of trees, that of the last one first: before each the operands are done, from left to right.
+-- The values of trees, the value of the last tree first. Before each operation its operands are executed, from left to
+-- right.
 unfoldable pub values_said : State → Forest → Said (List ℕ)
 values_said s Bare = Gives []
 values_said s (Tree p missing operands before) =
@@ -154,7 +157,8 @@ values_said s (Tree p missing operands before) =
 
 -- ---- statements
 
--- what a statement does: it writes a word at an address, it jumps, or the next one follows
+-- What a statement does: it writes a word at an address, it jumps to an address, or execution continues with the next
+-- statement.
 pub data Done : Type 0 where
   Writes : ℕ → ℕ → Done
   Jumps : ℕ → Done
@@ -163,8 +167,8 @@ pub data Done : Type 0 where
 abbrev pub written_said : ℕ → ℕ → Said Done
 written_said a w = if is_even a then Gives (Writes a w) else Fails InvalidMemory
 
--- where a jump leads, of code in a segment that begins at an address: to a place in it, or by the entry of its jump
--- table, which says how far below itself the place lies
+-- The address to which a jump leads, in a segment that begins at `origin`: an offset of the segment, or the address
+-- that entry `k` of its jump table states. The entry states how far below itself this address is.
 abbrev pub leads_said : State → ℕ → Target ℕ → Said Done
 leads_said s origin (To place) = Gives (Jumps ((origin + place) % 65536))
 leads_said s origin (Through k) =
@@ -193,36 +197,36 @@ abbrev pub jump_item_said : State → ℕ → Jump → Item ℕ → List ℕ →
 jump_item_said s origin o (JumpItem op target) ws = jump_by o (leads_said s origin target) ws
 jump_item_said s origin o other ws = Unsaid
 
--- what the last operation of a statement does with the values of its operands
+-- What the last operation of a statement does with the values `ws` of its operands.
 abbrev pub done_said : State → ℕ → Operation → Item ℕ → List ℕ → Said Done
 done_said s origin (operation.Variable o) item ws = store_said s o ws
 done_said s origin (operation.Pointer o) item ws = store_through_said o ws
 done_said s origin (operation.Jump o) item ws = jump_item_said s origin o item ws
 done_said s origin other item ws = Unsaid
 
--- What a statement says that it does.
+-- What a statement states that it does.
 abbrev pub statement_said : State → ℕ → Part → Forest → Said Done
 statement_said s origin p operands =
     then_said (values_said s operands) (λ ws. done_said s origin (operation_at p) p.item ws)
 
 -- ---- the machine
 
--- a memory differs from that of a state on the free stack alone
+-- The memory `t` differs from that of the state `s` only on the free stack.
 pub record IsLike (s : State) (t : List ℕ) : Type 0 where
   pub size : length t ≡ 32768
   pub words : (a : ℕ) → is_even a ≡ true → is_free s a ≡ false → word_at t a ≡ word_at s.memory a
 
--- bytes stand in the memory of a state from an address on, none of them on the free stack
+-- The bytes are in the memory of the state `s` from address `a` on, none of them on the free stack.
 abbrev pub StandThere : State → ℕ → List ℕ → Type 0
 StandThere s a [] = Unit {0}
 StandThere s a (b ∷ bs) = (a < 65536) × (is_free s a ≡ false) × (byte_at s.memory a ≡ b) × StandThere s (a + 1) bs
 
--- a part stands in a segment that begins at an address: it can stand at its offset, and there its bytes are
+-- The part `p` is in a segment that begins at `origin`: it is valid at its offset, and its bytes are there.
 pub record Stands (s : State) (origin : ℕ) (p : Part) : Type 0 where
   pub item : IsItem p.place.offset p.item
   pub bytes : StandThere s (origin + p.place.offset) (item_bytes p.place.offset p.item)
 
--- parts stand one behind another from an offset on
+-- The parts follow each other from offset `at` on.
 abbrev pub StandFrom : State → ℕ → ℕ → List Part → Type 0
 StandFrom s origin at [] = Unit {0}
 StandFrom s origin at (p ∷ ps) =
@@ -232,7 +236,7 @@ abbrev pub behind_parts : ℕ → List Part → ℕ
 behind_parts at [] = at
 behind_parts at (p ∷ ps) = behind_parts (at + size at p.item) ps
 
--- a machine that runs, and stands at an offset of a segment that begins at an address
+-- The machine runs, and IPC is at offset `at` of a segment that begins at `origin`.
 pub record StandsAt (s : State) (origin at : ℕ) : Type 0 where
   pub segment : origin % 2 ≡ 0
   pub running : s.status ≡ status.Running
@@ -250,14 +254,14 @@ ipc_behind (Writes a w) next = next
 ipc_behind (Jumps ipc) next = ipc
 ipc_behind GoesOn next = next
 
--- The state behind a statement: what the statement does, and nothing else, but for the free stack and the count of
--- steps.
+-- The state `t` after a statement: the statement has done `d`, and nothing else has changed except the free stack and
+-- the count of steps.
 pub record Does (s : State) (next : ℕ) (d : Done) (t : State) : Type 0 where
   pub memory : IsLike (record s { memory = memory_behind d s.memory }) t.memory
   pub registers : t.registers ≡ record s.registers { ipc = ipc_behind d next }
   pub others : t ≡ record s { memory = t.memory; registers = t.registers; steps = t.steps }
 
--- The machine has halted: nothing is written but the free stack.
+-- The machine has halted with the error `e`, and only the free stack has been written.
 pub record Halts (s : State) (e : ExecError) (t : State) : Type 0 where
   pub status : t.status ≡ status.Halted e
   pub memory : IsLike s t.memory
@@ -267,8 +271,9 @@ DoesAsSaid s next (Gives d) t = Does s next d t
 DoesAsSaid s next (Fails e) t = Halts s e t
 DoesAsSaid s next Unsaid t = Unit {0}
 
--- A machine that stands before a statement, with room on the stack for a word of each of its instructions but the last,
--- has done behind that what the statement says.
+-- After the steps of all its instructions, a statement has done what it states. There are three premises. The machine
+-- `s` runs, with IPC at the beginning of the statement. The bytes of the statement are in memory outside the free
+-- stack. The free stack has space for a word for each of its instructions except the last.
 abbrev pub StatementsDoWhatTheySay : Type 0
 StatementsDoWhatTheySay =
     (s : State) (origin at : ℕ) (p : Part) (missing : Missing) (operands : Forest) →

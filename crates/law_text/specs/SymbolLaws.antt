@@ -1,4 +1,4 @@
--- Which procedures and labels the symbols of a text have.
+-- Which procedures and labels have symbols.
 use Rattle.std.specs.Prelude.{◌≡◌, ◌↔◌, ℕ, ◌+◌, Bool, true, false, ◌&&◌, List, ◌∷◌, ◌++◌, length, map, nat_eq}
 use Rattle.std.specs.Prelude.{Option, Some, None, Ok}
 use Rattle.std.specs.List.{Contains, IsDistinct}
@@ -9,14 +9,15 @@ use Rattle.pm_source.specs.Meaning.{Spells, ascending, found_segment}
 use Rattle.pm_source.specs.Source.{Name, Source, SourceSegment}
 use Rattle.pm_asm.specs.Symbols.{Symbol, symbol_lines, symbol_text, symbols}
 
--- What stands so many bytes behind where a procedure is entered: without a label the procedure itself, at 0; with one
--- that label of its code.
+-- What is `offset` bytes after the beginning of a procedure: without a label the procedure itself, at offset 0; with a
+-- label the beginning of this label in the code of the procedure.
 abbrev pub StandsBehind : ℕ → Source → ℕ → Option Name → Type 0
 StandsBehind entered p offset None = offset ≡ 0
 StandsBehind entered p offset (Some name) = place_of entered p.code name ≡ Some (entered + offset)
 
--- A segment of a text has a symbol: with its number, and the number of one of its procedures, one more than there are
--- before it; and it stands so many bytes behind where the procedure in the same place of the program begins.
+-- The symbol `x` belongs to the segment `s`. It has the number of the segment, and the number of one of its procedures,
+-- which is one more than the number of procedures before it. Its offset counts from where the procedure at the same
+-- position of the program begins.
 pub record IsSymbolOf (s : SourceSegment) (x : Symbol) : Type 0 where
   pub before : List Source
   pub procedure : Source
@@ -31,13 +32,13 @@ pub record IsSymbolOf (s : SourceSegment) (x : Symbol) : Type 0 where
   pub number : x.procedure ≡ length before + 1
   pub stands : StandsBehind found.start procedure x.offset x.label
 
--- The symbols of segments are those of their procedures and labels, and no others.
+-- The symbols of segments are exactly those of their procedures and labels.
 abbrev pub SymbolsAreDefined : Type 0
 SymbolsAreDefined =
     (ss : List SourceSegment) (x : Symbol)
     → Contains (symbols ss) x ↔ ((s : SourceSegment) × Contains ss s × IsSymbolOf s x)
 
--- Two symbols are of one procedure, or of one label of it, wherever they are said to stand.
+-- Two symbols belong to the same procedure, or to the same label of it, even if their offsets differ.
 abbrev pub is_same_label : Option Name → Option Name → Bool
 is_same_label None None = true
 is_same_label (Some name) (Some other) = bytes_eq name other
@@ -47,8 +48,8 @@ abbrev pub is_same_symbol : Symbol → Symbol → Bool
 is_same_symbol x y =
     nat_eq x.segment y.segment && (nat_eq x.procedure y.procedure && is_same_label x.label y.label)
 
--- The lines that are told of a text are those of the symbols of its segments, none of them twice, of which the text
--- spells the program.
+-- The lines that are printed for a text are those of the symbols of its segments. No symbol is in them twice. The text
+-- spells the program of these segments.
 pub record AreLinesOf (text lines : List ℕ) : Type 0 where
   pub told : lines ≡ symbol_lines (symbols (source_of text))
   pub once : IsDistinct is_same_symbol (symbols (source_of text))

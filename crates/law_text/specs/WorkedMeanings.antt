@@ -1,4 +1,4 @@
--- What statements say that they do, as it was worked out by hand.
+-- What some statements state that they do, worked out by hand.
 use Rattle.std.specs.Prelude.{◌≡◌, ℕ, [], ◌∷◌}
 use Rattle.pm_words.specs.declared.error.ExecError.TheVariants.{DivideByZero, InvalidMemory}
 use Rattle.pm_machine.specs.declared.state.Status.TheVariants as status
@@ -17,9 +17,9 @@ use Rattle.law_text.specs.Meaning.{Done, Said, statement_said}
 use Rattle.law_text.specs.Meaning.Done.{GoesOn, Jumps, Writes}
 use Rattle.law_text.specs.Meaning.Said.{Fails, Gives, Unsaid}
 
--- BASE is 10 and MP 30, so global 1, 2, 3 and 4 are the words at 22, 24, 26 and 28: 7, 3, 0 and 43; local 1 and 2 those
--- at 42 and 44: -1, and 6 on the free stack, which is from 4 up to 8. The jump table has its first entry at 46, that is
--- at JTAB - 10.
+-- BASE is 10 and MP is 30. So globals 1, 2, 3 and 4 are the words at 22, 24, 26 and 28: 7, 3, 0 and 43. Locals 1 and 2
+-- are the words at 42 and 44: -1, and 6, which is an address on the free stack. The free stack is from 4 up to 8. The
+-- first entry of the jump table is at 46, which is JTAB - 10.
 abbrev pub worked_state : State
 worked_state = record {
   memory =
@@ -38,11 +38,11 @@ the_part item = part_of (record { segment = 1; callees = []; layout = layout.Fla
 abbrev pub nothing_missing : Missing
 nothing_missing = record { top = share.Words 0; below = share.Words 0 }
 
--- an operation without an operand in the code, on operands
+-- An operation without an operand in the code, on the given operands.
 abbrev pub on : ℕ → Forest → Forest
 on op operands = Tree (the_part (Plain (bare op) [])) nothing_missing operands Bare
 
--- behind another operand
+-- The same operation after another operand.
 abbrev pub then_on : ℕ → Forest → Forest → Forest
 then_on op operands before = Tree (the_part (Plain (bare op) [])) nothing_missing operands before
 
@@ -57,29 +57,29 @@ global2 = on 233 Bare
 abbrev pub store_global : ℕ → Part
 store_global b = the_part (Plain (record (bare 171) { a = b }) [])
 
--- of code in a segment that begins at 1000
+-- What a statement states in a segment that begins at 1000.
 abbrev pub said : Part → Forest → Said Done
 said p operands = statement_said worked_state 1000 p operands
 
 pub record WorkedMeanings : Type 0 where
-  -- global1 := global2 - global1, SBI is 149: 3 - 7
+  -- global1 := global2 - global1; SBI is 149: 3 - 7
   pub difference : said (store_global 1) (on 149 (then_on 232 Bare global2)) ≡ Gives (Writes 22 65532)
-  -- global1 := global1 DIV global3 - global4^, where 43 is no address: the left operand is the first; DVI 134, SIND 0
-  -- is 248
+  -- global1 := global1 DIV global3 - global4^, where 43 is not a valid address. The left operand is executed first. DVI
+  -- is 134, SIND 0 is 248.
   pub first_error : said (store_global 1)
       (on 149 (then_on 248 (on 235 Bare) (on 134 (then_on 234 Bare global1)))) ≡ Fails DivideByZero
   pub other_error : said (store_global 1)
       (on 149 (then_on 134 (then_on 234 Bare global1) (on 248 (on 235 Bare)))) ≡ Fails InvalidMemory
-  -- IF NOT (local1 < global2) GOTO L00047, LESI 201: -1 < 3
+  -- IF NOT (local1 < global2) GOTO L00047; LESI is 201: -1 < 3
   pub not_taken : said (the_part (Jump 161 (To 47))) (on 201 (then_on 233 Bare (on 216 Bare)))
       ≡ Gives GoesOn
   -- IF NOT (global2 < local1) GOTO L00047
   pub taken : said (the_part (Jump 161 (To 47))) (on 201 (then_on 216 Bare global2))
       ≡ Gives (Jumps 1047)
-  -- GOTO ^0: the entry at 46 has 16, so 16 below it
+  -- GOTO ^0: the entry at 46 contains 16, so the jump leads to 16 bytes below it
   pub by_entry : said (the_part (Jump 185 (Through 0))) Bare ≡ Gives (Jumps 30)
-  -- local2^ := 5: the word at 6 is written whatever stands there, SLDC 5 is 5
+  -- local2^ := 5: the word at 6 is written, even if it is on the free stack; SLDC 5 is 5
   pub through : said (the_part (Plain (bare 154) [])) (then_on 5 Bare (on 217 Bare))
       ≡ Gives (Writes 6 5)
-  -- global1 := local2^: what it reads is on the free stack
+  -- global1 := local2^: the word that it reads is on the free stack
   pub free : said (store_global 1) (on 248 (on 217 Bare)) ≡ Unsaid

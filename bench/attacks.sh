@@ -607,6 +607,7 @@ rm -rf stranger
 mkdir -p stranger/crates/pmach/out stranger/script
 printf '#!/bin/sh\necho stranger\n' >stranger/crates/pmach/out/pmach
 chmod 755 stranger/crates/pmach/out/pmach
+"$here/pmach" --version >/dev/null 2>&1 # the first use builds the program, and reports how far it is
 said=$(cd stranger && PATH=$(dirname "$(readlink -f "$here/pmach")"):$PATH bash pmach --version 2>&1)
 comes "bash pmach in a stranger's directory" pmach "${said%% *}"
 

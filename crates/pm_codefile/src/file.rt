@@ -121,6 +121,13 @@ impl<'a> CodeFile<'a> {
         }
     }
 
+    /// Returns the number of bytes of the code file.
+    pub fn len(&self) -> usize
+        ensures length { result ≡ length self.now }
+    {
+        self.bytes.len()
+    }
+
     /// Returns slot `n` of the dictionary, or None if `n` is above 15.
     #[tactic(auto, unfolding(crate::specs::Dictionary::slot_in, crate::specs::Dictionary::slot_fault))]
     pub fn slot(&self, n: u8) -> Option<Slot>

@@ -1,8 +1,9 @@
 -- The text of a code file as statements.
-use Rattle.std.specs.Prelude.{◌≡◌, ℕ, zero, suc, ◌+◌, ◌==◌, List, [], ◌∷◌, ◌++◌, nat_le, Option, Some, None}
+use Rattle.std.specs.Prelude.{◌≡◌, Bool, ℕ, zero, suc, ◌+◌, ◌==◌, List, [], ◌∷◌, ◌++◌, nat_le, Option, Some, None}
 use Rattle.std.specs.Prelude.{◌*◌, codes, length, if◌then◌else◌, IfSome}
 use Rattle.std.specs.Fmt.{decimal, signed_decimal}
-use Rattle.std.specs.List.{AllByRecursion}
+use Rattle.std.specs.List.{AllByRecursion, list_any}
+use Rattle.std.specs.Str.{bytes_eq}
 use Rattle.pm_codefile.specs.Dictionary.{segment_in}
 use Rattle.pm_codefile.specs.Segments.{attributes_in, procedures_in}
 use Rattle.pm_codefile.specs.declared.table.Attributes.{Attributes}
@@ -80,9 +81,18 @@ items_kept s = count_of s.procedure
 abbrev pub IsSizedTable : List ℕ → SizedTable → Type 0
 IsSizedTable segment s = (s.callee ≡ table_callee segment s.table) × IsKept segment s
 
--- A segment with attribute tables of it.
-abbrev pub IsSizedSegment : SizedSegment → Type 0
-IsSizedSegment s = AllByRecursion (IsSizedTable s.segment.now) s.tables.items
+-- The sizes for the 256 procedure numbers of a segment. Number 0 has none.
+abbrev pub segment_callees : List ℕ → List (Option Callee)
+segment_callees segment = None ∷ callees_from segment 1 255
+
+-- The sizes and the attribute tables are those of the segment.
+pub record IsSizedSegment (s : SizedSegment) : Type 0 where
+  pub callees : s.callees.items ≡ segment_callees s.segment.now
+  pub tables : AllByRecursion (IsSizedTable s.segment.now) s.tables.items
+
+-- Whether one of the segments has these bytes.
+abbrev pub is_sized : List SizedSegment → List ℕ → Bool
+is_sized segments bytes = list_any (λ s. bytes_eq s.segment.now bytes) segments
 
 -- ---- the text
 

@@ -21,4 +21,4 @@ pub use lines::push_statements;
 pub use pm_trees::{Known, Layout};
 pub use procedure::push_procedure;
 pub use shown::{file, push_numbered};
-pub use sized::{Sized, SizedSegment, SizedTable, file_sizes};
+pub use sized::{Sized, SizedSegment, SizedTable, file_sizes, size_segment, sized_as};

@@ -13,7 +13,7 @@ ghost use Rattle.pm_statements.specs.Files as files;
 
 use crate::callees::{Returns, returns_of};
 use crate::procedure::push_procedure;
-use crate::sized::{Sized, SizedSegment, SizedTable, file_sizes};
+use crate::sized::{Sized, SizedSegment, SizedTable, file_sizes, size_segment, sized_as};
 use pm_code::{Label, Procedure};
 use pm_codefile::{Attributes, CodeFile, attributes, procedures};
 use pm_disasm::{Decoded, code, decode_segment};
@@ -302,11 +302,11 @@ fn push_slot(
         callees: &sizes.callees,
         layout,
     };
-    match sizes.segments.get(usize::from(n)) {
-        Some(sized) if sized.segment == segment => push_segment(alloc, text, &known, sized),
-        _ => {
-            let tables = Vec::new(alloc);
-            push_segment(alloc, text, &known, &SizedSegment { segment, tables })
+    match sized_as(&sizes.segments, segment) {
+        Some(sized) => push_segment(alloc, text, &known, sized),
+        None => {
+            let sized = size_segment(alloc, segment, &mut 0)?;
+            push_segment(alloc, text, &known, &sized)
         }
     }
 }

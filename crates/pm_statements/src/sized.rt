@@ -1,7 +1,7 @@
 //! The sizes of the procedures of a code file.
 
 ghost use Rattle.std.specs.Prelude.{◌≡◌, ◌%◌, ◌+◌, ◌∷◌, ◌++◌, ◌≤◌, ℕ, List, Option, None, Some, length, IfOk, IfSome};
-ghost use Rattle.std.specs.Prelude.{OnOk};
+ghost use Rattle.std.specs.Prelude.{OnOk, is_some, true};
 ghost use Rattle.std.specs.List.{AllByRecursion};
 ghost use Rattle.pm_code.specs.Views.{procedure_seen};
 ghost use Rattle.pm_codefile.specs.Dictionary.{segment_in};
@@ -18,7 +18,7 @@ use pm_disasm::{Decoded, code, decode_segment};
 use pm_trees::Callee;
 use std::alloc::{AllocError, Global};
 
-/// The number of items that may be cached for each byte of a segment.
+/// The number of items that may be cached for each byte of a code file.
 const ITEMS_FOR_A_BYTE: usize = 4;
 
 /// An attribute table, the sizes of its procedure, and what the returns leave. The procedure is included if there was
@@ -35,13 +35,15 @@ pub struct SizedTable {
     pub procedure: Option<Procedure>,
 }
 
-/// A segment with the attribute tables that were read.
+/// A segment with the sizes of its procedures and the attribute tables that were read.
 #[derive(Drop)]
 pub struct SizedSegment<'a> {
     /// The segment.
     pub segment: &'a [u8],
-    /// Its attribute tables.
+    /// The attribute tables of the segment.
     pub tables: Vec<SizedTable>,
+    /// The sizes for the 256 procedure numbers of the segment.
+    pub callees: Vec<Option<Callee>>,
 }
 
 /// Returns the sizes for an attribute table if it was already read.
@@ -148,33 +150,87 @@ fn table_callee_once<'a>(
     Ok(callee)
 }
 
-/// Appends the sizes for the 256 procedure numbers of a segment, and returns its attribute tables.
+/// Reads the sizes for the 256 procedure numbers of `segment`, and its attribute tables. Procedures that have at most
+/// `room` items together are cached, and `room` is reduced by their items. The segment may have at most 65,534 bytes.
 ///
-/// Procedures are cached up to four items for each byte of the segment. The limit is needed because several tables may
-/// refer to the same code.
-fn add_segment<'a>(
+/// # Errors
+///
+/// `AllocError` if memory runs out.
+pub fn size_segment<'a>(
     alloc: Global,
-    callees: &mut Vec<Option<Callee>>,
     segment: &'a [u8],
+    room: &mut usize,
 ) -> Result<SizedSegment<'a>, AllocError>
     requires even { length segment.now % 2 ≡ 0 }
     requires short { length segment.now ≤ 65534 }
-    ensures callees { OnOk result (callees.new.items
-        ≡ callees.old.items ++ (None ∷ files.callees_from segment.now 1 255)) }
     ensures sized { IfOk result (λ s. files.IsSizedSegment s) }
+    ensures segment { IfOk result (λ s. s.segment.now ≡ segment.now) }
 {
     let decoded = decode_segment(alloc, segment)?;
     let mut tables = Vec::new(alloc);
-    let mut room = segment.len().saturating_mul(ITEMS_FOR_A_BYTE);
+    let mut callees = Vec::new(alloc);
     callees.push(None)?;
     for done in 0..255 {
         let callee = match attributes(segment, done + 1) {
-            Some(a) => table_callee_once(alloc, segment, &decoded, &mut tables, &mut room, a)?,
+            Some(a) => table_callee_once(alloc, segment, &decoded, &mut tables, room, a)?,
             None => None,
         };
         callees.push(callee)?;
     }
-    Ok(SizedSegment { segment, tables })
+    Ok(SizedSegment {
+        segment,
+        tables,
+        callees,
+    })
+}
+
+/// Returns the first of `segments` that has the bytes of `segment`, or `None` if none of them has these bytes.
+pub fn sized_as<'s, 'a>(
+    segments: &'s [SizedSegment<'a>],
+    segment: &[u8],
+) -> Option<&'s SizedSegment<'a>>
+    ensures found { is_some result ≡ files.is_sized segments.now segment.now }
+    ensures segment { IfSome result (λ s. s.now.segment.now ≡ segment.now) }
+    ensures sized { AllByRecursion files.IsSizedSegment segments.now → IfSome result (λ s. files.IsSizedSegment s.now) }
+{
+    match segments {
+        [] => None,
+        [first, more @ ..] => {
+            if first.segment == segment {
+                Some(first)
+            } else {
+                sized_as(more, segment)
+            }
+        }
+    }
+}
+
+/// Appends the sizes for the 256 procedure numbers of a segment. A segment is read only if `segments` does not contain
+/// its bytes, because several slots may have the same segment.
+fn add_segment<'a>(
+    alloc: Global,
+    callees: &mut Vec<Option<Callee>>,
+    segments: &mut Vec<SizedSegment<'a>>,
+    room: &mut usize,
+    segment: &'a [u8],
+) -> Result<(), AllocError>
+    requires even { length segment.now % 2 ≡ 0 }
+    requires short { length segment.now ≤ 65534 }
+    requires sized { AllByRecursion files.IsSizedSegment segments.old.items }
+    ensures callees { OnOk result (callees.new.items
+        ≡ callees.old.items ++ files.segment_callees segment.now) }
+    ensures sized { OnOk result (AllByRecursion files.IsSizedSegment segments.new.items) }
+    ensures read { OnOk result (files.is_sized segments.new.items segment.now ≡ true) }
+    ensures once { files.is_sized segments.old.items segment.now ≡ true → segments.new.items ≡ segments.old.items }
+{
+    if let Some(sized) = sized_as(segments, segment) {
+        callees.extend_from_slice(&sized.callees)?;
+        return Ok(());
+    }
+    let sized = size_segment(alloc, segment, room)?;
+    callees.extend_from_slice(&sized.callees)?;
+    segments.push(sized)?;
+    Ok(())
 }
 
 /// Appends the sizes of the operating system's procedures.
@@ -188,44 +244,42 @@ fn add_system(callees: &mut Vec<Option<Callee>>) -> Result<(), AllocError>
     Ok(())
 }
 
-/// Appends the sizes for a slot, and returns the attribute tables of its segment.
+/// Appends the sizes for slot `n` of a code file, and adds its segment to `segments` if they do not contain it.
 fn add_slot<'a>(
     alloc: Global,
     callees: &mut Vec<Option<Callee>>,
+    segments: &mut Vec<SizedSegment<'a>>,
+    room: &mut usize,
     file: &CodeFile<'a>,
     n: u8,
-) -> Result<SizedSegment<'a>, AllocError>
+) -> Result<(), AllocError>
+    requires sized { AllByRecursion files.IsSizedSegment segments.old.items }
     ensures callees { OnOk result (callees.new.items
         ≡ callees.old.items ++ files.slot_callees n (segment_in file.now n)) }
-    ensures sized { IfOk result (λ s. files.IsSizedSegment s) }
+    ensures sized { OnOk result (AllByRecursion files.IsSizedSegment segments.new.items) }
 {
     match file.segment(n) {
-        Some(segment) => Ok(add_segment(alloc, callees, segment)?),
-        None if n == 0 => {
-            add_system(callees)?;
-            Ok(SizedSegment {
-                segment: &[],
-                tables: Vec::new(alloc),
-            })
-        }
-        None => Ok(add_segment(alloc, callees, &[])?),
+        Some(segment) => add_segment(alloc, callees, segments, room, segment),
+        None if n == 0 => add_system(callees),
+        None => add_segment(alloc, callees, segments, room, &[]),
     }
 }
 
-/// The sizes of the procedures of a code file, and the segments with their attribute tables.
+/// The sizes of the procedures of a code file, and its segments with their attribute tables.
 #[derive(Drop)]
 pub struct Sized<'a> {
     /// The sizes: 256 entries for each slot, by procedure number. If slot 0 has no segment, its entries are those of
     /// the operating system.
     pub callees: Vec<Option<Callee>>,
-    /// The segments, by their slots.
+    /// The segments. Slots with the same bytes have one segment.
     pub segments: Vec<SizedSegment<'a>>,
 }
 
 /// Reads the sizes of all procedures of a code file. [`file`](crate::file) needs them before it can write the first
 /// statement, because each procedure may call any other.
 ///
-/// Procedures are cached up to four items for each byte of their segment.
+/// Procedures are cached up to four items for each byte of the file. The limit is needed because several tables, and
+/// several segments, may refer to the same code.
 ///
 /// # Errors
 ///
@@ -237,9 +291,9 @@ pub fn file_sizes<'a>(alloc: Global, file: &CodeFile<'a>) -> Result<Sized<'a>, A
 {
     let mut callees = Vec::new(alloc);
     let mut segments = Vec::new(alloc);
+    let mut room = file.len().saturating_mul(ITEMS_FOR_A_BYTE);
     for n in 0..16 {
-        let segment = add_slot(alloc, &mut callees, file, n)?;
-        segments.push(segment)?;
+        add_slot(alloc, &mut callees, &mut segments, &mut room, file, n)?;
     }
     Ok(Sized { callees, segments })
 }

@@ -12,7 +12,9 @@ use crate::numbers::write_piece;
 use pm_codefile::{CodeFile, procedures};
 use pm_disasm::Decoded;
 use pm_jobs::{Fault, Sink};
-use pm_statements::{Known, Layout, Sized, SizedSegment, file_sizes, push_numbered};
+use pm_statements::{
+    Known, Layout, Sized, SizedSegment, file_sizes, push_numbered, size_segment, sized_as,
+};
 use std::alloc::Global;
 
 /// Writes the statements of one procedure number of a segment.
@@ -93,11 +95,11 @@ fn write_slot<W: Sink>(
         callees: &sizes.callees,
         layout,
     };
-    match sizes.segments.get(usize::from(n)) {
-        Some(sized) if sized.segment == segment => write_segment(alloc, sink, &known, sized),
-        _ => {
-            let tables = Vec::new(alloc);
-            write_segment(alloc, sink, &known, &SizedSegment { segment, tables })
+    match sized_as(&sizes.segments, segment) {
+        Some(sized) => write_segment(alloc, sink, &known, sized),
+        None => {
+            let sized = size_segment(alloc, segment, &mut 0)?;
+            write_segment(alloc, sink, &known, &sized)
         }
     }
 }

@@ -1,16 +1,13 @@
-use Rattle.std.proofs.Common.{◌≡◌, ◌-◌, ◌++◌, ◌∙◌, ap, append-nil, arith, subst, sym}
-use Rattle.std.specs.List.{AllByRecursion}
-use Rattle.pm_statements.specs.Files.{IsSizedSegment, file_callees, slots_callees}
-use Rattle.pm_statements.proofs.Filed.{all_behind, next_slot}
+use Rattle.std.proofs.Common.{◌≡◌, ◌-◌, ◌++◌, ◌∙◌, ap, append-nil, arith, sym}
+use Rattle.pm_statements.specs.Files.{file_callees, slots_callees}
+use Rattle.pm_statements.proofs.Filed.{next_slot}
 use Rattle.pm_statements.proofs.sized.file_sizes.Goals as goal
 
 pub loop-n-preserved : goal.loop-n-preserved
 loop-n-preserved c = record {
   callees = next_slot c.args.file.now c.loop-n.n c.add_slot.new.callees.items c.loop-n.callees.items _
-      (omega (arith, c.loop-n-test.true)) c.in_ok-segment.ensures.callees c.loop-n.invariant.callees;
-  segments = subst (AllByRecursion IsSizedSegment) (sym c.in_ok-push.ensures.items)
-      (all_behind IsSizedSegment c.loop-n.segments.items c.in_ok-segment.segment c.loop-n.invariant.segments
-      c.in_ok-segment.ensures.sized);
+      (omega (arith, c.loop-n-test.true)) c.in_ok-add_slot.ensures.callees c.loop-n.invariant.callees;
+  segments = c.in_ok-add_slot.ensures.sized;
 }
 
 pub returns : goal.returns

@@ -1,13 +1,12 @@
-use Rattle.std.proofs.Common.{rules, ◌++◌, ◌∷◌, [], ◌∙◌, None, ap, append_assoc, arith, sym}
+use Rattle.std.proofs.Common.{rules, ◌++◌, ◌∙◌, ap, arith, sym}
 use Rattle.pm_statements.specs.Files.{callee_in, callees_from}
 use Rattle.pm_statements.proofs.Filed.{next_callee}
-use Rattle.pm_statements.proofs.sized.add_segment.Goals as goal
-use Rattle.pm_statements.proofs.sized.add_segment.Goals.{in-Some+in_ok-callee-in-Some, in-None}
+use Rattle.pm_statements.proofs.sized.size_segment.Goals as goal
+use Rattle.pm_statements.proofs.sized.size_segment.Goals.{in-Some+in_ok-callee-in-Some, in-None}
 
 pub loop-done-init : goal.loop-done-init
 loop-done-init c = record {
-  callees = ap (λ cs. cs ++ callees_from c.args.segment.now 1 255) c.in_ok-push.ensures.items
-      ∙ append_assoc c.args.callees.now.items (None ∷ []) (callees_from c.args.segment.now 1 255);
+  callees = ap (λ cs. cs ++ callees_from c.args.segment.now 1 255) c.in_ok-push.ensures.items;
   tables = search rules;
 }
 

@@ -1,9 +1,9 @@
-//! The kinds of files: the low four bits of a word in a file's slot. Kinds 9 to 15 have no meaning.
+//! The kinds of files. The kind is the low four bits of the kind word in a file's slot. Kinds 9 to 15 have no meaning.
 
 /// A file without a kind.
 pub const UNTYPED: u8 = 0;
 
-/// Blocks of the disk that cannot be read. They are never moved.
+/// Blocks of the disk that cannot be read. A file of this kind is never moved.
 pub const BAD_BLOCKS: u8 = 1;
 
 /// A code file.

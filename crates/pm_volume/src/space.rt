@@ -18,7 +18,7 @@ pub struct Space {
 }
 
 impl Space {
-    // Returns the space with one more gap of `size` blocks.
+    // Returns this space with an additional gap of `size` blocks.
     fn with(self, size: u16) -> Space
         requires room { self.free ≤ 4294901760 }
         ensures free { result.free ≡ self.free + size }
@@ -31,7 +31,7 @@ impl Space {
     }
 }
 
-// Returns the free space of a directory.
+// Returns the free space of the volume whose directory is `directory`.
 #[tactic(auto, using(crate::proofs::SpaceLaws::space_steps))]
 pub(crate) fn space_of(directory: &[u8]) -> Space
     requires whole { length directory.now ≡ DIRECTORY_SIZE }

@@ -15,7 +15,7 @@ name_length c =
     let new : is_new_name 7 c.args.name.now ≡ true = search (rules, tests) in
     length-new_name 7 c.args.name.now new
 
--- The bytes before the directory is written.
+-- Before the directory is written, all bytes are zero.
 made : (c : After-as_bytes-2) → c.in-Ok.bytes.items ≡ zeros (512 * c.args.blocks)
 unfolding zeros
 made c = rw c.from.ensures at (c.in-Ok.ensures.items_if_clones_equal (λ y same. same))

@@ -29,8 +29,8 @@ fn standing(machine: &Machine, place: u16) -> Segment<'_>
     Segment { memory, place }
 }
 
-// Returns the segment whose highest word is at `place` and which has `count` open calls. Returns `None` if `count` is
-// 65,535 and the segment is not the running one, because the call then fails.
+// Returns the segment whose highest word is at `place` and which has `count` calls that have not returned. Returns
+// `None` if `count` is 65,535 and the segment is not the running one, because the call then fails.
 #[tactic(auto, unfolding(pm_calls::specs::Calls::reach_standing))]
 fn standing_reached(machine: &Machine, place: u16, count: u16) -> Option<Segment<'_>>
     ensures reached { (slot keeps : ℕ) → option_map segment_seen result

@@ -14,7 +14,7 @@ pub enum Status {
     Running,
     /// The program has ended.
     Ended,
-    /// An execution error has stopped the machine. The state is that before the instruction.
+    /// An execution error has stopped the machine.
     Halted(ExecError),
 }
 
@@ -27,7 +27,7 @@ pub enum Stop {
     Waiting,
     /// The program has ended.
     Ended,
-    /// An execution error has stopped the machine. Its state is that before the instruction, except for the status.
+    /// An execution error has stopped the machine. The step with the error changed only the status.
     Halted(ExecError),
 }
 

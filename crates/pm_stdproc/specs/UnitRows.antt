@@ -107,7 +107,7 @@ busy_row s = do
   new ← push s.memory unit.above s.registers.np 0
   Ok (record s { memory = new.0; registers = record s.registers { sp = new.1; ioresult = known (unit_of unit.word) } })
 
--- UNITCLEAR. Its operand is a unit, which is reset.
+-- UNITCLEAR. Its operand is a unit, which is cleared. This empties the input queue of the console.
 unfoldable pub clear_row : Served → Result Served ExecError
 clear_row s = do
   unit ← pop s.memory s.registers.sp

@@ -22,7 +22,7 @@ pub enum OnMemory {
     Mark,
     /// RELEASE: restores NP.
     Release,
-    /// IORESULT: pushes the result of the last transfer.
+    /// IORESULT: pushes the result of the latest input or output.
     IoResult,
     /// HALT: stops the program with an error.
     Halt,
@@ -43,7 +43,7 @@ pub enum OnUnits {
     Busy,
     /// UNITWAIT: sets only IORESULT, because no unit is ever busy.
     Wait,
-    /// UNITCLEAR: resets a unit.
+    /// UNITCLEAR: clears a unit. This empties the input queue if the unit is the console.
     Clear,
 }
 

@@ -22,7 +22,7 @@ use pm_words::{ExecError, Memory, Top};
 /// The operands of a UNITREAD or UNITWRITE.
 #[derive(Clone, Copy)]
 pub struct Order {
-    /// The addresses and counts of the transfer.
+    /// The address, the number of bytes and the block of the transfer.
     pub transfer: Transfer,
     /// The number of the unit.
     pub unit: u16,
@@ -298,7 +298,7 @@ fn wait_row(
     Ok(())
 }
 
-// UNITCLEAR: resets a unit, and sets IORESULT.
+// UNITCLEAR: clears a unit, which empties the input queue of the console, and sets IORESULT.
 #[tactic(auto, unfolding(crate::specs::UnitRows::clear_row), using(pm_words::proofs::WatchLaws::stays))]
 fn clear_row(
     units: &mut Units,

@@ -39,8 +39,8 @@ pub(crate) fn remove_slot(directory: &mut [u8], n: u16)
     set_word(directory, HEADER_FILES, count - 1);
 }
 
-// Moves the bytes of `area` up by the length of `slot`, and writes `slot` at the start. As many bytes at the end of
-// `area` are lost.
+// Moves the bytes of `area` up by the length of `slot`, and writes `slot` at the start. The same number of bytes at the
+// end of `area` is lost.
 fn push_front(area: &mut [u8], slot: &[u8])
     requires room { length slot.now ≤ length area.old }
     ensures moved { area.new ≡ slot.now ++ take (length area.old - length slot.now) area.old }

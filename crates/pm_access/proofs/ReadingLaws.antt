@@ -48,8 +48,8 @@ pub links_more : (b : Bytes) (m : List ℕ) (a k : ℕ) (f : Result ℕ ExecErro
 unfolding links_read
 links_more b m a k f e = rw (add-one, e) (meets_both b (word_stretch (up m a k)) (links_read m a k))
 
--- If `f` is the frame to which `k` dynamic links lead, then one of the bytes is in the first `k + 1` frames if and only
--- if it is in `f` or in the first `k` frames.
+-- Let `f` be the frame to which `k` dynamic links lead. Then one of the bytes is in the first `k + 1` frames if and
+-- only if it is in `f` or in the first `k` frames.
 pub frames_more : (b : Bytes) (m : List ℕ) (a k f : ℕ) → f ≡ frame_up m a k
     → meets b (frames_read m a (k + 1)) ≡ (meets b (left_read m f) || meets b (frames_read m a k))
 unfolding frames_read

@@ -1,4 +1,4 @@
-//! The segment that a call reaches.
+//! The segment that a call reaches: the segment that contains the called procedure.
 
 ghost use Rattle.std.specs.Prelude.{◌≡◌, ℕ, option_map, slice_get};
 ghost use Rattle.pm_calls.specs.Calls.{reach_loading, reach_standing};

@@ -110,7 +110,7 @@ fn operation_read(bytes: Bytes, what: Operation, machine: &Machine) -> bool
 /// Is true if the instruction at IPC reads one of the `count` bytes from `address` on. The bytes of the instruction
 /// itself are not included: its opcode, its operands, and words or a table of jumps in the code.
 ///
-/// A step that ends with an error counts as reading what it would read without the error, with these exceptions:
+/// For a step that ends with an error, the result is that for the step without the error. These are the exceptions:
 ///
 /// - An EXIT that does not find its procedure reads no frame.
 /// - A call that does not reach its segment reads nothing. A call that does not find its table reads no parameters and

@@ -27,8 +27,8 @@ fn links_up(memory: Loaded<'_>, jtab: u16, level: i8) -> i16
     i16::from(own) - i16::from(level) + 1
 }
 
-// Is true if one of the bytes `bytes` belongs to the level of the running procedure, or to the static links from its
-// frame to the frame that encloses a procedure of level `level`.
+// Is true if one of the bytes `bytes` belongs to the level of the running procedure, or to a static link that is
+// followed from its frame. The links lead to the frame that encloses a procedure of level `level`.
 fn inner_read(bytes: Bytes, memory: Loaded<'_>, registers: Registers, level: i8) -> bool
     ensures read { result ≡ meets bytes (inner_read (loaded_memory memory.entry) registers level) }
 {

@@ -1,4 +1,5 @@
-//! Ranges of memory that a step writes or reads, and the words that an instruction takes off the stack and pushes.
+//! Ranges of memory that a step writes or reads. These include the words that an instruction takes off the stack, and
+//! those that it pushes.
 
 ghost use Rattle.std.specs.Prelude.{◌≡◌, ◌≤◌, ◌∷◌, []};
 ghost use Rattle.pm_words.specs.Words.{word_at};

@@ -145,7 +145,7 @@ fn operation_written(bytes: Bytes, what: Operation, machine: &Machine) -> bool
 
 /// Is true if the instruction at IPC writes one of the `count` bytes from `address` on.
 ///
-/// A step that ends with an error counts as writing what it would write without the error, with these exceptions:
+/// For a step that ends with an error, the result is that for the step without the error. These are the exceptions:
 ///
 /// - An EXIT that does not find its procedure writes nothing.
 /// - A call that does not reach its segment writes nothing. A call that does not find its table writes no frame.

@@ -28,7 +28,7 @@ least_is t k n l h e =
     let whole : k + suc (n - k - 1) ≡ n = omega arith in
     rw whole at (least_from t k (n - k - 1) h e)
 
--- The walk continues at each of the first `n` frames.
+-- The walk of EXIT continues at each of the first `n` frames, of which the first is at `a`.
 abbrev pub Passes : List ℕ → Wanted → ℕ → ℕ → Type 0
 Passes m p a n = (i : ℕ) → i < n → met m p (frame_up m a i) ≡ Ok false
 

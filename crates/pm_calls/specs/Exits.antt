@@ -76,8 +76,8 @@ with_exits m a zero = m
 with_exits m a (suc i) =
     let f = frame_up m a i in with_word (with_exits m a i) ((f + 8) % 65536) (exit_code m (control m f 4))
 
--- The memory after EXIT has changed the frames from that at `a` up to the one whose caller is the requested procedure
--- `p`.
+-- The memory after EXIT, if the running procedure is not the requested one. The saved IPC is changed in each frame from
+-- that at `a` up to the first whose caller is the requested procedure `p`.
 unfoldable pub walked : List ℕ → Wanted → ℕ → Result (List ℕ) ExecError
 walked m p a = last_frame m p a >>= λ k. Ok (with_exits m a (k + 1))
 

@@ -17,7 +17,7 @@ use Rattle.pm_calls.specs.Calls.{Reached, called, here, is_base, reach_loading, 
 use Rattle.pm_calls.specs.Returns.{returned, stands_at}
 use Rattle.pm_words.specs.declared.layout.TheConstants.{STACK_END}
 
--- The code that is passed to a call consists of bytes.
+-- The code that is passed to a call, if any, is a list of bytes.
 abbrev pub IsCode : Option (List ℕ) → Type 0
 IsCode None = Unit {0}
 IsCode (Some code) = All (λ b. b < 256) code

@@ -1,4 +1,4 @@
-//! Registers whose SP and NP are even, with NP ≤ SP ≤ 65,504.
+//! The type `ValidRegisters`: registers whose SP and NP are even, with NP ≤ SP ≤ 65,504.
 
 ghost use Rattle.std.specs.Prelude.{◌≡◌};
 ghost use Rattle.pm_words.specs.Stack.{IsStack};

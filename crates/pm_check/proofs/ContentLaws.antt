@@ -1,4 +1,4 @@
--- The contents of the files of a salvaged volume.
+-- Laws of the contents of the files of a salvaged volume.
 use Rattle.std.proofs.Common.{◌≡◌, ◌<◌, ℕ, zero, suc, ◌+◌, ◌%◌, Bool, true, false, ltb, ◌&&◌, ◌||◌, ◌==◌, List, [], ◌∷◌, ◌++◌}
 use Rattle.std.proofs.Common.{length, take, get_or, map, Option, None, Some, refl, ap, arith, append_assoc, append-nil, inl, inr}
 use Rattle.std.specs.Prelude.{IfOk, Result, Ok, Err, nat_le, slice_index, unwrap_or, if◌then◌else◌}

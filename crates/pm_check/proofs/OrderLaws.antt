@@ -119,7 +119,8 @@ unfolding turned turned_front
 turned_blocks image =
     sym (fill_by_all (λ place. slice_index image place) image (length image) 0 refl (λ place inside. refl))
 
--- worked examples of sectors, offsets and bytes
+-- Worked examples: the sectors with which sectors 0 to 15 are exchanged. The next laws are examples of offsets and
+-- bytes.
 table_worked : map other_sector (range_with_len 0 16)
     ≡ 0 ∷ 14 ∷ 13 ∷ 12 ∷ 11 ∷ 10 ∷ 9 ∷ 8 ∷ 7 ∷ 6 ∷ 5 ∷ 4 ∷ 3 ∷ 2 ∷ 1 ∷ 15 ∷ []
 unfolding other_sector

@@ -64,7 +64,8 @@ counted_most n Sure = omega arith
 counted_most n (Shares slot) = omega arith
 counted_most n Behind = omega arith
 
--- If a volume was created, then either its files were added, or the volume refused one of them.
+-- If a new volume can be created, then the result of the salvage is the result of adding the files to this volume, with
+-- the last line of the report added.
 pub saved-all : (image name : List ℕ) (blocks count : ℕ) (taken : List Taken) (left : List Left) (volume text : List ℕ) (r : Result Saved VolumeFault)
     → blank_fault name (room_for blocks taken) ≡ None → volume ≡ blank_image name (room_for blocks taken) → text ≡ flat_map left_line left
     → saved_from image taken count taken (record { volume = volume; text = text; doubted = 0 }) ≡ r

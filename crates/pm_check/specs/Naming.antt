@@ -1,4 +1,4 @@
--- The names of salvaged files.
+-- The names that salvaged files and the new volume get.
 use Rattle.std.specs.Prelude.{ℕ, zero, suc, ◌+◌, ◌==◌, List, ◌∷◌, ◌++◌, codes, length, map, take}
 use Rattle.std.specs.Prelude.{if◌then◌else◌}
 use Rattle.std.specs.Char.{to_ascii_uppercase}

@@ -24,7 +24,7 @@ pub struct Left {
 pub struct Taken {
     /// The slot of the entry.
     pub slot: u16,
-    /// The entry.
+    /// The entry itself.
     pub entry: Entry,
 }
 

@@ -1,4 +1,4 @@
-//! The text of a check of an image.
+//! The text of a check of an image: a line for each broken rule, a line for each note, and a last line.
 ghost use Rattle.std.specs.Prelude.{◌≡◌, ◌++◌, IfOk, OnOk, string_bytes};
 ghost use Rattle.std.specs.List.{flat_map};
 ghost use Rattle.pm_check.specs.Checked.{check_text, finding_line, last_line, note_line};

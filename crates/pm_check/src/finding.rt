@@ -11,15 +11,15 @@ pub enum Finding {
     NotBlocks(usize),
     /// The image has this number of bytes, fewer than the 6 blocks that it needs for a directory.
     TooShort(usize),
-    /// The name of the volume has this number of characters.
+    /// The volume's name has this number of characters, not 1 to 7.
     VolumeName(u8),
-    /// The directory states that files begin at this block.
+    /// The directory states that files begin at the block with this number, not at 6 or 10.
     FilesBegin(u16),
     /// The volume has the first number of blocks, but files begin at the block with the second number.
     FewBlocks(u16, u16),
     /// The directory states the first number of blocks, but the image has only the second number.
     PastImage(u16, usize),
-    /// The directory states this number of files.
+    /// The directory states this number of files, which is greater than 77.
     ManyFiles(u16),
     /// The entry in the slot with this number breaks the rule.
     Slot(u16, SlotFinding),
@@ -28,7 +28,7 @@ pub enum Finding {
 /// A rule that the entry in a slot breaks.
 #[derive(Clone, Copy)]
 pub enum SlotFinding {
-    /// The name has this number of characters.
+    /// The name of the file has this number of characters, not 1 to 15.
     Name(u8),
     /// The entry begins at the block with the first number, but files begin at the block with the second number.
     First(u16, u16),

@@ -26,7 +26,7 @@ pub struct Span {
     pub begin: usize,
     /// The number of bytes of the blocks.
     pub size: usize,
-    /// The order of the blocks.
+    /// The order in which the file has the blocks.
     pub order: Order,
 }
 

@@ -1,4 +1,4 @@
-//! The names of salvaged files.
+//! The names that salvaged files and the new volume get.
 ghost use Rattle.std.specs.Prelude.{◌≡◌, ◌++◌, IfOk, OnOk, string_bytes};
 ghost use Rattle.pm_check.specs.Naming.{free_name, good_character, good_name, numbered, volume_name};
 

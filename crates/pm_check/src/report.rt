@@ -12,9 +12,9 @@ use std::fmt;
 pub enum Doubt {
     /// The file is not suspect.
     Sure,
-    /// The file has a block in common with the file in this slot.
+    /// The file has a block in common with the file in the slot with this number.
     Shares(u16),
-    /// The slot is after the number of files that the header states.
+    /// The number of the slot is greater than the number of files that the header states.
     Behind,
 }
 

@@ -23,7 +23,7 @@ use pm_volume::fields::{
 use pm_volume::{Entry, Volume, VolumeFault};
 use std::alloc::Global;
 
-/// The result of a salvage.
+/// The result of a salvage: a new volume, and a report.
 #[derive(Drop)]
 pub struct Salvaged {
     /// The image of the new volume.

@@ -22,7 +22,7 @@ shown_byte c = if nat_le 32 c && nat_le c 126 then c else 63
 unfoldable pub printable_name : List ℕ → List ℕ
 printable_name name = map shown_byte name
 
--- `n` spaces
+-- A list of `n` spaces.
 unfoldable pub spaces : ℕ → List ℕ
 spaces n = replicate n 32
 

@@ -1,4 +1,4 @@
--- The start of a program from a code file on a volume.
+-- The start of a program: its code file on a volume, the first call, and the state after this call.
 use Rattle.std.specs.Prelude.{ℕ, zero, suc, ◌+◌, ◌%◌, ◌==◌, ◌≡◌, List, [], ◌∷◌, ◌++◌, Option, Some, None, is_none}
 use Rattle.std.specs.Prelude.{is_some, replicate, Result, Ok, Err, IsOk, if◌then◌else◌}
 use Rattle.pm_words.specs.declared.error.ExecError.{ExecError}

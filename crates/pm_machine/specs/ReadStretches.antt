@@ -2,10 +2,12 @@
 -- bytes of the instruction itself are not included: its opcode, its operands, and words or a table of jumps in the
 -- code.
 --
--- A step that ends with an error counts as reading what it would read without the error, with these exceptions:
+-- For a step that ends with an error, the ranges are those that the step would read without the error. These are the
+-- exceptions:
 --
 -- - An EXIT that does not find its procedure reads no frame.
--- - A call does not reach its segment if there is no space for its code or its slot has none. It then reads nothing.
+-- - A call does not reach its segment if its code does not fit below SP or its slot has no code. Such a call reads
+--   nothing.
 -- - A call that does not find its table reads no parameters and no links.
 -- - An operation on sets or WORDS that this machine does not have (error 11) reads what it would compare; a comparison
 --   of REAL reads nothing.

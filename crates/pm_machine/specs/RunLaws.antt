@@ -1,4 +1,4 @@
--- Laws of steps and runs.
+-- Statements of the laws of steps and runs.
 use Rattle.std.specs.Prelude.{◌≡◌, ◌≢◌, ◌↔◌, ◌<◌, ℕ, ◌+◌, ◌%◌, Bool, true, false, List, Result, Ok, Err}
 use Rattle.pm_words.specs.declared.error.ExecError.{ExecError}
 use Rattle.pm_words.specs.Words.{word_at}

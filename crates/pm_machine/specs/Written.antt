@@ -1,11 +1,12 @@
 -- What a step writes: the ranges of memory that the rule of its instruction writes, in the state before the step. Words
 -- that an instruction only reads or takes off the stack are not included.
 --
--- A step that ends with an error counts as writing what it would write without the error. The same holds for a transfer
--- that moves nothing. The exceptions are:
+-- For a step that ends with an error, the ranges are those that the step would write without the error. The same holds
+-- for a transfer that moves nothing. These are the exceptions:
 --
 -- - An EXIT that does not find its procedure writes nothing.
--- - A call does not reach its segment if there is no space for its code or its slot has none. It then writes nothing.
+-- - A call does not reach its segment if its code does not fit below SP or its slot has no code. Such a call writes
+--   nothing.
 -- - A call that does not find its table writes no frame.
 -- - An operation on sets or WORDS that this machine does not have (error 11) writes the word of its result; a
 --   comparison of REAL writes nothing.
@@ -188,7 +189,8 @@ reached_written call sp (Ok at) =
     ∷ frame_written call at.loaded sp (attributes at.memory at.place (procedure_called call))
 reached_written call sp (Err e) = []
 
--- The segment that a call of slot `n` reaches. A segment with an address is in memory; otherwise its code is loaded.
+-- The segment that a call of slot `n` with the given entry reaches. If the entry has an address, the segment is in
+-- memory. Otherwise its code is loaded.
 abbrev pub slot_reached : ℕ → Parts → Option (Option SegmentPlace) → Result (Option (List ℕ)) ExecError
     → Result Reached ExecError
 slot_reached n c (Some (Some p)) code = reach_standing c n p

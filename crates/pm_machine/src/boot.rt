@@ -1,4 +1,4 @@
-//! The start of a program from a code file on a volume.
+//! The start of a program: finding its code file on a volume, and executing the first call.
 
 ghost use Rattle.std.specs.Prelude.{◌≡◌, ◌<◌, ◌%◌, IfOk, IfErr, IfSome, length, option_map};
 ghost use Rattle.pm_calls.specs.Calls.{called};

@@ -54,10 +54,10 @@ pub enum BootFault {
     /// 3: the code file cannot be read or has no segment 1, or bare code is too long.
     #[error("bad code file")]
     BadCode,
-    /// 4: the call of the first procedure fails.
+    /// 4: the first call of the program fails with this execution error.
     #[error("execution error at the first call")]
     Exec(ExecError),
-    /// 5: out of memory.
+    /// 5: the host has no memory for the machine.
     #[error("out of memory")]
     NoMemory,
 }

@@ -16,9 +16,9 @@ abbrev pub found_code : Option (List ℕ) → Result (Option (List ℕ)) ExecErr
 found_code None = Err SystemIo
 found_code (Some code) = Ok (Some code)
 
--- The code of a slot with the given row, from the disk that is now in its unit. `None` for a slot above 15 and for
--- length 0; a call has errors of its own for these. `SystemIo` if the unit has no disk, or if the code extends past the
--- end of the disk.
+-- The code of a slot with the given row, from the disk that is now in its unit. `None` if the slot does not exist or
+-- its length is 0; a call then has an error of its own. `SystemIo` if the unit has no disk, or if the code extends past
+-- the end of the disk.
 abbrev pub code_of_row : Option SlotRow → Devices → Result (Option (List ℕ)) ExecError
 code_of_row None d = Ok None
 code_of_row (Some row) d = if row.length == 0 then Ok None else found_code (code_on d row.unit row.block row.length)

@@ -17,7 +17,7 @@ use Rattle.pm_volume.specs.declared.gap.Gap.{Gap}
 use Rattle.pm_volume.proofs.KrunchLaws.{gaps-krunched}
 use Rattle.pm_volume.proofs.PackedLaws.{order-packed}
 
--- The number of blocks of all files.
+-- The number of blocks of all files of the list together.
 taken : List Entry → ℕ
 taken [] = 0
 taken (e ∷ es) = (e.end - e.first) + taken es

@@ -1,4 +1,4 @@
--- Laws of the second copy of the directory.
+-- Proofs of the laws that the second copy of the directory saves the files of a volume.
 use Rattle.std.proofs.Common.{◌≡◌, ◌<◌, ◌≤◌, ◌⊎◌, ◌&&◌, ◌==◌, true, leb, ℕ, ◌+◌, ◌-◌, ◌/◌, ◌%◌, List, ◌∙◌, ap, refl, inl, inr, length, get_or, drop, Option}
 use Rattle.std.proofs.Common.{Some, None, Ok, arith, length-take, length-drop}
 use Rattle.std.proofs.lemmas.Bool.{and_parts, cases_lt, eqb-true, le-ltb, leb-true}
@@ -100,7 +100,7 @@ pub good_images_stay : GoodImagesStay
 unfolding repaired
 good_images_stay image v = let none = none-from_volume image v in rw none refl
 
--- A volume with two equal copies, of which the first is overwritten.
+-- Facts about a volume with two equal copies of the directory, after `bytes` overwrite the first copy.
 module _ (image bytes : List ℕ) (v : IsVolume image) (copies : HasCopies image Same) (whole : length bytes ≡ 2048) where
   long : 5120 ≤ length image
   long = omega (arith, copies.0, v.has_directory.holds_directory, v.has_directory.within, v.whole)
@@ -139,7 +139,8 @@ written-again xs ys d i n size size' room same =
           ]
     ])
 
--- A volume with two equal copies, of which the first is overwritten.
+-- If the first of two equal copies is overwritten by `bytes`, and then the second is copied over it, then the image is
+-- as before.
 module _ (image bytes : List ℕ) (v : IsVolume image) (copies : HasCopies image Same) (whole : length bytes ≡ 2048) where
   back : restored (written image 1024 bytes) ≡ image
   unfolding restored

@@ -1,4 +1,4 @@
--- The second copy of a directory.
+-- The second copy of a directory: whether it exists, and how changes and repairs use it.
 use Rattle.std.specs.Prelude.{◌≡◌, ◌≢◌, ◌==◌, ◌&&◌, Bool, nat_le, ℕ, List, ◌∷◌, length, Option, Some, None, Result, Ok}
 use Rattle.std.specs.Prelude.{Err, if◌then◌else◌}
 use Rattle.pm_volume.specs.Directory.{directory_of, files_begin, image_fault, second_of}

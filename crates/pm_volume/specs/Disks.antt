@@ -1,4 +1,4 @@
--- The image of a disk, as a list of bytes.
+-- The blocks of a disk, whose image is a list of bytes.
 use Rattle.std.specs.Prelude.{◌≤◌, nat_le, ℕ, ◌+◌, ◌*◌, List, length, slice_range, Option, Some, None, if◌then◌else◌}
 use Rattle.pm_bytes.specs.declared.blocks.TheConstants.{BLOCK}
 

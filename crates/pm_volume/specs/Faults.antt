@@ -1,4 +1,4 @@
--- The numbers of the faults.
+-- The numbers of the faults of volumes.
 use Rattle.std.specs.Prelude.{ℕ, Option, Some, None}
 use Rattle.pm_volume.specs.declared.fault.VolumeFault.{VolumeFault}
 use Rattle.pm_volume.specs.declared.fault.VolumeFault.TheVariants.{NotBlocks, TooShort, BadHeader, BadEntry}

@@ -1,4 +1,4 @@
--- Laws of the second copy of the directory.
+-- Statements of the laws that the second copy of the directory saves the files of a volume.
 use Rattle.std.specs.Prelude.{◌≡◌, ◌⊎◌, ℕ, ◌%◌, true, List, length, Some, None, Ok}
 use Rattle.std.specs.List.{All}
 use Rattle.pm_volume.specs.Copies.{HasCopies, repaired}

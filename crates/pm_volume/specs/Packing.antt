@@ -49,7 +49,8 @@ pub record Krunches (old new : List ℕ) : Type 0 where
   pub moved : AllZip (MovesFile old new) (files_of old) (files_of new)
   pub rest : ChangesOnly (and_second (directory_of old) (packed_spans 1 (files_of new))) old new
 
--- The definitions below describe how the files are moved, one after the other. Those above describe the result.
+-- The definitions above describe the result of moving files together. Those below describe how the files are moved, one
+-- after the other.
 
 -- The directory with the block numbers `first` and `end` in slot `n`.
 unfoldable pub with_places : List ℕ → ℕ → ℕ → ℕ → List ℕ

@@ -1,4 +1,4 @@
--- The name and the free space of a volume.
+-- The name of a volume, its gaps, and its free space.
 use Rattle.std.specs.Prelude.{ℕ, ◌+◌, ◌-◌, List, max, slice_index, slice_range}
 use Rattle.std.specs.List.{fold, sum_by}
 use Rattle.pm_volume.specs.Changes.{gaps}
@@ -23,7 +23,7 @@ gaps_in directory = gaps (block_count directory) 1 (files_begin directory) (file
 abbrev pub free_in : List ℕ → ℕ
 free_in directory = sum_by gap_size (gaps_in directory)
 
--- The number of blocks of the largest gap, 0 if no block is free.
+-- The number of blocks of the largest gap. It is 0 if no block is free.
 abbrev pub largest_in : List ℕ → ℕ
 largest_in directory = fold (λ most gap. max most (gap_size gap)) 0 (gaps_in directory)
 

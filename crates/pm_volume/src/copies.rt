@@ -1,4 +1,4 @@
-//! The second copy of a directory.
+//! The second copy of a directory: checking it, and copying one copy over the other.
 
 ghost use Rattle.std.specs.Prelude.{◌≡◌, ◌↔◌, IsTrue, ◌+◌, ◌≤◌, length, slice_range};
 ghost use Rattle.std.specs.Bool.{OnTrue};
@@ -13,7 +13,8 @@ use crate::fields::{
 };
 use pm_bytes::{BLOCK, word};
 
-/// Whether a volume has one or two copies of its directory. Each copy has four blocks.
+/// The number of copies of its directory that a volume has, and whether two copies are equal. Each copy has four
+/// blocks.
 #[derive(Clone, Copy, Debug, PartialEq, Eq)]
 pub enum Copies {
     /// One copy, in blocks 2 to 5. Files begin at block 6.

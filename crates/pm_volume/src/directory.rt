@@ -154,8 +154,8 @@ pub(crate) fn write_directory(directory: &mut [u8], past: u16, name: &[u8], bloc
     set_word(directory, HEADER_DATE, date);
 }
 
-/// An iterator over the entries of a volume, in block order. Contracts see it as the list of the entries that it has
-/// not yet returned.
+/// An iterator over the entries of a volume, in block order. Contracts describe it as the list of the entries that it
+/// has not yet returned.
 #[derive(Drop)]
 pub struct Entries<'a> {
     directory: &'a [u8],

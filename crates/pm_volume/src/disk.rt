@@ -10,7 +10,7 @@ ghost use Rattle.pm_bytes.specs.declared.blocks.TheConstants.{BLOCK};
 use pm_bytes::{BLOCK, set_bytes};
 use std::marker::Model;
 
-/// A disk: an image of whole blocks of 512 bytes. Contracts see it as the list of its bytes.
+/// A disk: an image of whole blocks of 512 bytes. Contracts describe a disk as the list of its bytes.
 #[derive(Drop)]
 pub struct Disk {
     pub(crate) bytes: Vec<u8>,

@@ -32,7 +32,7 @@ pub struct Entry {
 impl Entry {
     ghost use Rattle.pm_volume.specs.Changes.{entry_slot};
 
-    // Returns the entry that the 26 bytes of a directory slot contain.
+    // Returns the entry that the 26 bytes `slot` of a directory contain.
     #[tactic(auto, unfolding(crate::specs::Entries::entry_of))]
     pub(crate) fn read(slot: &[u8]) -> Entry
         requires size { length slot.now ≡ SLOT }

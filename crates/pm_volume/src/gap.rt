@@ -1,4 +1,4 @@
-//! The gaps between files.
+//! The gaps of free blocks between files, and the search for a gap for a new file.
 
 ghost use Rattle.std.specs.Prelude.{◌≡◌, ◌+◌, ◌≤◌, length};
 ghost use Rattle.pm_volume.specs.Directory.{file_count};

@@ -1,4 +1,4 @@
-//! Inserting and removing slots of a directory.
+//! Inserting a slot into a directory, and removing a slot from it.
 
 ghost use Rattle.std.specs.Prelude.{◌≡◌, ◌+◌, ◌-◌, ◌++◌, ◌<◌, ◌≤◌, drop, length, replicate, take};
 ghost use Rattle.pm_volume.specs.Changes.{with_slot, without_slot};

@@ -1,4 +1,4 @@
-//! The free space of a volume.
+//! Computing the free space of a volume from its directory.
 ghost use Rattle.std.specs.Prelude.{◌≡◌, ◌≤◌, ◌+◌, max, length};
 ghost use Rattle.pm_volume.specs.Directory.{file_count};
 ghost use Rattle.pm_volume.specs.Space.{free_in, largest_in};
@@ -11,7 +11,7 @@ use pm_bytes::word;
 /// The free space of a volume.
 #[derive(Clone, Copy)]
 pub struct Space {
-    /// The number of blocks of all gaps.
+    /// The number of blocks of all gaps together.
     pub free: u32,
     /// The number of blocks of the largest gap, 0 if no block is free.
     pub largest: u16,

@@ -30,7 +30,7 @@ use pm_bytes::{BLOCK, blocks_for, word};
 use std::alloc::Global;
 use std::marker::Model;
 
-/// A volume: an image whose directory is valid. Contracts see it as the bytes of the image.
+/// A volume: an image whose directory is valid. Contracts describe a volume as the list of the bytes of the image.
 #[derive(Drop)]
 pub struct Volume {
     bytes: Vec<u8>,
@@ -528,7 +528,7 @@ impl Volume {
         self.entries().any(|entry| entry.first < PAST_SECOND)
     }
 
-    /// Converts the volume to a disk. Anything can be written to a disk, also to its directory.
+    /// Converts the volume to a disk. Any bytes can be written to a disk, also to its directory.
     pub fn into_disk(self) -> Disk
         ensures image { result ≡ self }
         ensures volume { IsVolume result }
@@ -638,7 +638,7 @@ impl Volume {
         Ok(())
     }
 
-    // Returns the 2,048 bytes of the directory.
+    // Returns the 2,048 bytes of the first copy of the directory.
     fn directory(&self) -> &[u8]
         ensures volume { IsVolume self.now }
         ensures bytes { result.now ≡ directory_of self.now }

@@ -26,7 +26,7 @@ mirror-requires c =
     let same = c.deref_mut.ensures.value ∙ packed w in
     record { whole = rw same (IsVolume-packed c.args.self.now (volume w) (fits w)).long }
 
--- The image after the call.
+-- After the call, the image is `krunched_image` of the old image.
 image_after : (c : After-mirror)
     → c.pack_files.new.image.items ≡ packed_image c.args.self.now 1 (files_begin (directory_of c.args.self.now)) (file_count (directory_of c.args.self.now))
     → take c.pack_files.new.image.len (c.mirror.new.image ++ drop (length c.mirror.new.image) c.pack_files.new.image.items)

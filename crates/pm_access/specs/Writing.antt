@@ -1,4 +1,4 @@
--- Whether one of the bytes of a query is written.
+-- Queries: whether one of the bytes of a query is in a list of ranges, and the ranges that a call writes.
 use Rattle.std.specs.Prelude.{ℕ, Bool, List, ◌∷◌}
 use Rattle.std.specs.List.{list_any}
 use Rattle.pm_families.specs.declared.families.Call.{Call}
@@ -8,11 +8,12 @@ use Rattle.pm_machine.specs.Written.{Stretch, frame_written, stretch_to, touches
 use Rattle.pm_access.specs.declared.stretches.Bytes.{Bytes}
 use Rattle.pm_access.specs.Reached.{Seen}
 
--- One of these ranges contains one of the bytes.
+-- Is true if one of the ranges `stretches` contains one of the bytes `bytes`.
 abbrev pub meets : Bytes → List Stretch → Bool
 meets bytes stretches = list_any (touches bytes.address bytes.count) stretches
 
--- A call in a segment writes the code that is loaded for it, which ends at SP, and its frame.
+-- The ranges that `call` writes if it reaches the segment `at`: the code that is loaded for it, which ends at SP, and
+-- the new frame.
 abbrev pub frame_and_code : Call → ℕ → Seen → List Stretch
 frame_and_code call sp at =
     stretch_to sp at.loaded

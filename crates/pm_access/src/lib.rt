@@ -1,4 +1,4 @@
-//! The bytes of memory that the next step of a machine writes and reads, by the rule of its instruction.
+//! Which bytes of memory the next step of a machine reads and writes, according to the rule of its instruction.
 #![tactic(auto)]
 
 mod loaded;

@@ -1,4 +1,4 @@
-//! The bytes and words of the memory with loaded code.
+//! Reading bytes, words and attribute tables from a `Loaded`: the memory as it is after code was loaded.
 
 ghost use Rattle.std.specs.Prelude.{◌≡◌, length};
 ghost use Rattle.pm_words.specs.Words.{byte_at, word_at};
@@ -11,7 +11,7 @@ use pm_calls::Table;
 use pm_words::{ExecError, Memory};
 
 impl<'a> Loaded<'a> {
-    /// Creates a view of the memory without loaded code.
+    /// Returns a `Loaded` of `memory` without any loaded code.
     #[tactic(auto, using(crate::proofs::WritingLaws::no_code))]
     pub(crate) fn plain(memory: &'a Memory) -> Loaded<'a>
         ensures same { loaded_memory result ≡ memory.now.words }
@@ -24,7 +24,8 @@ impl<'a> Loaded<'a> {
         }
     }
 
-    // Returns the byte at an address.
+    // Returns the byte at `address`: a byte of the loaded code if `address` is in its range, and otherwise a byte of
+    // the memory.
     fn byte(self, address: u16) -> u8
         ensures byte { result ≡ byte_at (loaded_memory self.entry) address }
     {
@@ -39,7 +40,7 @@ impl<'a> Loaded<'a> {
         }
     }
 
-    /// Returns the word at an address, or `InvalidMemory` if the address is odd.
+    /// Returns the word at `address`, or `InvalidMemory` if `address` is odd.
     pub(crate) fn load(self, address: u16) -> Result<u16, ExecError>
         ensures word { result ≡ load (loaded_memory self.entry) address }
     {
@@ -50,7 +51,7 @@ impl<'a> Loaded<'a> {
         Ok(u16::from(low) + 256 * u16::from(high))
     }
 
-    /// Returns the word at an address. The lowest bit of the address does not count.
+    /// Returns the word at `address`. The lowest bit of `address` is ignored.
     #[tactic(auto, using(crate::proofs::ReadingLaws::word_below))]
     pub(crate) fn word(self, address: u16) -> u16
         ensures word { result ≡ word_at (loaded_memory self.entry) address }
@@ -58,12 +59,12 @@ impl<'a> Loaded<'a> {
         self.load(address - address % 2).unwrap_or(0)
     }
 
-    /// Returns the table of a procedure of the segment whose highest word is at `place`.
+    /// Returns the attribute table of procedure `procedure` of the segment whose highest word is at address `place`.
     ///
     /// # Errors
     ///
     /// - `InvalidMemory`: an address that is read is odd.
-    /// - `NoSegment`: the procedure number is 0 or above that of the segment.
+    /// - `NoSegment`: `procedure` is 0 or greater than the number of procedures of the segment.
     /// - `NoSegment`: the address of the table, the size of the parameters or the size of the locals is odd.
     /// - `Unimplemented`: the procedure number in the table is 0.
     #[tactic(auto, unfolding(pm_calls::specs::Tables::attributes))]

@@ -1,4 +1,4 @@
-//! The segment that a call reaches.
+//! The segment that a call reaches: the segment that contains the called procedure.
 
 ghost use Rattle.std.specs.Prelude.{◌≡◌, ℕ, option_map, slice_get};
 ghost use Rattle.pm_calls.specs.Calls.{reach_loading, reach_standing};
@@ -11,16 +11,16 @@ use crate::loaded::Loaded;
 use pm_families::Call;
 use pm_machine::Machine;
 
-/// A segment, and the memory with the code that is loaded for its call.
+/// A segment that a call reaches, in the memory after its code was loaded for the call.
 #[derive(Clone, Copy)]
 pub(crate) struct Segment<'a> {
-    /// The memory with the loaded code.
+    /// The memory, with the code that was loaded.
     pub memory: Loaded<'a>,
-    /// The address of its highest word.
+    /// The address of the highest word of the segment.
     pub place: u16,
 }
 
-// Returns the segment whose highest word is at `place`, without loaded code.
+// Returns the loaded segment whose highest word is at `place`. No code is loaded for the call.
 fn standing(machine: &Machine, place: u16) -> Segment<'_>
     ensures seen { segment_seen result
         ≡ record { memory = machine.now.state.memory; place = place; loaded = 0 } }
@@ -29,8 +29,8 @@ fn standing(machine: &Machine, place: u16) -> Segment<'_>
     Segment { memory, place }
 }
 
-// Returns the segment whose highest word is at `place` and which has `count` calls. Returns `None` if the count is
-// 65,535 and the segment is not the running one.
+// Returns the segment whose highest word is at `place` and which has `count` calls that have not returned. Returns
+// `None` if `count` is 65,535 and the segment is not the running one, because the call then fails.
 #[tactic(auto, unfolding(pm_calls::specs::Calls::reach_standing))]
 fn standing_reached(machine: &Machine, place: u16, count: u16) -> Option<Segment<'_>>
     ensures reached { (slot keeps : ℕ) → option_map segment_seen result
@@ -43,8 +43,8 @@ fn standing_reached(machine: &Machine, place: u16, count: u16) -> Option<Segment
     Some(standing(machine, place))
 }
 
-// Returns the segment whose code is loaded below SP. Returns `None` if the code is empty or longer than the space
-// between NP and SP.
+// Returns the segment with the code `code`, which the call loads below SP. Returns `None` if `code` is empty or longer
+// than the space between NP and SP.
 #[tactic(auto, unfolding(pm_calls::specs::Calls::reach_loading))]
 fn loading_reached<'a>(machine: &'a Machine, code: &'a [u8]) -> Option<Segment<'a>>
     ensures reached { (slot : ℕ) → option_map segment_seen result
@@ -64,7 +64,7 @@ fn loading_reached<'a>(machine: &'a Machine, code: &'a [u8]) -> Option<Segment<'
     Some(Segment { memory, place })
 }
 
-// Returns the segment of a slot, or `None` if a call does not reach it.
+// Returns the segment of `slot`, or `None` if a call of this segment fails before it reaches the segment.
 fn slot_reached(machine: &Machine, slot: u8) -> Option<Segment<'_>>
     ensures reached { option_map segment_seen result
         ≡ reached_seen (slot_reached slot (parts machine.now.state) (slice_get machine.now.state.places slot)
@@ -82,7 +82,7 @@ fn slot_reached(machine: &Machine, slot: u8) -> Option<Segment<'_>>
     }
 }
 
-/// Returns the segment that a call reaches, or `None` if it reaches none.
+/// Returns the segment that `call` reaches, or `None` if `call` fails before it reaches a segment.
 #[tactic(auto, unfolding(pm_stdproc::specs::Loads::code_needed))]
 pub(crate) fn call_reached(machine: &Machine, call: Call) -> Option<Segment<'_>>
     ensures reached { option_map segment_seen result ≡ reached_seen (call_reached call machine.now.state) }

@@ -1,4 +1,5 @@
-//! Whether the next step reads a byte of a range of memory. The bytes of its instruction do not count.
+//! Whether the next step reads one of the bytes `bytes` of a query, which are a range of memory. The bytes of the
+//! instruction itself are not included.
 
 ghost use Rattle.std.specs.Prelude.{◌≡◌};
 ghost use Rattle.pm_machine.specs.Procedures.{is_base_return};
@@ -18,7 +19,7 @@ use pm_machine::Machine;
 use pm_opcode::{Operation, decode};
 use pm_words::Memory;
 
-// Whether an operation on a variable of a frame reads one of the bytes.
+// Is true if the operation `what` on a variable reads one of the bytes `bytes`.
 #[tactic(auto, using(crate::proofs::ReadingLaws::meets_both))]
 fn variable_read(bytes: Bytes, what: Variable, machine: &Machine) -> bool
     ensures read { result ≡ meets bytes (variable_read what machine.now.state) }
@@ -37,7 +38,7 @@ fn variable_read(bytes: Bytes, what: Variable, machine: &Machine) -> bool
     }
 }
 
-// Whether an operation reads one of the bytes at the address that is on the stack.
+// Is true if the operation `what` reads one of the bytes `bytes` at the address that is on the top of the stack.
 fn led_to(bytes: Bytes, what: Pointer, memory: &Memory, sp: u16) -> bool
     ensures read { result ≡ meets bytes (led_to what memory.now.words sp) }
 {
@@ -54,7 +55,7 @@ fn led_to(bytes: Bytes, what: Pointer, memory: &Memory, sp: u16) -> bool
     }
 }
 
-// Whether an operation on an address on the stack reads one of the bytes.
+// Is true if the operation `what` on an address that is on the stack reads one of the bytes `bytes`.
 #[tactic(auto, using(crate::proofs::ReadingLaws::meets_both))]
 fn pointer_read(bytes: Bytes, what: Pointer, memory: &Memory, sp: u16) -> bool
     ensures read { result ≡ meets bytes (pointer_read what memory.now.words sp) }
@@ -62,7 +63,7 @@ fn pointer_read(bytes: Bytes, what: Pointer, memory: &Memory, sp: u16) -> bool
     takes_words(bytes, Operation::Pointer(what), memory, sp) || led_to(bytes, what, memory, sp)
 }
 
-// Whether a return restores BASE.
+// Is true if the return `what` restores BASE.
 fn is_base_return(what: Return) -> bool
     ensures base { result ≡ is_base_return what }
 {
@@ -72,7 +73,8 @@ fn is_base_return(what: Return) -> bool
     }
 }
 
-// Whether a return from the frame at `mp` with `words` words of a result reads one of the bytes.
+// Is true if a return from the frame at `mp`, with a result of `words` words, reads one of the bytes `bytes`. `base`
+// states whether the return restores BASE.
 fn return_read(bytes: Bytes, words: u8, base: bool, mp: u16) -> bool
     ensures read { result ≡ meets bytes (return_read words base mp) }
 {
@@ -82,7 +84,7 @@ fn return_read(bytes: Bytes, words: u8, base: bool, mp: u16) -> bool
         || base && meets(bytes, usize::from(mp.wrapping_sub(2)), 2)
 }
 
-// Whether an operation reads one of the bytes.
+// Is true if the operation `what` reads one of the bytes `bytes`.
 fn operation_read(bytes: Bytes, what: Operation, machine: &Machine) -> bool
     ensures read { result ≡ meets bytes (operation_read what machine.now.state) }
 {
@@ -105,10 +107,10 @@ fn operation_read(bytes: Bytes, what: Operation, machine: &Machine) -> bool
     }
 }
 
-/// Whether the instruction at IPC reads one of `count` bytes from `address` on. The bytes of the instruction do not
-/// count: its opcode, its operands, and words or a table of jumps in the code.
+/// Is true if the instruction at IPC reads one of the `count` bytes from `address` on. The bytes of the instruction
+/// itself are not included: its opcode, its operands, and words or a table of jumps in the code.
 ///
-/// A step that ends with an error counts as reading what it would read without the error, with these exceptions:
+/// For a step that ends with an error, the result is that for the step without the error. These are the exceptions:
 ///
 /// - An EXIT that does not find its procedure reads no frame.
 /// - A call that does not reach its segment reads nothing. A call that does not find its table reads no parameters and

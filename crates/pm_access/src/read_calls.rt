@@ -1,4 +1,5 @@
-//! What calls read: the table of the procedure, the parameters, and the words that lead to the static link.
+//! What calls read: the attribute table, the parameters, and the words that lead to the static link. A query asks
+//! whether one of the bytes `bytes` is read.
 
 ghost use Rattle.std.specs.Prelude.{◌≡◌, pos, ◌+ℤ◌, ◌-ℤ◌};
 ghost use Rattle.pm_words.specs.Words.{word_at};
@@ -17,8 +18,8 @@ use pm_families::Call;
 use pm_machine::Machine;
 use pm_words::ExecError;
 
-// Returns the number of links from the frame of the procedure with its table at `jtab` to the frame that encloses a
-// procedure of this level.
+// Returns the number of static links from the frame of the running procedure to the frame that encloses a procedure of
+// level `level`. The table of the running procedure is at `jtab`.
 fn links_up(memory: Loaded<'_>, jtab: u16, level: i8) -> i16
     ensures links { result ≡ level_of (word_at (loaded_memory memory.entry) jtab) -ℤ level +ℤ pos 1 }
 {
@@ -26,7 +27,8 @@ fn links_up(memory: Loaded<'_>, jtab: u16, level: i8) -> i16
     i16::from(own) - i16::from(level) + 1
 }
 
-// Whether one of the bytes is of the level of the running procedure, or of the links up from its frame.
+// Is true if one of the bytes `bytes` belongs to the level of the running procedure, or to a static link that is
+// followed from its frame. The links lead to the frame that encloses a procedure of level `level`.
 fn inner_read(bytes: Bytes, memory: Loaded<'_>, registers: Registers, level: i8) -> bool
     ensures read { result ≡ meets bytes (inner_read (loaded_memory memory.entry) registers level) }
 {
@@ -34,7 +36,7 @@ fn inner_read(bytes: Bytes, memory: Loaded<'_>, registers: Registers, level: i8)
     meets(bytes, usize::from(registers.jtab), 2) || links_by(bytes, memory, registers.mp, links)
 }
 
-// Whether one of the bytes is read to find the static link of a procedure of this level.
+// Is true if `call` reads one of the bytes `bytes` to find the static link of a procedure of level `level`.
 fn static_link_read(
     bytes: Bytes,
     call: Call,
@@ -58,7 +60,8 @@ fn static_link_read(
     }
 }
 
-// Whether one of the bytes is read of the table of a procedure, in the segment whose highest word is at `place`.
+// Is true if a call reads one of the bytes `bytes` in the table of procedure `procedure`, in the segment whose highest
+// word is at `place`.
 fn table_read(bytes: Bytes, memory: Loaded<'_>, place: u16, procedure: u8) -> bool
     ensures read { result ≡ meets bytes (table_read (loaded_memory memory.entry) place procedure) }
 {
@@ -72,7 +75,8 @@ fn table_read(bytes: Bytes, memory: Loaded<'_>, place: u16, procedure: u8) -> bo
         || meets(bytes, usize::from(jtab.wrapping_sub(8)), 2)
 }
 
-// Whether one of the bytes is read for the static link or of the parameters, which are copied.
+// Is true if `call` reads one of the bytes `bytes` after it has read the table: the parameters, which it copies, and
+// the words that lead to the static link. Is false if `table` is an error.
 fn entry_words(
     bytes: Bytes,
     call: Call,
@@ -94,7 +98,7 @@ fn entry_words(
     }
 }
 
-// Whether a call in a segment reads one of the bytes.
+// Is true if `call` reads one of the bytes `bytes`, where `segment` is the segment that it reaches.
 #[tactic(auto, using(crate::proofs::ReadingLaws::meets_both))]
 fn table_and_entry(bytes: Bytes, call: Call, registers: Registers, segment: Segment<'_>) -> bool
     ensures read { result ≡ meets bytes (table_and_entry call registers (segment_seen segment.entry)) }
@@ -112,7 +116,7 @@ fn table_and_entry(bytes: Bytes, call: Call, registers: Registers, segment: Segm
     )
 }
 
-/// Whether a call reads one of the bytes.
+/// Is true if the call `what` reads one of the bytes `bytes`.
 #[tactic(auto, using(crate::proofs::ReadingLaws::read_seen))]
 pub(crate) fn call_read(bytes: Bytes, what: Call, machine: &Machine) -> bool
     ensures read { result ≡ meets bytes (call_read what machine.now.state) }

@@ -1,4 +1,5 @@
-//! What EXIT reads of the frames that it leaves and of the tables of their procedures.
+//! What EXIT reads in the frames that it leaves and in the tables of their procedures. A query asks whether one of the
+//! bytes `bytes` is read.
 
 ghost use Rattle.std.specs.Prelude.{◌≡◌, ◌∷◌, []};
 ghost use Rattle.pm_machine.specs.ReadStretches.{asked_read, exit_leads, exit_read, frames_read, left_read};
@@ -10,30 +11,30 @@ use crate::written_exits::{left_by_exit, wanted_at};
 use pm_machine::Machine;
 use pm_words::Memory;
 
-// Whether one of the bytes is of the word at an address.
+// Is true if one of the bytes `bytes` belongs to the word at `address`.
 fn is_of_word_at(bytes: Bytes, address: u16) -> bool
     ensures word { result ≡ meets bytes (stretch address 2 ∷ []) }
 {
     meets(bytes, usize::from(address), 2)
 }
 
-// Whether one of the bytes is of the exit address in the table at `jtab`.
+// Is true if one of the bytes `bytes` belongs to the exit address in the table at `jtab`.
 fn exit_read(bytes: Bytes, jtab: u16) -> bool
     ensures read { result ≡ meets bytes (exit_read jtab ∷ []) }
 {
     is_of_word_at(bytes, jtab.wrapping_sub(4))
 }
 
-// Whether one of the bytes is read to compare a procedure with the requested one: the highest words of its segment and
-// of its table.
+// Is true if EXIT reads one of the bytes `bytes` to check whether a procedure is the requested one. It reads the
+// highest word of the segment, at `seg`, and the highest word of the table, at `jtab`.
 fn asked_read(bytes: Bytes, seg: u16, jtab: u16) -> bool
     ensures read { result ≡ meets bytes (asked_read seg jtab) }
 {
     is_of_word_at(bytes, seg) || is_of_word_at(bytes, jtab)
 }
 
-// Whether EXIT reads one of the bytes when it leaves a frame. It reads the control words of the caller and the words to
-// which they lead.
+// Is true if EXIT reads one of the bytes `bytes` when it leaves the frame at `frame`. It reads the control words of
+// this frame that state the caller, and the words to which these lead.
 fn left_read(bytes: Bytes, memory: &Memory, frame: u16) -> bool
     ensures read { result ≡ meets bytes (left_read memory.now.words frame) }
 {
@@ -46,7 +47,8 @@ fn left_read(bytes: Bytes, memory: &Memory, frame: u16) -> bool
         || asked_read(bytes, seg, jtab)
 }
 
-// Whether EXIT reads one of the bytes of the first `frames` frames from `mp` on.
+// Is true if EXIT reads one of the bytes `bytes` when it leaves the first `frames` frames, of which the first is at
+// `mp`.
 fn frames_read(bytes: Bytes, memory: &Memory, mp: u16, frames: u16) -> bool
     ensures read { result ≡ meets bytes (frames_read memory.now.words mp frames) }
 {
@@ -59,8 +61,8 @@ fn frames_read(bytes: Bytes, memory: &Memory, mp: u16, frames: u16) -> bool
     is_read
 }
 
-/// Whether EXIT reads one of the bytes, without the two words that it takes off the stack. The procedure number is on
-/// the top and the segment number below it.
+/// Is true if EXIT reads one of the bytes `bytes`, except for the two words that it takes off the stack. The procedure
+/// number is on the top of the stack, and the segment number is below it.
 #[tactic(auto, using(crate::proofs::ReadingLaws::meets_both))]
 pub(crate) fn exit_leads(bytes: Bytes, machine: &Machine) -> bool
     ensures read { result ≡ meets bytes (exit_leads machine.now.state) }

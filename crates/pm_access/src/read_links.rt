@@ -1,4 +1,4 @@
-//! The static links by which a step finds a frame, in the memory with loaded code.
+//! The static links that a step follows to find a frame. A query asks whether a step reads one of the bytes `bytes`.
 
 ghost use Rattle.std.specs.Prelude.{◌≡◌};
 ghost use Rattle.pm_machine.specs.ReadStretches.{frame_read, links_by, links_read};
@@ -12,7 +12,7 @@ use crate::stretches::{Bytes, meets};
 use pm_families::Scope;
 use pm_words::{ExecError, Memory};
 
-// Whether one of the bytes is of the word at an address, if there is one.
+// Is true if one of the bytes `bytes` belongs to the word at the address `place`. Is false if `place` is an error.
 fn is_of_word(bytes: Bytes, place: Result<u16, ExecError>) -> bool
     ensures word { result ≡ meets bytes (word_stretch place) }
 {
@@ -22,14 +22,15 @@ fn is_of_word(bytes: Bytes, place: Result<u16, ExecError>) -> bool
     }
 }
 
-// Returns the frame to which the static link of a frame leads, if that frame was found.
+// Returns the address that the static link of `frame` contains. Returns the error if `frame` is an error.
 fn next_up(memory: Loaded<'_>, frame: Result<u16, ExecError>) -> Result<u16, ExecError>
     ensures next { result ≡ next_up (loaded_memory memory.entry) frame }
 {
     memory.load(frame?)
 }
 
-// Whether one of the bytes is of the static links of `links` frames from `mp` on.
+// Is true if one of the bytes `bytes` belongs to one of the first `links` static links, of which the first is in the
+// frame at `mp`.
 fn links_read(bytes: Bytes, memory: Loaded<'_>, mp: u16, links: u8) -> bool
     ensures read { result ≡ meets bytes (links_read (loaded_memory memory.entry) mp links) }
 {
@@ -42,14 +43,16 @@ fn links_read(bytes: Bytes, memory: Loaded<'_>, mp: u16, links: u8) -> bool
     is_read
 }
 
-/// Whether one of the bytes is of `links` static links, if this is a number from 0 to 127.
+/// Is true if `links` is a number from 0 to 127, and one of the bytes `bytes` belongs to one of the first `links`
+/// static links from the frame at `mp` on.
 pub(crate) fn links_by(bytes: Bytes, memory: Loaded<'_>, mp: u16, links: i16) -> bool
     ensures read { result ≡ meets bytes (links_by (loaded_memory memory.entry) mp links) }
 {
     0 <= links && links <= 127 && links_read(bytes, memory, mp, links as u8)
 }
 
-/// Whether one of the bytes is of the static links to the frame of a variable of a scope.
+/// Is true if one of the bytes `bytes` belongs to a static link that leads from the frame at `mp` to the frame of a
+/// variable of `scope`.
 pub(crate) fn frame_read(bytes: Bytes, scope: Scope, memory: &Memory, mp: u16) -> bool
     ensures read { result ≡ meets bytes (frame_read scope memory.now.words mp) }
 {

@@ -1,4 +1,4 @@
-//! What the standard procedures read.
+//! What the standard procedures read. A query asks whether one of the bytes `bytes` is read.
 
 ghost use Rattle.std.specs.Prelude.{◌≡◌, ◌∷◌, [], ◌++◌};
 ghost use Rattle.pm_effects.specs.Effects.{standard_effect};
@@ -15,7 +15,8 @@ use pm_opcode::Operation;
 use pm_stdproc::{OnMemory, OnUnits, Procedure, procedure_of};
 use pm_words::Memory;
 
-// Whether a scan from `place` on can read one of the bytes. The limit is signed.
+// Is true if a scan from address `place` on can read one of the bytes `bytes`. The scan covers at most `limit` bytes;
+// it moves to lower addresses if `limit` is negative.
 fn is_scanned(bytes: Bytes, place: u16, limit: i16) -> bool
     ensures scanned { result ≡ meets bytes (scan_stretch place limit ∷ []) }
 {
@@ -27,7 +28,8 @@ fn is_scanned(bytes: Bytes, place: u16, limit: i16) -> bool
     meets_to(bytes, start + 1, count)
 }
 
-// Whether a procedure on the memory reads one of the bytes, without the words that it takes off the stack.
+// Is true if the standard procedure `what` on the memory reads one of the bytes `bytes`, except for the words that it
+// takes off the stack.
 fn memory_leads(bytes: Bytes, what: OnMemory, memory: &Memory, sp: u16) -> bool
     ensures read { result ≡ meets bytes (memory_leads what memory.now.words sp) }
 {
@@ -46,7 +48,8 @@ fn memory_leads(bytes: Bytes, what: OnMemory, memory: &Memory, sp: u16) -> bool
     }
 }
 
-// Whether a procedure on the units or the clock reads one of the bytes, without the words that it takes off the stack.
+// Is true if the standard procedure `what` on the units or the clock reads one of the bytes `bytes`, except for the
+// words that it takes off the stack.
 fn units_lead(bytes: Bytes, what: OnUnits, memory: &Memory, sp: u16) -> bool
     ensures read { result ≡ meets bytes (units_lead what memory.now.words sp) }
 {
@@ -56,7 +59,8 @@ fn units_lead(bytes: Bytes, what: OnUnits, memory: &Memory, sp: u16) -> bool
     }
 }
 
-// Whether a procedure reads one of the bytes, without the words that it takes off the stack.
+// Is true if the standard procedure `what` reads one of the bytes `bytes`, except for the words that it takes off the
+// stack.
 fn procedure_leads(bytes: Bytes, what: Procedure, machine: &Machine) -> bool
     ensures read { result ≡ meets bytes (procedure_leads what machine.now.state) }
 {
@@ -69,7 +73,7 @@ fn procedure_leads(bytes: Bytes, what: Procedure, machine: &Machine) -> bool
     }
 }
 
-/// Whether the standard procedure with this number reads one of the bytes.
+/// Is true if the standard procedure `number` reads one of the bytes `bytes`.
 #[tactic(auto, using(crate::proofs::ReadingLaws::meets_both))]
 pub(crate) fn standard_read(bytes: Bytes, number: u8, machine: &Machine) -> bool
     ensures read { result ≡ meets bytes (taken_if (standard_effect number) machine.now.state.memory

@@ -1,4 +1,5 @@
-//! What the instructions on bytes, sets, strings and fields read.
+//! What the instructions on bytes, sets, strings and fields read. A query asks whether one of the bytes `bytes` is
+//! read.
 
 ghost use Rattle.std.specs.Prelude.{◌≡◌, ◌∷◌, []};
 ghost use Rattle.pm_machine.specs.ReadStretches.{compared_read, source_read, text_stretch, value_leads, value_read};
@@ -9,7 +10,7 @@ use pm_families::{Byte, Field, Kind, Text, Value};
 use pm_opcode::Operation;
 use pm_words::Memory;
 
-// Whether one of the bytes is of the string at an address or of its length byte.
+// Is true if one of the bytes `bytes` belongs to the string at `address`, including its length byte.
 fn is_of_text(bytes: Bytes, memory: &Memory, address: u16) -> bool
     ensures text { result ≡ meets bytes (text_stretch memory.now.words address ∷ []) }
 {
@@ -20,14 +21,16 @@ fn is_of_text(bytes: Bytes, memory: &Memory, address: u16) -> bool
     )
 }
 
-// Whether one of the bytes is of the string at the address `word`. A word below 256 is a character and has none.
+// Is true if one of the bytes `bytes` belongs to the string at the address `word`. A word below 256 is a character, not
+// an address; the result is then false.
 fn source_read(bytes: Bytes, memory: &Memory, word: u16) -> bool
     ensures read { result ≡ meets bytes (source_read memory.now.words word) }
 {
     word >= 256 && is_of_text(bytes, memory, word)
 }
 
-// Whether a comparison reads one of the bytes, without the words that it takes off the stack.
+// Is true if a comparison of kind `kind` reads one of the bytes `bytes` at the addresses that are on the stack. The
+// operands on the stack itself are not included.
 fn compared_read(bytes: Bytes, kind: Kind, memory: &Memory, sp: u16) -> bool
     ensures read { result ≡ meets bytes (compared_read kind memory.now.words sp) }
 {
@@ -47,7 +50,8 @@ fn compared_read(bytes: Bytes, kind: Kind, memory: &Memory, sp: u16) -> bool
     }
 }
 
-// Whether an instruction reads one of the bytes to which values on the stack lead.
+// Is true if the instruction `what` reads one of the bytes `bytes` at an address that is on the stack. The operands on
+// the stack itself are not included.
 fn value_leads(bytes: Bytes, what: Value, memory: &Memory, sp: u16) -> bool
     ensures read { result ≡ meets bytes (value_leads what memory.now.words sp) }
 {
@@ -63,7 +67,7 @@ fn value_leads(bytes: Bytes, what: Value, memory: &Memory, sp: u16) -> bool
     }
 }
 
-/// Whether an instruction on values of other sizes than a word reads one of the bytes.
+/// Is true if the instruction `what`, on bytes, sets, strings or fields, reads one of the bytes `bytes`.
 #[tactic(auto, using(crate::proofs::ReadingLaws::meets_both))]
 pub(crate) fn value_read(bytes: Bytes, what: Value, memory: &Memory, sp: u16) -> bool
     ensures read { result ≡ meets bytes (value_read what memory.now.words sp) }

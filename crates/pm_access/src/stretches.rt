@@ -1,4 +1,5 @@
-//! Ranges of memory that a step writes or reads, and the words that an instruction takes off the stack and pushes.
+//! Ranges of memory that a step writes or reads. These include the words that an instruction takes off the stack, and
+//! those that it pushes.
 
 ghost use Rattle.std.specs.Prelude.{◌≡◌, ◌≤◌, ◌∷◌, []};
 ghost use Rattle.pm_words.specs.Words.{word_at};
@@ -12,14 +13,14 @@ use pm_effects::{Effect, Share, effect_of};
 use pm_opcode::Operation;
 use pm_words::Memory;
 
-/// Returns the word at an address. The lowest bit of the address does not count.
+/// Returns the word of `memory` at `address`. The lowest bit of `address` is ignored.
 pub fn word_at(memory: &Memory, address: u16) -> u16
     ensures word { result ≡ word_at memory.now.words address }
 {
     memory.word(address - address % 2).unwrap_or(0)
 }
 
-/// The bytes of a query: `count` bytes from `address` on.
+/// The bytes that a query asks for: `count` bytes from `address` on.
 #[derive(Clone, Copy)]
 pub(crate) struct Bytes {
     /// The address of the first byte.
@@ -28,7 +29,7 @@ pub(crate) struct Bytes {
     pub count: u32,
 }
 
-/// Whether a range of `count` bytes from `start` on contains one of the bytes.
+/// Is true if one of the bytes `bytes` is among the `count` bytes from address `start` on.
 pub(crate) fn meets(bytes: Bytes, start: usize, count: usize) -> bool
     ensures meets { result ≡ meets bytes (stretch start count ∷ []) }
 {
@@ -37,14 +38,16 @@ pub(crate) fn meets(bytes: Bytes, start: usize, count: usize) -> bool
     bytes.count > 0 && count > 0 && start < end && first < start.saturating_add(count)
 }
 
-/// Whether one of the bytes is among the `count` bytes before `end`. If there are fewer, all of them count.
+/// Is true if one of the bytes `bytes` is among the `count` bytes before address `end`. If fewer than `count` bytes
+/// exist before `end`, all of them are included.
 pub(crate) fn meets_to(bytes: Bytes, end: usize, count: usize) -> bool
     ensures meets { result ≡ meets bytes (stretch_to end count ∷ []) }
 {
     meets(bytes, end.saturating_sub(count), count.min(end))
 }
 
-/// Returns the word at an address, or 0 above the memory. The lowest bit of the address does not count.
+/// Returns the word of `memory` at `address`, or 0 if `address` is above 65,535. The lowest bit of `address` is
+/// ignored.
 pub(crate) fn word_in(memory: &Memory, address: usize) -> u16
     ensures word { result ≡ word_at memory.now.words address }
 {
@@ -55,8 +58,8 @@ pub(crate) fn word_in(memory: &Memory, address: usize) -> u16
     word_at(memory, address as u16)
 }
 
-/// Returns the sum of a base and an index, modulo 65,536. The index is at address `sp` of the stack and the base above
-/// it.
+/// Returns the sum of a base and an index on the stack, modulo 65,536. The index is the word at `sp`, and the base is
+/// the word above it.
 pub(crate) fn place_on_stack(memory: &Memory, sp: usize) -> u16
     requires low { sp ≤ 70000 }
     ensures place { result ≡ place_on_stack memory.now.words sp }
@@ -64,7 +67,8 @@ pub(crate) fn place_on_stack(memory: &Memory, sp: usize) -> u16
     word_in(memory, sp + 2).wrapping_add(word_in(memory, sp))
 }
 
-// Returns the number of words of an operand that begins at an address of the stack.
+// Returns the number of words of an operand on the stack that begins at `address`. The operand is as `share` states: a
+// fixed number of words, or a set, whose first word is the number of the others.
 fn words_of(share: Share, memory: &Memory, address: usize) -> usize
     ensures words { result ≡ words_of share memory.now.words address }
     ensures most { result ≤ 65536 }
@@ -75,7 +79,7 @@ fn words_of(share: Share, memory: &Memory, address: usize) -> usize
     }
 }
 
-// Returns the number of words that are taken off the stack.
+// Returns the number of words that an instruction with the effect `effect` takes off the stack.
 fn words_taken(effect: Effect, memory: &Memory, sp: u16) -> usize
     ensures words { result ≡ words_taken effect memory.now.words sp }
     ensures most { result ≤ 131072 }
@@ -85,7 +89,8 @@ fn words_taken(effect: Effect, memory: &Memory, sp: u16) -> usize
     top + words_of(effect.below, memory, sp + 2 * top)
 }
 
-/// Whether one of the bytes is written by an instruction that takes words off the stack and pushes `words` words.
+/// Is true if an instruction that takes words off the stack as `effect` states, and then pushes `words` words, writes
+/// one of the bytes `bytes`.
 pub(crate) fn pushes(bytes: Bytes, effect: Effect, words: usize, memory: &Memory, sp: u16) -> bool
     requires few { words ≤ 131072 }
     ensures pushes { result ≡ meets bytes (pushes effect words memory.now.words sp) }
@@ -94,7 +99,7 @@ pub(crate) fn pushes(bytes: Bytes, effect: Effect, words: usize, memory: &Memory
     meets_to(bytes, end, 2 * words)
 }
 
-/// Whether one of the bytes is written by an instruction that pushes as many words as its effect states.
+/// Is true if an instruction with the effect `effect` writes one of the bytes `bytes` when it pushes its result.
 pub(crate) fn pushes_words(bytes: Bytes, effect: Effect, memory: &Memory, sp: u16) -> bool
     ensures pushes { result ≡ meets bytes (pushes_words effect memory.now.words sp) }
 {
@@ -102,7 +107,8 @@ pub(crate) fn pushes_words(bytes: Bytes, effect: Effect, memory: &Memory, sp: u1
     pushes(bytes, effect, words, memory, sp)
 }
 
-/// Whether one of the bytes is written by an operation that pushes words, if its effect is defined.
+/// Is true if the operation `what` writes one of the bytes `bytes` when it pushes its result. Is false if no effect is
+/// defined for `what`.
 pub(crate) fn leaves_words(bytes: Bytes, what: Operation, memory: &Memory, sp: u16) -> bool
     ensures leaves { result ≡ meets bytes (compare_written (effect_of what) memory.now.words sp) }
 {
@@ -112,7 +118,8 @@ pub(crate) fn leaves_words(bytes: Bytes, what: Operation, memory: &Memory, sp: u
     }
 }
 
-/// Whether one of the bytes is of the words that an operation takes off the stack, if its effect is defined.
+/// Is true if one of the bytes `bytes` belongs to the words that the operation `what` takes off the stack. Is false if
+/// no effect is defined for `what`.
 pub(crate) fn takes_words(bytes: Bytes, what: Operation, memory: &Memory, sp: u16) -> bool
     ensures takes { result ≡ meets bytes (taken_if (effect_of what) memory.now.words sp) }
 {

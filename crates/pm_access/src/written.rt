@@ -1,4 +1,4 @@
-//! Whether the next step writes a byte of a range of memory.
+//! Whether the next step writes one of the bytes `bytes` of a query, which are a range of memory.
 
 ghost use Rattle.std.specs.Prelude.{◌≡◌};
 ghost use Rattle.pm_rows.specs.Variables.{frame_of, variable_at};
@@ -19,12 +19,12 @@ use pm_opcode::{Operation, decode};
 use pm_words::stack::load;
 use pm_words::{ExecError, Memory};
 
-// Returns the frame that is `links` static links up from a frame.
+// Returns the address of the frame to which `links` static links lead from the frame at `mp`.
 //
 // # Errors
 //
 // - `NoSegment`: `links` is above 127.
-// - `InvalidMemory`: a link on the way is at an odd address.
+// - `InvalidMemory`: a static link on this path is at an odd address.
 fn link(memory: &Memory, mp: u16, links: u8) -> Result<u16, ExecError>
     ensures frame { result ≡ link memory.now.words mp links }
 {
@@ -38,7 +38,7 @@ fn link(memory: &Memory, mp: u16, links: u8) -> Result<u16, ExecError>
     Ok(frame)
 }
 
-// Returns the frame of a variable of a scope.
+// Returns the address of the frame that contains the variables of `scope`.
 fn frame_of(scope: Scope, memory: &Memory, registers: Registers) -> Result<u16, ExecError>
     ensures frame { result ≡ frame_of scope memory.now.words registers }
 {
@@ -49,7 +49,7 @@ fn frame_of(scope: Scope, memory: &Memory, registers: Registers) -> Result<u16, 
     }
 }
 
-/// Whether one of the bytes is of variable `number` of a scope.
+/// Is true if one of the bytes `bytes` belongs to variable `number` of `scope`.
 pub(crate) fn is_of_variable(
     bytes: Bytes,
     scope: Scope,
@@ -69,7 +69,7 @@ pub(crate) fn is_of_variable(
     }
 }
 
-// Whether an operation on a variable of a frame writes one of the bytes.
+// Is true if the operation `what` on a variable writes one of the bytes `bytes`.
 fn variable_written(bytes: Bytes, what: Variable, machine: &Machine) -> bool
     ensures written { result ≡ meets bytes (variable_written what machine.now.state) }
 {
@@ -82,7 +82,7 @@ fn variable_written(bytes: Bytes, what: Variable, machine: &Machine) -> bool
     }
 }
 
-// Whether an operation on an address on the stack writes one of the bytes.
+// Is true if the operation `what` on an address that is on the stack writes one of the bytes `bytes`.
 fn pointer_written(bytes: Bytes, what: Pointer, memory: &Memory, sp: u16) -> bool
     ensures written { result ≡ meets bytes (pointer_written what memory.now.words sp) }
 {
@@ -101,7 +101,7 @@ fn pointer_written(bytes: Bytes, what: Pointer, memory: &Memory, sp: u16) -> boo
     }
 }
 
-/// Returns the number of words of the result of a return.
+/// Returns the number of words of the result that the return `what` passes to the caller.
 pub(crate) fn words_of_return(what: Return) -> u8
     ensures words { result ≡ words_of_return what }
 {
@@ -110,7 +110,7 @@ pub(crate) fn words_of_return(what: Return) -> u8
     }
 }
 
-// Whether a return with `words` words of a result writes one of the bytes.
+// Is true if a return from the frame at `mp` with a result of `words` words writes one of the bytes `bytes`.
 fn return_written(bytes: Bytes, words: u8, memory: &Memory, mp: u16) -> bool
     ensures written { result ≡ meets bytes (return_written words memory.now.words mp) }
 {
@@ -119,7 +119,7 @@ fn return_written(bytes: Bytes, words: u8, memory: &Memory, mp: u16) -> bool
     meets_to(bytes, above, words)
 }
 
-// Whether an operation writes one of the bytes.
+// Is true if the operation `what` writes one of the bytes `bytes`.
 fn operation_written(bytes: Bytes, what: Operation, machine: &Machine) -> bool
     ensures written { result ≡ meets bytes (operation_written what machine.now.state) }
 {
@@ -143,9 +143,9 @@ fn operation_written(bytes: Bytes, what: Operation, machine: &Machine) -> bool
     }
 }
 
-/// Whether the instruction at IPC writes one of `count` bytes from `address` on.
+/// Is true if the instruction at IPC writes one of the `count` bytes from `address` on.
 ///
-/// A step that ends with an error counts as writing what it would write without the error, with these exceptions:
+/// For a step that ends with an error, the result is that for the step without the error. These are the exceptions:
 ///
 /// - An EXIT that does not find its procedure writes nothing.
 /// - A call that does not reach its segment writes nothing. A call that does not find its table writes no frame.

@@ -1,4 +1,5 @@
-//! What calls write: the code that is loaded for them, and the frame.
+//! What calls write: the code that is loaded for them, and the new frame. A query asks whether one of the bytes `bytes`
+//! is written.
 
 ghost use Rattle.std.specs.Prelude.{◌≡◌, ◌∷◌, []};
 ghost use Rattle.pm_machine.specs.Written.{call_written, frame_stretch};
@@ -11,8 +12,8 @@ use pm_calls::{Table, is_base, procedure_called};
 use pm_families::Call;
 use pm_machine::Machine;
 
-// Whether one of the bytes is of the frame of a call of the procedure with this table, for which `loaded` bytes were
-// loaded.
+// Is true if one of the bytes `bytes` belongs to the new frame of a call of the procedure with the table `table`.
+// `base` states whether the call is a base call, `loaded` how many bytes of code were loaded for it.
 fn is_of_frame(bytes: Bytes, base: bool, loaded: usize, sp: u16, table: Table) -> bool
     ensures frame { result ≡ meets bytes (frame_stretch base loaded sp table ∷ []) }
 {
@@ -27,8 +28,8 @@ fn is_of_frame(bytes: Bytes, base: bool, loaded: usize, sp: u16, table: Table) -
     meets_to(bytes, end, below + 12 + parameters)
 }
 
-// Whether a call in a segment writes one of the bytes: of the code that is loaded for it and ends at SP, or of its
-// frame.
+// Is true if `call` writes one of the bytes `bytes`, where `segment` is the segment that it reaches. The bytes belong
+// to the code that is loaded for the call and ends at SP, or to the new frame.
 fn frame_and_code(bytes: Bytes, call: Call, sp: u16, segment: Segment<'_>) -> bool
     ensures written { result ≡ meets bytes (frame_and_code call sp (segment_seen segment.entry)) }
 {
@@ -42,7 +43,7 @@ fn frame_and_code(bytes: Bytes, call: Call, sp: u16, segment: Segment<'_>) -> bo
     }
 }
 
-/// Whether a call writes one of the bytes.
+/// Is true if the call `what` writes one of the bytes `bytes`.
 #[tactic(auto, using(crate::proofs::WritingLaws::written_seen))]
 pub(crate) fn call_written(bytes: Bytes, what: Call, machine: &Machine) -> bool
     ensures written { result ≡ meets bytes (call_written what machine.now.state) }

@@ -1,4 +1,4 @@
-//! What EXIT writes: the addresses at which the callers that it leaves continue.
+//! What EXIT writes: in each frame that it leaves, the saved IPC, the address at which the caller continues.
 
 ghost use Rattle.std.specs.Prelude.{◌≡◌, ◌≤◌, IfOk};
 ghost use Rattle.pm_calls.specs.Exits.{last_frame};
@@ -11,10 +11,11 @@ use pm_calls::{Wanted, is_wanted, meet};
 use pm_machine::Machine;
 use pm_words::{ExecError, Memory};
 
-// A chain of more frames is a cycle.
+// The maximum number of frames of a chain of dynamic links. A longer chain contains a cycle.
 const MOST_FRAMES: u16 = 32_768;
 
-/// Returns the procedure that an EXIT requests. Its number is on the top and the number of its segment below it.
+/// Returns the procedure that an EXIT requests. The procedure number is on the top of the stack, and the segment number
+/// is below it.
 pub(crate) fn wanted_at(memory: &Memory, sp: u16) -> Wanted
     ensures wanted { result ≡ wanted_at memory.now.words sp }
 {
@@ -25,8 +26,8 @@ pub(crate) fn wanted_at(memory: &Memory, sp: u16) -> Wanted
     }
 }
 
-// Returns the number of callers from a frame up to the frame of the requested procedure. Returns `NoProcedure` if none
-// of 32,768 frames is its frame.
+// Returns the number of dynamic links from the frame at `mp` to the first frame whose caller is the requested procedure
+// `wanted`. Returns `NoProcedure` if none of 32,768 frames is such a frame.
 fn last_frame(memory: &Memory, wanted: Wanted, mp: u16) -> Result<u16, ExecError>
     ensures last { result ≡ last_frame memory.now.words wanted mp }
     ensures most { IfOk result (λ n. n ≤ 32767) }
@@ -41,7 +42,7 @@ fn last_frame(memory: &Memory, wanted: Wanted, mp: u16) -> Result<u16, ExecError
     Err(ExecError::NoProcedure)
 }
 
-/// Returns the number of frames that an EXIT leaves.
+/// Returns the number of frames that an EXIT to the procedure `wanted` leaves.
 pub(crate) fn left_by_exit(machine: &Machine, wanted: Wanted) -> Result<u16, ExecError>
     ensures left { result ≡ left_by_exit (parts machine.now.state) wanted }
 {
@@ -52,7 +53,8 @@ pub(crate) fn left_by_exit(machine: &Machine, wanted: Wanted) -> Result<u16, Exe
     Ok(last_frame(memory, wanted, registers.mp)? + 1)
 }
 
-// Whether one of the bytes is of the saved IPC in one of `frames` frames from `mp` on.
+// Is true if one of the bytes `bytes` belongs to the saved IPC of one of the first `frames` frames, of which the first
+// is at `mp`.
 fn is_ip_kept(bytes: Bytes, memory: &Memory, mp: u16, frames: u16) -> bool
     ensures kept { result ≡ meets bytes (ips_written memory.now.words mp frames) }
 {
@@ -65,7 +67,8 @@ fn is_ip_kept(bytes: Bytes, memory: &Memory, mp: u16, frames: u16) -> bool
     is_kept
 }
 
-/// Whether EXIT writes one of the bytes. The procedure number is on the top and the segment number below it.
+/// Is true if EXIT writes one of the bytes `bytes`. The procedure number is on the top of the stack, and the segment
+/// number is below it.
 pub(crate) fn exit_written(bytes: Bytes, machine: &Machine) -> bool
     ensures written { result ≡ meets bytes (exit_written machine.now.state) }
 {

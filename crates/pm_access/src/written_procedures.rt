@@ -1,4 +1,4 @@
-//! What the standard procedures write.
+//! What the standard procedures write. A query asks whether one of the bytes `bytes` is written.
 
 ghost use Rattle.std.specs.Prelude.{◌≡◌, ◌∷◌, []};
 ghost use Rattle.pm_stdproc.specs.Loads.{slot_code};
@@ -14,15 +14,15 @@ use pm_machine::Machine;
 use pm_stdproc::{OnMemory, OnUnits, Procedure, procedure_of};
 use pm_words::Memory;
 
-/// Whether one of the bytes is among `count` bytes from `place` on. A count that is not above 0 as a signed number has
-/// no bytes.
+/// Is true if one of the bytes `bytes` is among the `count` bytes from `place` on. `count` is a signed number; if it is
+/// 0 or negative, the result is false.
 pub(crate) fn is_counted(bytes: Bytes, place: u16, count: u16) -> bool
     ensures counted { result ≡ meets bytes (counted_stretch place count) }
 {
     0 < count && count < 32768 && meets(bytes, usize::from(place), usize::from(count))
 }
 
-// Whether a procedure on the memory writes one of the bytes.
+// Is true if the standard procedure `what` on the memory writes one of the bytes `bytes`.
 fn memory_written(bytes: Bytes, what: OnMemory, memory: &Memory, sp: u16) -> bool
     ensures written { result ≡ meets bytes (memory_written what memory.now.words sp) }
 {
@@ -46,7 +46,7 @@ fn memory_written(bytes: Bytes, what: OnMemory, memory: &Memory, sp: u16) -> boo
     }
 }
 
-/// Whether one of the bytes is of the memory of a transfer.
+/// Is true if one of the bytes `bytes` belongs to the memory that a UNITREAD or UNITWRITE transfers.
 pub(crate) fn is_transferred(bytes: Bytes, memory: &Memory, sp: u16) -> bool
     ensures transfer { result ≡ meets bytes (transfer_stretch memory.now.words sp ∷ []) }
 {
@@ -55,7 +55,7 @@ pub(crate) fn is_transferred(bytes: Bytes, memory: &Memory, sp: u16) -> bool
     meets(bytes, usize::from(place_on_stack(memory, top + 6)), count)
 }
 
-// Whether a procedure on the units or the clock writes one of the bytes.
+// Is true if the standard procedure `what` on the units or the clock writes one of the bytes `bytes`.
 fn units_written(bytes: Bytes, what: OnUnits, memory: &Memory, sp: u16) -> bool
     ensures written { result ≡ meets bytes (units_written what memory.now.words sp) }
 {
@@ -71,7 +71,7 @@ fn units_written(bytes: Bytes, what: OnUnits, memory: &Memory, sp: u16) -> bool
     }
 }
 
-// Whether the load of a segment that the program keeps writes one of the bytes. The segment is that of a slot.
+// Is true if loading the segment of `slot`, which the program requests to keep, writes one of the bytes `bytes`.
 fn kept_written(bytes: Bytes, slot: u16, machine: &Machine) -> bool
     ensures written { result ≡ meets bytes (kept_written machine.now.state.registers.sp
         (slot_code slot machine.now.state.places machine.now.state.rows machine.now.state.devices)) }
@@ -83,7 +83,7 @@ fn kept_written(bytes: Bytes, slot: u16, machine: &Machine) -> bool
     }
 }
 
-/// Whether the standard procedure with this number writes one of the bytes.
+/// Is true if the standard procedure `number` writes one of the bytes `bytes`.
 pub(crate) fn procedure_written(bytes: Bytes, number: u8, machine: &Machine) -> bool
     ensures written { result ≡ meets bytes (procedure_written (procedure_numbered number) machine.now.state) }
 {

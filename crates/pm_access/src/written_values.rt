@@ -1,4 +1,5 @@
-//! What the instructions on bytes, sets, strings and fields write.
+//! What the instructions on bytes, sets, strings and fields write. A query asks whether one of the bytes `bytes` is
+//! written.
 
 ghost use Rattle.std.specs.Prelude.{◌≡◌, ◌≤◌};
 ghost use Rattle.pm_machine.specs.Written.{lower_words, pushes, set_words, text_length, value_written};
@@ -11,7 +12,7 @@ use pm_families::{Byte, Field, Set, Text, Value};
 use pm_opcode::Operation;
 use pm_words::Memory;
 
-// Returns the number of words of the set below that on the top.
+// Returns the number of words of the lower of the two sets on the stack, which is below the set on the top.
 fn lower_words(memory: &Memory, sp: u16) -> u16
     ensures words { result ≡ lower_words memory.now.words sp }
 {
@@ -20,7 +21,7 @@ fn lower_words(memory: &Memory, sp: u16) -> u16
     word_in(memory, top + 2 * (upper + 1))
 }
 
-// Returns the number of words that an instruction on sets pushes.
+// Returns the number of words that the instruction `what` on sets pushes.
 fn set_words(what: Set, memory: &Memory, sp: u16) -> usize
     ensures words { result ≡ set_words what memory.now.words sp }
     ensures most { result ≤ 65536 }
@@ -44,7 +45,7 @@ fn set_words(what: Set, memory: &Memory, sp: u16) -> usize
     }
 }
 
-// Whether an instruction on sets writes one of the bytes.
+// Is true if the instruction `what` on sets writes one of the bytes `bytes`.
 fn set_written(bytes: Bytes, what: Set, memory: &Memory, sp: u16) -> bool
     ensures written { result ≡ meets bytes
         (pushes (set_effect what) (set_words what memory.now.words sp) memory.now.words sp) }
@@ -55,14 +56,14 @@ fn set_written(bytes: Bytes, what: Set, memory: &Memory, sp: u16) -> bool
     }
 }
 
-// Returns the number of characters of the string or character that a word names.
+// Returns the number of characters of the string at the address `word`, or 1 if `word` is a character (below 256).
 fn text_length(memory: &Memory, word: u16) -> u8
     ensures length { result ≡ text_length memory.now.words word }
 {
     if word < 256 { 1 } else { memory.byte(word) }
 }
 
-/// Whether an instruction on values of other sizes than a word writes one of the bytes.
+/// Is true if the instruction `what`, on bytes, sets, strings or fields, writes one of the bytes `bytes`.
 pub(crate) fn value_written(bytes: Bytes, what: Value, memory: &Memory, sp: u16) -> bool
     ensures written { result ≡ meets bytes (value_written what memory.now.words sp) }
 {

@@ -1,4 +1,4 @@
--- A call, in terms of the results of its parts.
+-- Laws that compute the result of a call from the results of its steps.
 use Rattle.std.proofs.Common.{◌≡◌, ◌<◌, ◌≤◌, ◌+◌, ◌-◌, ℕ, List, length, true, Ok, Err, Some, refl, arith}
 use Rattle.std.specs.Prelude.{nat_lt, nat_le, slice_set}
 use Rattle.std.proofs.lemmas.Bool.Decides.{nat_tests}
@@ -29,7 +29,8 @@ pub entered-framed : (m : List ℕ) (s p loaded : ℕ) (r : Registers) (call : C
 unfolding entered
 entered-framed m s p loaded r call t link is h l = rw (← is, ← h, ← l) refl
 
--- A call of a procedure of a segment that was loaded for it.
+-- If the code fits, and entering the procedure in the memory with this code succeeds, then the call that loads the code
+-- succeeds.
 pub called_loading-entered : (c : Parts) (call : Call) (n : ℕ) (code m : List ℕ) (r : Registers) → 0 < length code
     → c.registers.np + length code ≤ c.registers.sp → entered (with_bytes c.memory (c.registers.sp - length code) code) (minus c.registers.sp 2)
     (length code) c.registers call ≡ Ok (m, r) → called_loading c call n code

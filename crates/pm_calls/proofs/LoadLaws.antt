@@ -1,4 +1,4 @@
--- The location of the code of a loaded segment after its call.
+-- Laws of the code of a loaded segment after its call.
 use Rattle.std.proofs.Common.{◌≡◌, ◌<◌, ◌≤◌, inl, inr, ℕ, ◌+◌, ◌-◌, ◌*◌, ◌/◌, ◌%◌, Bool, true, false, nat_lt}
 use Rattle.std.proofs.Common.{List, length, drop, get_or, Option, Some, None, Ok, refl, sym, ap, ◌∙◌, arith}
 use Rattle.std.specs.Prelude.{slice_get}
@@ -34,7 +34,7 @@ byte_of_bytes : (ws : List ℕ) (a n k : ℕ) → k < n → get_or (bytes_at ws 
 unfolding bytes_at byte_at
 byte_of_bytes ws a n k h = get_or-take n (drop a (bytes_of ws)) k 0 h ∙ get_or-drop a (bytes_of ws) k 0
 
--- Bytes that were saved are restored: the memory is as it was before other bytes were written there.
+-- If bytes are saved in a second memory, then they can be read there.
 pub kept_bytes : (m s : List ℕ) (a n : ℕ) → IsMemory m → IsMemory s → a + n ≤ 65536
     → bytes_at (with_bytes s a (bytes_at m a n)) a n ≡ bytes_at m a n
 kept_bytes m s a n h g room =
@@ -71,7 +71,8 @@ bytes_put_back m s ys a n h g count bytes room =
       ]
     ])
 
--- The same for the bytes immediately below an address.
+-- If the bytes below an address are saved in a second memory, overwritten, and then restored, then the memory is as
+-- before.
 pub below_put_back : (m s ys kept back : List ℕ) (sp : ℕ) → IsMemory m → IsMemory s → All (λ b. b < 256) ys → length ys ≤ sp → sp ≤ 65536
     → kept ≡ bytes_at m (sp - length ys) (length ys) → back ≡ bytes_at (with_bytes s (sp - length kept) kept) (sp - length ys) (length ys)
     → with_bytes (with_bytes m (sp - length ys) ys) (sp - length back) back ≡ m
@@ -86,7 +87,7 @@ below_put_back m s ys kept back sp h g bytes fits low kept_is back_is =
 
 -- ---- bytes above a frame
 
--- Writing a word at any address, even or odd, does not change any byte above it.
+-- If a word is written at any address, even or odd, then each byte above this word is unchanged.
 byte_above : (m : List ℕ) (a w x : ℕ) → a + 1 < x → byte_at (with_word m a w) x ≡ byte_at m x
 unfolding with_word
 byte_above m a w x h =
@@ -117,7 +118,7 @@ frame_size m n s loaded static r inner base t f memory made =
     let size = (IsMemory-copied m r.sp (f + 12) t.parameters memory (omega (arith, fits)) (omega (arith, room))).size in
     ap length made.memory ∙ base_size base (with_frame m f static r t.parameters) f r.base (size_of_control moved f static r (r.sp + t.parameters) size)
 
--- Making a frame does not change any byte above its variables.
+-- If a frame is created, then each byte above its variables is unchanged.
 frame_above : (m n : List ℕ) (s loaded static : ℕ) (r inner : Registers) (base : Bool) (t : Table) (f x : ℕ) → IsMemory m →
     IsFramed m s loaded r base t static n inner f → frame_top loaded r.sp t.parameters ≤ x → byte_at n x ≡ byte_at m x
 frame_above m n s loaded static r inner base t f x memory made high =
@@ -155,7 +156,7 @@ loaded_there c n code at h =
 top_of_loaded : (loaded sp parameters : ℕ) → 0 < loaded → frame_top loaded sp parameters ≡ sp - loaded
 top_of_loaded loaded sp parameters h = let test : nat_lt 0 loaded ≡ true = grind (arith, nat_tests) in rw test refl
 
--- A call keeps the size of the memory, and the bytes from the end of its frame on.
+-- A call keeps the size of the memory, and does not change the bytes from the end of its frame on.
 record KeepsAbove (c : Parts) (at : Reached) (d : Parts) : Type 0 where
   pub size : length d.memory ≡ 32768
   pub bytes : (x : ℕ) → c.registers.sp - at.loaded ≤ x → byte_at d.memory x ≡ byte_at at.memory x

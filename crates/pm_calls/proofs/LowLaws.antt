@@ -1,4 +1,4 @@
--- After a return, all segments are still below the end of the stack.
+-- After a return, the segments of all slots are still below the end of the stack.
 use Rattle.std.proofs.Common.{◌≡◌, inl, inr, ℕ, ◌||◌, nat_lt, List, length, arith, Option, Some, None}
 use Rattle.std.specs.Prelude.{option_and_then, position, slice_index_or}
 use Rattle.std.specs.List.{All}

@@ -1,4 +1,4 @@
--- A return immediately after its call.
+-- Laws of a return immediately after its call.
 use Rattle.std.proofs.Common.{◌≡◌, ◌≢◌, ◌<◌, ◌≤◌, inl, inr, ℕ, ◌+◌, ◌-◌, ◌*◌, ◌/◌, ◌%◌, ◌==◌, ◌&&◌, Bool, true, false, cond, nat_lt}
 use Rattle.std.proofs.Common.{nat_le, List, length, Option, Some, None, Result, Ok, Err, refl, sym, ap, ◌∙◌, subst, arith, length-set}
 use Rattle.std.specs.Prelude.{slice_get}
@@ -38,7 +38,8 @@ held : (b : Bool) (e : ExecError) (x : Unit {0}) → demand b e ≡ Ok x → b �
 held true e x h = refl
 held false e x h = cc
 
--- Code was loaded: there is some, it fits between NP and SP, and the rest of the sequence succeeded.
+-- The code `code` could be loaded: it is not empty, it fits between NP and SP, and the rest of the computation returned
+-- `y`.
 pub record HasRoom {A : Type 0} (r : Registers) (code : List ℕ) (rest : Result A ExecError) (y : A) : Type 0 where
   pub some : 0 < length code
   pub room : r.np + length code ≤ r.sp
@@ -68,7 +69,7 @@ pub size-with_word : (ws : List ℕ) (a w : ℕ) → length (with_word ws a w) �
 unfolding with_word
 size-with_word ws a w = length-set ws (a / 2) w
 
--- The contents of the control words at `f`.
+-- The memory has, at `f`, control words that save the registers `r` and the SP `above`.
 pub record IsControl (m : List ℕ) (f : ℕ) (r : Registers) (above : ℕ) : Type 0 where
   pub mp : word_at m (f + 2) ≡ r.mp
   pub jtab : word_at m (f + 4) ≡ r.jtab
@@ -76,7 +77,8 @@ pub record IsControl (m : List ℕ) (f : ℕ) (r : Registers) (above : ℕ) : Ty
   pub ipc : word_at m (f + 8) ≡ r.ipc
   pub sp : word_at m (f + 10) ≡ above
 
--- A word that was written, and words at other even addresses.
+-- If a word is written at an address, then it can be read at this address. The next laws state that words at other even
+-- addresses are unchanged.
 written_at : (m : List ℕ) (a w : ℕ) → length m ≡ 32768 → a < 65536 → word_at (with_word m a w) a ≡ w
 written_at m a w size low = word_at-with_word m a a w refl (omega (arith, size, low))
 
@@ -117,7 +119,8 @@ control_written m f static r above size even room =
       sp = written_at m5 (f + 10) above s5 (omega arith);
     }
 
--- Writing the old BASE below the frame does not change the control words, and it can be read again.
+-- Writing control words keeps the size of the memory. The next laws: writing the old BASE below the frame does not
+-- change the control words, and the old BASE can be read.
 pub size_of_control : (m : List ℕ) (f static : ℕ) (r : Registers) (above : ℕ) → length m ≡ 32768 → length (with_control m f static r above) ≡ 32768
 unfolding with_control
 size_of_control m f static r above size =
@@ -146,7 +149,7 @@ base_back true m r f size low room =
 
 -- ---- a frame that was made
 
--- What a frame at `f` consists of.
+-- The frame at `f` was created: its size and position are valid, and the memory `n` contains it.
 pub record IsFramed (m : List ℕ) (s loaded : ℕ) (r : Registers) (base : Bool) (t : Table) (static : ℕ) (n : List ℕ) (inner : Registers) (f : ℕ) : Type 0 where
   pub inside_memory : r.sp + t.parameters ≤ 65504
   pub room : f + 12 + t.parameters ≤ 65504
@@ -184,7 +187,8 @@ frame_made m n s loaded static r inner base t h =
 
 -- ---- a return
 
--- The words that a return from the frame at `f` reads.
+-- A return with a result of `words` words succeeded: the frame is valid, and the registers after the return are those
+-- that the frame saves.
 pub record IsReturn (n : List ℕ) (inner : Registers) (words : ℕ) (base : Bool) (e : Parts) : Type 0 where
   pub even : inner.mp % 2 ≡ 0
   pub room : inner.mp + 12 ≤ 65536
@@ -205,7 +209,7 @@ return_read c e words base h =
       registers = sym (ap (λ (p : Parts). p.registers) (ok_same _ _ third.1));
     }
 
--- A return from a frame at `f`.
+-- If a return leaves a frame that was created at `f`, then it restores the registers that the frame saves.
 frame_returns : (m : List ℕ) (s f static words : ℕ) (r : Registers) (base : Bool) (t : Table) (places : List (Option SegmentPlace)) (e : Parts) →
     IsMemory m → r.sp + t.parameters ≤ 65504 → f + 12 + t.parameters ≤ 65504 → kept_below base ≤ f →
     returned (record {
@@ -242,7 +246,7 @@ framed_returns m n s loaded static words r inner base t places e h made done =
 
 -- ---- a call in a segment that was reached
 
--- If a call succeeds, its SP is within the stack, because making the frame checks this.
+-- If a call succeeds, then the SP before it is within the stack, because creating the frame checks this.
 pub low_before : (c d : Parts) (call : Call) (at : Reached) → called_at c call at ≡ Ok d → c.registers.sp ≤ 65504
 unfolding called_at entered
 low_before c d call at made =

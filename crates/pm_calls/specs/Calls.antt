@@ -1,4 +1,4 @@
--- Calls.
+-- The rules of calls.
 use Rattle.std.specs.Prelude.{ℕ, ◌+◌, ◌-◌, ℤ, pos, int_le, Bool, true, false, List, Option, Some, None, Result}
 use Rattle.std.specs.Prelude.{Ok, Err, ◌≡◌, if◌then◌else◌, ◌==◌, nat_lt, nat_le, slice_get, slice_set, length}
 use Rattle.pm_words.specs.declared.error.ExecError.{ExecError}
@@ -15,7 +15,8 @@ use Rattle.pm_calls.specs.Links.{static_link}
 use Rattle.pm_calls.specs.Tables.{attributes}
 use Rattle.pm_words.specs.declared.layout.TheConstants.{STACK_END}
 
--- Whether a call is linked like that of a main procedure, and saves the old BASE.
+-- Is true if the given call calls a main procedure, so that it saves the old BASE. `level` is the level of the called
+-- procedure.
 abbrev pub is_base : Call → ℤ → Bool
 is_base (Cbp p) level = true
 is_base (Cxp n p) level = int_le level (pos 0)
@@ -32,25 +33,26 @@ procedure_called (Cxp n p) = p
 
 -- ---- the segment of a call
 
--- The called segment: its address, the memory that contains its code, and the number of bytes that were loaded for the
--- call.
+-- The segment that a call reaches: the memory that contains its code, the entries of the slots, the address of its
+-- highest word, and the number of bytes that were loaded for the call.
 pub record Reached : Type 0 where
   pub memory : List ℕ
   pub places : List (Option SegmentPlace)
   pub place : ℕ
   pub loaded : ℕ
 
--- The running segment.
+-- The running segment, as the segment that a call reaches.
 abbrev pub here : Parts → Reached
 here c = record { memory = c.memory; places = c.places; place = c.registers.seg; loaded = 0 }
 
--- Code can be loaded if there is any, and it fits between NP and SP.
+-- Code can be loaded if it has at least one byte, and fits between NP and SP.
 abbrev pub code_fits : Registers → List ℕ → Result (Unit {0}) ExecError
 code_fits r code = do
   _ ← demand (nat_lt 0 (length code)) NoSegment
   demand (nat_le (r.np + length code) r.sp) StackOverflow
 
--- The segment of slot `n` if it has to be loaded: its code ends at SP, and its highest word is the word below SP.
+-- The segment of slot `n`, if the call must load its code `code`. The code ends at SP, and its highest word is the word
+-- below SP.
 unfoldable pub reach_loading : Parts → ℕ → List ℕ → Result Reached ExecError
 reach_loading c n code = do
   let sp = c.registers.sp
@@ -62,7 +64,8 @@ reach_loading c n code = do
     loaded = length code;
   })
 
--- The segment of slot `n` if it is loaded at `p`: a call from another segment increments its count, up to 65,535.
+-- The segment of slot `n`, if it is loaded as `p` states. A call from another segment adds 1 to its count, up to
+-- 65,535.
 unfoldable pub reach_standing : Parts → ℕ → SegmentPlace → Result Reached ExecError
 reach_standing c n p =
     if p.place == c.registers.seg then Ok (here c)
@@ -77,16 +80,17 @@ reach_standing c n p =
 
 -- ---- the frame of a call
 
--- The number of bytes that a base call uses below its frame.
+-- The number of bytes below its frame that a call uses: 2 for the old BASE of a base call, and otherwise 0.
 abbrev pub kept_below : Bool → ℕ
 kept_below base = if base then 2 else 0
 
--- The address at which a frame ends: below the loaded code, or above the parameters.
+-- The address at which a new frame ends. This is below the code that was loaded for the call, if any, and otherwise
+-- above the parameters.
 abbrev pub frame_top : ℕ → ℕ → ℕ → ℕ
 frame_top loaded sp parameters = if nat_lt 0 loaded then sp - loaded else sp + parameters
 
--- The memory with the six control words of a frame at `f`: static link, dynamic link, and the caller's JTAB, SEG, IPC
--- and SP.
+-- The memory with the six control words of a frame at `f`: the static link, the dynamic link, and the caller's JTAB,
+-- SEG, IPC and SP (`above`).
 unfoldable pub with_control : List ℕ → ℕ → ℕ → Registers → ℕ → List ℕ
 with_control m f static r above =
     let linked = with_word m f static in
@@ -96,16 +100,16 @@ with_control m f static r above =
     let ipc = with_word seg (f + 8) r.ipc in
     with_word ipc (f + 10) above
 
--- The memory with a frame at `f`: the parameters, copied from the stack, and the control words.
+-- The memory with a frame at `f`: the parameters, which are copied from the stack, and the control words.
 abbrev pub with_frame : List ℕ → ℕ → ℕ → Registers → ℕ → List ℕ
 with_frame m f static r parameters =
     with_control (copied m r.sp (f + 12) parameters) f static r (r.sp + parameters)
 
--- The memory with the old BASE below the frame, for a base call.
+-- The memory with the old BASE `old` below the frame at `f`, if `base` is true.
 abbrev pub with_old_base : Bool → List ℕ → ℕ → ℕ → List ℕ
 with_old_base base m f old = if base then with_word m (f - 2) old else m
 
--- The registers inside the procedure with table `t` and the frame at `f`, in the segment at `s`.
+-- The registers at the start of the procedure with the table `t` and the frame at `f`, in the segment at `s`.
 abbrev pub inside : Bool → Registers → ℕ → Table → ℕ → Registers
 inside base r s t f = record r {
   mp = f;
@@ -116,8 +120,8 @@ inside base r s t f = record r {
   base = if base then f else r.base;
 }
 
--- The memory and registers after the frame of a procedure with table `t` is made, whose static link is known. From the
--- top down, a frame has variables, parameters and control words. Sums are natural numbers, not words.
+-- The memory and registers after the frame of the procedure with the table `t` and the static link `static` is created.
+-- From the top down, a frame has local variables, parameters and control words. Sums are natural numbers, not words.
 unfoldable pub framed : List ℕ → ℕ → ℕ → Registers → Bool → Table → ℕ → Result (List ℕ × Registers) ExecError
 framed m s loaded r base t static = do
   _ ← demand (nat_le (r.sp + t.parameters) STACK_END) InvalidMemory
@@ -129,27 +133,30 @@ framed m s loaded r base t static = do
 
 -- ---- the call
 
--- A call of a procedure of the segment at `s`, after `loaded` bytes were loaded for it into the memory `m`.
+-- The memory and registers after a call of a procedure of the segment at `s`. For this call, `loaded` bytes of code
+-- were loaded; the memory `m` contains them.
 unfoldable pub entered : List ℕ → ℕ → ℕ → Registers → Call → Result (List ℕ × Registers) ExecError
 entered m s loaded r call = do
   t ← attributes m s (procedure_called call)
   static ← static_link call m r t.level
   framed m s loaded r (is_base call t.level) t static
 
--- A call of a procedure of the segment `at`.
+-- The state after the given call reaches the segment `at` and enters the procedure.
 unfoldable pub called_at : Parts → Call → Reached → Result Parts ExecError
 called_at c call at = do
   e ← entered at.memory at.place at.loaded c.registers call
   Ok (record { memory = e.0; registers = e.1; places = at.places })
 
--- A call of a procedure of the segment of slot `n`, which is loaded at `p`; and of one that has to be loaded.
+-- The state after a call of a procedure of slot `n`, whose segment is loaded as `p` states. The next definition is for
+-- a segment that must be loaded.
 unfoldable pub called_standing : Parts → Call → ℕ → SegmentPlace → Result Parts ExecError
 called_standing c call n p = reach_standing c n p >>= called_at c call
 
 unfoldable pub called_loading : Parts → Call → ℕ → List ℕ → Result Parts ExecError
 called_loading c call n code = reach_loading c n code >>= called_at c call
 
--- A call of a procedure of the segment of slot `n`. If the segment is not loaded, its code is required.
+-- The state after a call of a procedure of slot `n`, with the given entry. If the segment is not loaded, its code is
+-- required.
 abbrev pub called_slot : Parts → Call → ℕ → Option (List ℕ) → Option (Option SegmentPlace) → Result Parts ExecError
 called_slot c call n code None = Err NoSegment
 called_slot c call n code (Some (Some p)) = called_standing c call n p

@@ -1,4 +1,4 @@
--- Segments that the program keeps. A segment that is kept remains loaded when calls of it return.
+-- The rules of keep requests. A segment with a keep request remains loaded when calls of it return.
 use Rattle.std.specs.Prelude.{ℕ, ◌+◌, ◌-◌, ◌||◌, List, Option, Some, None, is_none, Result, Ok}
 use Rattle.std.specs.Prelude.{Err, if◌then◌else◌, ◌==◌, nat_lt, slice_get, slice_set, length}
 use Rattle.pm_words.specs.declared.error.ExecError.{ExecError}
@@ -11,14 +11,15 @@ use Rattle.pm_calls.specs.Calls.{code_fits}
 
 -- ---- one keep more
 
--- A segment that is loaded has one keep more, up to 65,535.
+-- The state after a keep request for slot `n`, whose segment is loaded as `p` states. The number of keep requests
+-- increases by 1, up to 65,535.
 unfoldable pub keep_standing : Parts → ℕ → SegmentPlace → Result Parts ExecError
 keep_standing c n p = do
   _ ← demand (nat_lt p.keeps 65535) StackOverflow
   Ok (record c { places = slice_set c.places n (Some (record p { keeps = p.keeps + 1 })) })
 
--- A segment that is not loaded is loaded: its code ends at SP, its highest word is the word below SP, and SP is set
--- below the code.
+-- The state after a keep request for slot `n`, whose segment must be loaded. Its code ends at SP, its highest word is
+-- the word below SP, and SP is set below the code.
 unfoldable pub keep_loading : Parts → ℕ → List ℕ → Result Parts ExecError
 keep_loading c n code = do
   let sp = c.registers.sp
@@ -29,7 +30,8 @@ keep_loading c n code = do
     places = slice_set c.places n (Some (record { place = minus sp 2; count = 0; keeps = 1 }));
   })
 
--- One keep more of the segment of slot `n`. If the segment is not loaded, its code is required.
+-- The state after a keep request for slot `n`, with the given entry. If the segment is not loaded, its code is
+-- required.
 abbrev pub keep_slot : Parts → ℕ → Option (List ℕ) → Option (Option SegmentPlace) → Result Parts ExecError
 keep_slot c n code None = Err NoSegment
 keep_slot c n code (Some (Some p)) = keep_standing c n p
@@ -41,13 +43,13 @@ segment_kept c n code = keep_slot c n code (slice_get c.places n)
 
 -- ---- one keep less
 
--- The entry of a slot after one keep less. After the last keep its address is forgotten, if no call of the segment is
--- active.
+-- The entry of a slot after one of its keep requests is withdrawn. If it was the last and no call of the segment
+-- remains, the slot has no address any more.
 abbrev pub less_kept : SegmentPlace → Option SegmentPlace
 less_kept p = if nat_lt 1 p.keeps || nat_lt 0 p.count then Some (record p { keeps = p.keeps - 1 }) else None
 
--- SP after a segment of `size` bytes at `place` is forgotten: above its code if this is on top of the stack, otherwise
--- unchanged.
+-- SP after a segment of `size` bytes at `place` is unloaded: above its code if the code is on top of the stack, and
+-- otherwise unchanged.
 abbrev pub above_code : ℕ → ℕ → ℕ → ℕ
 above_code sp place size = if sp + size == place + 2 then place + 2 else sp
 
@@ -62,7 +64,7 @@ unkeep_slot c n size None = Err NoSegment
 unkeep_slot c n size (Some None) = Err NoSegment
 unkeep_slot c n size (Some (Some p)) = unkeep_standing c n size p
 
--- One keep less of the segment of slot `n`, which has `size` bytes. If no keep and no call remains, its address is
--- forgotten, and its code is popped if it is on top of the stack.
+-- The state after a keep request for slot `n` is withdrawn. The segment has `size` bytes. If no keep request and no
+-- call remains, the slot has no address any more, and the code is popped if it is on top of the stack.
 unfoldable pub segment_unkept : Parts → ℕ → ℕ → Result Parts ExecError
 segment_unkept c n size = unkeep_slot c n size (slice_get c.places n)

@@ -1,4 +1,4 @@
--- Returns.
+-- The rules of returns.
 use Rattle.std.specs.Prelude.{ℕ, ◌+◌, ◌-◌, ◌*◌, ◌%◌, Bool, false, ◌&&◌, ◌||◌, List, Option, Some, None, Result, Ok}
 use Rattle.std.specs.Prelude.{if◌then◌else◌, ◌==◌, nat_lt, nat_le, slice_set, slice_index_or, option_and_then, position}
 use Rattle.pm_words.specs.declared.error.ExecError.{ExecError}
@@ -10,32 +10,32 @@ use Rattle.pm_calls.specs.declared.frames.SegmentPlace.{SegmentPlace}
 use Rattle.pm_calls.specs.Places.{Parts}
 use Rattle.pm_words.specs.declared.layout.TheConstants.{STACK_END}
 
--- The entry of a slot after one call less. After the last call its address is forgotten, if the program does not keep
--- the segment.
+-- The entry of a slot after one of its calls is removed. If it was the last call and the segment has no keep request,
+-- the slot has no address any more.
 abbrev pub one_call_less : SegmentPlace → Option SegmentPlace
 one_call_less p = if nat_lt 1 p.count || nat_lt 0 p.keeps then Some (record p { count = p.count - 1 }) else None
 
--- Whether the segment of a slot is at `s`.
+-- Is true if the slot has a segment at `s`.
 abbrev pub is_at : ℕ → Option SegmentPlace → Bool
 is_at s None = false
 is_at s (Some p) = p.place == s
 
--- Whether the segment of a slot is at `s` and is called.
+-- Is true if the slot has a segment at `s` with a call.
 abbrev pub stands_at : ℕ → Option SegmentPlace → Bool
 stands_at s None = false
 stands_at s (Some p) = p.place == s && nat_lt 0 p.count
 
--- The entries of the slots after one call less of the given slot, if there is one.
+-- The entries of the slots after a call of the given slot is removed, if a slot is given.
 abbrev pub lessened : Option ℕ → List (Option SegmentPlace) → List (Option SegmentPlace)
 lessened None places = places
 lessened (Some n) places = slice_set places n (option_and_then one_call_less (slice_index_or places n None))
 
--- The entries of the slots after a return from the segment at `s`: one call less of the lowest slot whose segment is
--- there and is called.
+-- The entries of the slots after a return from the segment at `s`: one call is removed from the lowest slot that has a
+-- segment at `s` with a call.
 unfoldable pub released : ℕ → List (Option SegmentPlace) → List (Option SegmentPlace)
 released s places = lessened (position (stands_at s) places) places
 
--- The registers after a return to the caller of the frame at `f`. A base return restores the old BASE.
+-- The registers after a return from the frame at `f` to its caller. SP is `sp`. A base return restores the old BASE.
 abbrev pub left_to : List ℕ → Registers → ℕ → ℕ → Bool → Registers
 left_to m r f sp base = record r {
   sp = sp;
@@ -46,8 +46,9 @@ left_to m r f sp base = record r {
   base = if base then word_at m (minus f 2) else r.base;
 }
 
--- A return with `words` words from the frame at MP. All words are read from the memory before it. The result is above
--- the control words, and is copied to below the SP that the frame saves.
+-- The state after a return from the frame at MP with a result of `words` words. All words are read from the memory
+-- before the return. The result is above the control words of the frame, and is copied to below the SP that the frame
+-- saves.
 unfoldable pub returned : Parts → ℕ → Bool → Result Parts ExecError
 returned c words base = do
   let f = c.registers.mp

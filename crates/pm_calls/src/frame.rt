@@ -1,4 +1,4 @@
-//! A frame on the stack.
+//! Creating a frame on the stack.
 
 ghost use Rattle.std.specs.Prelude.{◌≡◌, ◌+◌, ◌*◌, ◌%◌, ◌≤◌, Ok, Err, IsTrue, MatchResult, OnOk, OnErr};
 ghost use Rattle.pm_words.specs.Watch.{WatchStays};
@@ -13,8 +13,8 @@ use crate::valid_registers::ValidRegisters;
 use pm_words::layout::STACK_END;
 use pm_words::{ExecError, Memory};
 
-// Copies the parameters of a frame to an address that is not above them. A few are copied word by word, the lowest
-// first.
+// Copies `count` bytes of parameters from address `from` to address `to`, which is not above `from`. A few bytes are
+// copied word by word, the lowest word first.
 #[inline(always)]
 #[tactic(auto, using(pm_words::proofs::WatchLaws::stays))]
 fn put_parameters(memory: &mut Memory, from: u16, to: u16, count: u16)
@@ -31,7 +31,7 @@ fn put_parameters(memory: &mut Memory, from: u16, to: u16, count: u16)
     }
 }
 
-// Copies `count` bytes as a block.
+// Copies `count` bytes from address `from` to address `to`, as a block.
 #[inline(never)]
 fn put_block(memory: &mut Memory, from: u16, to: u16, count: u16)
     requires within { (from + count ≤ STACK_END) × (to + count ≤ STACK_END) }
@@ -41,7 +41,8 @@ fn put_block(memory: &mut Memory, from: u16, to: u16, count: u16)
     memory.copy(from, to, count);
 }
 
-// Copies `count` words one by one, the lowest first, to an address that is not above them.
+// Copies `count` words from address `from` to address `to`, one by one, the lowest word first. `to` is not above
+// `from`.
 #[inline(always)]
 #[tactic(auto, using(pm_words::proofs::WatchLaws::stays))]
 fn put_words(memory: &mut Memory, from: u16, to: u16, count: u16)
@@ -58,7 +59,9 @@ fn put_words(memory: &mut Memory, from: u16, to: u16, count: u16)
     }
 }
 
-// Writes a frame: the parameters, the six control words, and for a base call the old BASE below them.
+// Writes a frame at address `frame`: the parameters, the six control words, and, for a base call, the old BASE below
+// them. `link` is the static link. `parameters` is the number of bytes of the parameters, which are copied from the
+// stack.
 #[inline(always)]
 #[tactic(auto, using(pm_words::proofs::WatchLaws::stays))]
 fn put_frame(
@@ -95,7 +98,8 @@ fn put_frame(
     }
 }
 
-// Returns the address at which a frame ends: below the code that was loaded for its call, or above its parameters.
+// Returns the address at which a new frame ends. This is below the code that was loaded for the call, if `loaded` is
+// not 0, and otherwise above the parameters.
 #[inline(always)]
 fn frame_top(loaded: u16, sp: u16, parameters: u16) -> u32
     requires room { loaded ≤ sp }
@@ -108,7 +112,8 @@ fn frame_top(loaded: u16, sp: u16, parameters: u16) -> u32
     }
 }
 
-// Sets the registers for the procedure with this table in the segment at `place`, whose frame is at `mp`.
+// Sets the registers for the start of the procedure with the table `table`, in the segment at `place`, with the frame
+// at `mp`.
 #[inline(always)]
 fn go_inside(registers: &mut ValidRegisters, base: bool, place: u16, table: Table, mp: u16)
     requires even { mp % 2 ≡ 0 }
@@ -126,8 +131,8 @@ fn go_inside(registers: &mut ValidRegisters, base: bool, place: u16, table: Tabl
     }
 }
 
-/// Enters a procedure of the segment at `place`, after its table and its static link are known and `loaded` bytes of
-/// code were loaded for it. It writes the frame and sets the registers.
+/// Enters the procedure with the table `table` and the static link `link`: writes its frame, and sets the registers.
+/// Its segment is at `place`, and `loaded` bytes of code were loaded for the call.
 ///
 /// # Errors
 ///

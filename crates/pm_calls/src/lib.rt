@@ -1,4 +1,4 @@
-//! Frames: static links, attribute tables, calls, returns, EXIT, and the addresses of segments.
+//! Frames: static links, attribute tables, calls, returns, EXIT, and the addresses of loaded segments.
 #![tactic(auto)]
 
 mod base_list;

@@ -1,4 +1,4 @@
-//! The registers.
+//! The registers of the p-machine.
 
 /// The eight registers. Each is a word.
 #[derive(Clone, Copy, Debug, PartialEq, Eq)]

@@ -1,4 +1,4 @@
-//! Registers whose SP and NP are even, with NP ≤ SP ≤ 65,504.
+//! The type `ValidRegisters`: registers whose SP and NP are even, with NP ≤ SP ≤ 65,504.
 
 ghost use Rattle.std.specs.Prelude.{◌≡◌};
 ghost use Rattle.pm_words.specs.Stack.{IsStack};
@@ -7,7 +7,7 @@ use crate::Registers;
 use pm_words::Top;
 use std::marker::Model;
 
-/// Registers on which instruction rules operate. SP and NP are even, and NP ≤ SP ≤ 65,504.
+/// The registers on which the instruction rules operate. SP and NP are even, and NP ≤ SP ≤ 65,504.
 #[derive(Clone, Copy)]
 pub struct ValidRegisters {
     pub(crate) registers: Registers,
@@ -27,7 +27,8 @@ impl Model for ValidRegisters {
 }
 
 impl ValidRegisters {
-    /// Wraps registers. The caller proves that SP and NP are valid, so no check is executed.
+    /// Creates the value from `registers`. The caller proves that SP and NP are valid, so they are not checked at run
+    /// time.
     #[inline(always)]
     pub fn of(registers: Registers) -> ValidRegisters
         requires stack { IsStack registers.sp registers.np }
@@ -84,7 +85,7 @@ impl ValidRegisters {
         ValidRegisters { registers }
     }
 
-    /// Returns the registers with the given IPC.
+    /// Returns the registers with the IPC `ipc`.
     #[inline(always)]
     pub fn with_ipc(self, ipc: u16) -> ValidRegisters
         ensures registers { result ≡ record self { ipc = ipc } }
@@ -105,7 +106,7 @@ impl ValidRegisters {
         self.registers.np = top.np();
     }
 
-    /// Sets IPC.
+    /// Sets IPC to `ipc`.
     #[inline(always)]
     pub fn set_ipc(&mut self, ipc: u16)
         ensures registers { self.new ≡ record self.old { ipc = ipc } }
@@ -113,7 +114,7 @@ impl ValidRegisters {
         self.registers.ipc = ipc;
     }
 
-    /// Returns the registers with the given IORESULT.
+    /// Returns the registers with the IORESULT `ioresult`.
     #[inline(always)]
     pub fn with_ioresult(self, ioresult: u16) -> ValidRegisters
         ensures registers { result ≡ record self { ioresult = ioresult } }

@@ -1,4 +1,4 @@
--- The contents of the files of a salvaged volume.
+-- Laws of the contents of the files of a salvaged volume.
 use Rattle.std.proofs.Common.{◌≡◌, ◌<◌, ℕ, zero, suc, ◌+◌, ◌%◌, Bool, true, false, ltb, ◌&&◌, ◌||◌, ◌==◌, List, [], ◌∷◌, ◌++◌}
 use Rattle.std.proofs.Common.{length, take, get_or, map, Option, None, Some, refl, ap, arith, append_assoc, append-nil, inl, inr}
 use Rattle.std.specs.Prelude.{IfOk, Result, Ok, Err, nat_le, slice_index, unwrap_or, if◌then◌else◌}
@@ -58,7 +58,7 @@ sound_back : (lowest blocks length first end bytes : ℕ) → (ltb length 1 || l
 sound_back lowest blocks length first end bytes a b c d e = grind (arith, nat_tests)
 
 module _ (lowest blocks : ℕ) (e : Entry) where
-  -- an entry that could be the first file is not left out
+  -- If an entry could be the first file, then it breaks no rule.
   none-from_sound : could_stand lowest blocks e ≡ true → why_left lowest blocks e ≡ None
   unfolding why_left is_sound_entry
   none-from_sound h =
@@ -69,7 +69,7 @@ module _ (lowest blocks : ℕ) (e : Entry) where
   none_if true f rest h = cc
   none_if false f rest h = (refl, h)
 
-  -- an entry that is not left out could be the first file
+  -- If an entry breaks no rule, then it could be the first file.
   sound-from_none : why_left lowest blocks e ≡ None → could_stand lowest blocks e ≡ true
   unfolding why_left is_sound_entry
   sound-from_none h =
@@ -80,7 +80,7 @@ module _ (lowest blocks : ℕ) (e : Entry) where
       let f = none_if _ _ _ d.1 in
       sound_back lowest blocks (slice_index e.name 0) e.first e.end e.last_bytes a.0 b.0 c.0 d.0 f.0
 
-  -- an entry that could not be the first file is not copied
+  -- If an entry could not be the first file, then its file is not copied.
   not_taken : (n : ℕ) (ts : List Taken) (why : Option SlotFinding) → why_left lowest blocks e ≡ why
       → could_stand lowest blocks e ≡ false → taken_with n e why ts ≡ ts
   not_taken n ts None is wrong = absurd (let right = sound-from_none is in cc)
@@ -114,7 +114,7 @@ module _ (d : List ℕ) (lowest blocks : ℕ) where
       IsPermutation-trans _ _ _ (believed_more n left ts (could_stand lowest blocks (entry_in d n)) refl)
       (believed_from (n + 1) left (taken_with n (entry_in d n) (why_left lowest blocks (entry_in d n)) ts))
 
-  -- the entries that are copied are those that could be the first file
+  -- The copied entries are those that could be the first file, in some order.
   pub believed-taken : IsPermutation (believed d lowest blocks) (entries_taken (taken_from d lowest blocks 1 77 []))
   unfolding believed
   believed-taken =
@@ -141,13 +141,13 @@ contents_more old new k e files stay =
 mod_twice : (n : ℕ) → n % 16 % 16 ≡ n % 16
 mod_twice n = omega arith
 
--- the file of an entry has the contents of the original file
+-- If a new file has the kind, date and bytes of the file of an entry, then the two files have the same contents.
 pub content_saved : (image new : List ℕ) (e file : Entry) (bytes : List ℕ) → file.kind ≡ e.kind % 16 → file.date ≡ e.date
     → file_bytes new file ≡ Some bytes → bytes ≡ unwrap_or (file_bytes image e) [] → content_in new file ≡ content_in image e
 unfolding content_in
 content_saved image new e file bytes kind date there is = rw (there, is, kind, date, mod_twice e.kind) refl
 
--- the file of an entry was added
+-- If the file of an entry is added to a volume, then the new volume has its contents and those of the old files.
 pub content_added : (image old new name : List ℕ) (e : Entry) (bytes : List ℕ) (file : Entry) → AddsFile old new name e.kind bytes e.date file
     → ((k : ℕ) × (files_of new ≡ insert (files_of old) k file)) → file_bytes new file ≡ Some bytes → FilesStay old new
     → bytes ≡ bytes_of image e → IsPermutation (content_in image e ∷ contents_of old) (contents_of new)

@@ -1,4 +1,4 @@
--- A volume that is written to a file of kind .2mg reads back, and the bytes around its blocks are unchanged.
+-- If a volume is written to a .2mg file, then it can be read back, and the bytes around its blocks are unchanged.
 use Rattle.std.proofs.Common.{arith, ◌≡◌, ◌∙◌, ◌+◌, ◌-◌, ◌*◌, ◌/◌, ◌≤◌, ◌<◌, ℕ, true}
 use Rattle.std.proofs.Common.{List, [], ◌∷◌, ◌++◌, Option, None, Some, IfSome, option_map, refl, sym, ap, subst, cond, eqb, ltb, leb}
 use Rattle.std.proofs.Common.{length, take, drop, length-append, length-drop}
@@ -27,7 +27,7 @@ of_header header count fit =
     of_order (order_of (long_in header 12)) (long_in header 24) (front_size header) count
     (leb-true 52 (long_in header 24) b.0) (leb-true (long_in header 24 + front_size header) count c.1)
 
--- the blocks that a fitting header describes are in the file
+-- If a file has a fitting header, then the blocks that this header describes are in the file.
 pub span_lies : (file : List ℕ) → IfSome (span_of file) (Lies (length file))
 unfolding span_of
 span_lies file = cond_both (ltb (length file) 64) None (span_fitting (take 32 file) (length file))
@@ -36,7 +36,7 @@ span_lies file = cond_both (ltb (length file) 64) None (span_fitting (take 32 fi
     (λ found. IfSome found (Lies (length file)))
     (λ fit. of_header (take 32 file) (length file) fit) (λ unfit. tt))
 
--- the file has the first 32 bytes
+-- If a file has at least 64 bytes, then its first 32 bytes exist.
 pub front_of_32 : (file : List ℕ) → 64 ≤ length file → length (take 32 file) ≡ 32
 front_of_32 file long = length-take-le 32 file (omega (arith, long))
 
@@ -46,7 +46,7 @@ module _ (old : List ℕ) (begin : ℕ) (blocks : List ℕ) (behind : 52 ≤ beg
   front_long : length (take begin old) ≡ begin
   front_long = length-take-le begin old (omega (arith, inside))
 
-  -- the length is unchanged
+  -- The length of the file is unchanged.
   pub written_size : length (written old begin blocks) ≡ length old
   unfolding written
   written_size = omega (
@@ -58,19 +58,19 @@ module _ (old : List ℕ) (begin : ℕ) (blocks : List ℕ) (behind : 52 ≤ beg
     length-drop (begin + length blocks) old,
   )
 
-  -- the bytes before the blocks are unchanged
+  -- The bytes before the blocks are unchanged.
   pub written_front : take begin (written old begin blocks) ≡ take begin old
   unfolding written
   written_front = take_at (take begin old) (blocks ++ drop (begin + length blocks) old) begin front_long
 
-  -- the bytes after the blocks are unchanged
+  -- The bytes after the blocks are unchanged.
   pub written_tail : drop (begin + length blocks) (written old begin blocks) ≡ drop (begin + length blocks) old
   unfolding written
   written_tail = ap (λ made. drop (begin + length blocks) made) (sym (append_assoc (take begin old) blocks (drop (begin + length blocks) old)))
       ∙ drop_at (take begin old ++ blocks) (drop (begin + length blocks) old) (begin + length blocks)
       (length-append (take begin old) blocks ∙ ap (λ n. n + length blocks) front_long)
 
-  -- the blocks are the new ones
+  -- The new file has the new blocks.
   pub written_blocks : slice_range (written old begin blocks) begin (begin + length blocks) ≡ blocks
   unfolding written
   written_blocks = ap (take ((begin + length blocks) - begin)) (drop_at (take begin old) (blocks ++ drop (begin + length blocks) old) begin front_long)
@@ -81,14 +81,14 @@ module _ (old : List ℕ) (begin : ℕ) (blocks : List ℕ) (behind : 52 ≤ beg
   header_stays = take-append-le 32 (take begin old) (blocks ++ drop (begin + length blocks) old) (omega (arith, front_long, behind))
       ∙ take-take 32 begin old (omega (arith, behind))
 
-  -- the header states the same position
+  -- The header of the new file states the same position of the blocks.
   pub written_span : span_of (written old begin blocks) ≡ span_of old
   unfolding span_of
   written_span = rw (header_stays, written_size) refl
 
 -- ---- a new file
 
--- the first 32 bytes of its header
+-- The first 32 bytes of the header of a new file.
 new_front : ℕ → List ℕ
 new_front n =
     50 ∷ 73 ∷ 77 ∷ 71 ∷ 80 ∷ 77 ∷ 67 ∷ 72 ∷ 64 ∷ 0 ∷ 1 ∷ 0 ∷ 1 ∷ 0 ∷ 0 ∷ 0 ∷ 0 ∷ 0 ∷ 0 ∷ 0 ∷ long_bytes (n / 512)
@@ -146,7 +146,7 @@ empty_back : volume_in (new_file []) ≡ []
 unfolding volume_in span_of new_file plain_header fits front_size long_in word_in
 empty_back = refl
 
--- the new file contains the volume
+-- If a volume has fewer than 4,294,967,296 bytes, then it can be read back from its new file.
 pub new_back : (volume : List ℕ) → length volume < 4294967296 → volume_in (new_file volume) ≡ volume
 unfolding volume_in span_of
 new_back [] small = empty_back
@@ -176,7 +176,7 @@ filed_at_back old volume (Some span) is lies small =
     (λ file. volume_in file ≡ volume)
     (λ same. kept_back old volume span is lies (eqb-true span.size (length volume) same)) (λ other. new_back volume small)
 
--- a volume that is written reads back
+-- If a volume has fewer than 4,294,967,296 bytes, then it can be read back from the file to which it is written.
 pub filed_back : (old volume : List ℕ) → length volume < 4294967296 → volume_in (filed old volume) ≡ volume
 unfolding filed
 filed_back old volume small = filed_at_back old volume (span_of old) refl (span_lies old) small

@@ -1,4 +1,4 @@
--- Names, byte by byte, and numbers after them.
+-- Laws of names, processed byte by byte, and of the numbers after them.
 use Rattle.std.proofs.Common.{◌≡◌, ◌<◌, ◌≤◌, ℕ, zero, suc, ◌+◌, ◌-◌, ◌^◌, List, [], ◌∷◌, ◌++◌, false, length, drop, get_or, replicate, map}
 use Rattle.std.proofs.Common.{refl, ap, sym, subst, ◌∙◌, arith, add-one, append_assoc, append-nil}
 use Rattle.std.proofs.Math.Seq.{drop-cons}
@@ -13,12 +13,12 @@ use Rattle.pm_bytes.specs.Decimals.{padded}
 use Rattle.pm_volume.specs.Files.{file_named}
 use Rattle.pm_check.specs.Naming.{free_from, good_character, good_name, numbered}
 
--- the text that `{n:02}` writes
+-- The format `{n:02}` writes the number `n` with at least two digits.
 pub padded_two : (n : ℕ) → padded_integral (format_spec 32 0 4 2 (2 ^ 64 - 1)) false [] (decimal n) ≡ padded 2 n
 unfolding padded_integral padded char_count
 padded_two n = simp append-nil (ap (λ k. replicate k 48 ++ decimal n) (omega arith))
 
--- one more byte of the name
+-- If one more byte of the name is converted and appended, the complete text is the same.
 pub good-more : (text name : List ℕ) (i : ℕ) → i < length name
     → (text ++ good_character (get_or name i 0) ∷ []) ++ good_name (drop (i + 1) name) ≡ text ++ good_name (drop i name)
 unfolding good_name
@@ -32,7 +32,7 @@ good-done [] (suc i) h = refl
 good-done (c ∷ name) zero h = absurd (omega arith)
 good-done (c ∷ name) (suc i) h = good-done name i (omega arith)
 
--- a converted character is one byte of UTF-8
+-- A converted character is one byte in UTF-8.
 pub good_ascii : (c : ℕ) → encode (good_character c) ≡ good_character c ∷ []
 good_ascii c = encode_ascii (good_character c) (below (nat_le 33 c && nat_le c 126 && not (c == 58)) refl)
   where
@@ -44,14 +44,14 @@ good_ascii c = encode_ascii (good_character c) (below (nat_le 33 c && nat_le c 1
     below false e = omega arith
 
 module _ (volume name : List ℕ) (n end : ℕ) where
-  -- the next number is free
+  -- If no file has the name with the number `n`, this name is the result.
   pub free_from-found : n < end → is_none (file_named volume (numbered name n)) ≡ true → free_from volume name n (end - n) ≡ numbered name n
   unfolding free_from
   free_from-found below free =
       let e : end - n ≡ suc (end - (n + 1)) = omega arith in
       rw (e, free)
 
-  -- the next number is not free
+  -- If a file has the name with the number `n`, the search continues with the next number.
   pub free_from-more : n < end → is_none (file_named volume (numbered name n)) ≡ false
       → free_from volume name n (end - n) ≡ free_from volume name (n + 1) (end - (n + 1))
   unfolding free_from
@@ -59,7 +59,7 @@ module _ (volume name : List ℕ) (n end : ℕ) where
       let e : end - n ≡ suc (end - (n + 1)) = omega arith in
       rw (e, taken)
 
-  -- no number remains
+  -- If no number remains, the result is the name with the number `n`.
   pub free_from-done : end ≤ n → free_from volume name n (end - n) ≡ numbered name n
   unfolding free_from
   free_from-done over =

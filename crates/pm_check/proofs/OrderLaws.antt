@@ -1,4 +1,4 @@
--- An image that is converted twice is unchanged.
+-- If an image is converted twice, it is unchanged.
 use Rattle.std.proofs.Common.{arith, ◌≡◌, ◌∙◌, ◌+◌, ◌*◌, ◌/◌, ◌%◌, ◌<◌, ℕ, true, List, [], ◌∷◌, ◌++◌}
 use Rattle.std.proofs.Common.{length, map, refl, sym, ap, eqb, ltb}
 use Rattle.std.specs.Prelude.{slice_index}
@@ -10,7 +10,7 @@ use Rattle.pm_check.specs.Orders.{WorkedOrders, other_sector, place_in, place_in
 use Rattle.pm_check.specs.declared.order.Order.{Order}
 use Rattle.pm_check.specs.declared.order.Order.TheVariants as orders
 
--- the first 0 bytes of the converted image, and one byte more
+-- The first 0 bytes of the converted image are the empty list. The next law adds one byte.
 pub front_none : (order : Order) (image : List ℕ) → [] ≡ turned_front order image 0
 unfolding turned_front
 front_none order image = refl
@@ -22,12 +22,12 @@ unfolding turned_front
 front_more order image made place from whole value =
     rw (whole, value) (sym (map-range_with_len_more _ 0 place place (omega arith)))
 
--- a conversion keeps the length
+-- A conversion keeps the length of the image.
 pub turned_size : (order : Order) (image : List ℕ) → length (turned order image) ≡ length image
 unfolding turned turned_front
 turned_size order image = length-map-range_with_len _ 0 (length image)
 
--- the sector exchanged with a sector is in the track, and exchanging twice gives the sector
+-- The sector with which a sector is exchanged is in the same track. The next law: two exchanges give the first sector.
 sector_inside : (sector : ℕ) → sector < 16 → other_sector sector < 16
 unfolding other_sector
 sector_inside sector inside =
@@ -38,7 +38,8 @@ unfolding other_sector
 sector_back sector inside =
     eqb-true _ _ (agree_below_at (λ sector. eqb (other_sector (other_sector sector)) sector) (λ sector. true) 16 sector refl inside)
 
--- the track, the sector and the byte of an offset that is composed of them
+-- If an offset is composed of a track, a sector and a byte, then dividing it returns the track. The next laws state the
+-- same for the sector and the byte.
 track_of : (track sector byte : ℕ) → sector < 16 → byte < 256 → (track * 4096 + (sector * 256 + byte)) / 4096 ≡ track
 track_of track sector byte few small = omega (arith, few, small)
 
@@ -72,7 +73,7 @@ word_back place = omega arith
 word_inside : (place words : ℕ) → place < words * 2 → place_in_word place < words * 2
 word_inside place words inside = omega (arith, inside)
 
--- the offset before the conversion is in the image
+-- The offset of a byte before the conversion is an offset of the image.
 pub place_inside : (order : Order) (size place : ℕ) → place < size → place_in order size place < size
 place_inside orders.Blocks size place inside = inside
 place_inside orders.Dos size place inside = cond_both (ltb place (size / 4096 * 4096)) _ _ (λ there. there < size)
@@ -80,7 +81,7 @@ place_inside orders.Dos size place inside = cond_both (ltb place (size / 4096 * 
 place_inside orders.Swapped size place inside = cond_both (ltb place (size / 2 * 2)) _ _ (λ there. there < size)
     (λ is. let here = word_inside place (size / 2) (ltb-true _ _ is) in omega (arith, here)) (λ is. inside)
 
--- and the offset before that conversion is the original offset
+-- If the offset before the conversion is computed twice, the result is the first offset.
 pub place_back : (order : Order) (size place : ℕ) → place < size → place_in order size (place_in order size place) ≡ place
 place_back orders.Blocks size place inside = refl
 place_back orders.Dos size place inside =
@@ -92,13 +93,13 @@ place_back orders.Swapped size place inside =
     (λ is. cond-true _ _ _ (lt-ltb _ _ (word_inside place (size / 2) (ltb-true _ _ is))) ∙ word_back place)
     (λ is. cond-false _ _ _ is)
 
--- the byte at an offset of the converted image
+-- The byte at offset `place` of the converted image is the byte of the image at the offset before the conversion.
 turned_at : (order : Order) (image : List ℕ) (place : ℕ) → place < length image
     → slice_index (turned order image) place ≡ slice_index image (place_in order (length image) place)
 unfolding turned turned_front
 turned_at order image place inside = get_or-map-range_with_len _ 0 (length image) place place 0 inside (omega arith)
 
--- the whole image is converted
+-- If all bytes of an image are converted, the result is the converted image.
 turned_over : (order : Order) (image : List ℕ) (size : ℕ) → size ≡ length image
     → map (λ place. slice_index image (place_in order size place)) (range_with_len 0 size) ≡ turned order image
 unfolding turned turned_front
@@ -118,7 +119,8 @@ unfolding turned turned_front
 turned_blocks image =
     sym (fill_by_all (λ place. slice_index image place) image (length image) 0 refl (λ place inside. refl))
 
--- worked examples of sectors, offsets and bytes
+-- Worked examples: the sectors with which sectors 0 to 15 are exchanged. The next laws are examples of offsets and
+-- bytes.
 table_worked : map other_sector (range_with_len 0 16)
     ≡ 0 ∷ 14 ∷ 13 ∷ 12 ∷ 11 ∷ 10 ∷ 9 ∷ 8 ∷ 7 ∷ 6 ∷ 5 ∷ 4 ∷ 3 ∷ 2 ∷ 1 ∷ 15 ∷ []
 unfolding other_sector

@@ -1,4 +1,4 @@
--- Adding a file, with success or failure.
+-- Adding a file to the new volume, with success or failure.
 use Rattle.std.proofs.Common.{◌≡◌, ◌<◌, ◌≤◌, ℕ, zero, suc, ◌+◌, List, [], ◌∷◌, ◌++◌, length, drop, get_or, Result, Ok, Err, None}
 use Rattle.std.proofs.Common.{add-one, arith, refl}
 use Rattle.std.proofs.Math.Seq.{drop-cons}
@@ -31,7 +31,7 @@ made-unadded image name kind bytes date fault e = rw e refl
 
 -- ---- the files one by one
 
--- the default where a list has no file
+-- The value that is used where a list has no file.
 abbrev pub no_file : Taken
 no_file = record { slot = 0; entry = record { name = []; kind = 0; first = 0; end = 0; last_bytes = 0; date = 0 } }
 
@@ -64,7 +64,8 @@ counted_most n Sure = omega arith
 counted_most n (Shares slot) = omega arith
 counted_most n Behind = omega arith
 
--- if a volume was created, its files were saved or one of them was refused
+-- If a new volume can be created, then the result of the salvage is the result of adding the files to this volume, with
+-- the last line of the report added.
 pub saved-all : (image name : List ℕ) (blocks count : ℕ) (taken : List Taken) (left : List Left) (volume text : List ℕ) (r : Result Saved VolumeFault)
     → blank_fault name (room_for blocks taken) ≡ None → volume ≡ blank_image name (room_for blocks taken) → text ≡ flat_map left_line left
     → saved_from image taken count taken (record { volume = volume; text = text; doubted = 0 }) ≡ r

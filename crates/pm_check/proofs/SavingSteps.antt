@@ -1,4 +1,4 @@
--- One step of the loops over slots and files.
+-- Laws for one iteration of the loops over slots and files.
 use Rattle.std.proofs.Common.{◌≡◌, ◌<◌, ◌≤◌, ℕ, zero, suc, ◌+◌, ◌-◌, true, false, ltb, List, [], ◌∷◌, ◌++◌, length, drop, take, get_or}
 use Rattle.std.proofs.Common.{Option, None, Some, add-one, ap, append_assoc, arith, refl, inl, inr}
 use Rattle.std.proofs.Math.Seq.{drop-cons}

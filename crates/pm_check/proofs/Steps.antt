@@ -1,4 +1,4 @@
--- One step of the loops over slots.
+-- Laws for one iteration of the loops over slots.
 use Rattle.std.proofs.Common.{◌≡◌, ◌<◌, ◌≤◌, ℕ, suc, ◌+◌, ◌-◌, List, [], ◌++◌, arith}
 use Rattle.pm_check.specs.Rules.{findings_from, slot_findings}
 use Rattle.pm_check.specs.Forms.{note_if}

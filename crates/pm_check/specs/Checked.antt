@@ -15,11 +15,11 @@ finding_line finding = finding_text finding ++ 10 ∷ []
 unfoldable pub note_line : Note → List ℕ
 note_line note = note_text note ++ 10 ∷ []
 
--- the last line for `count` faults
+-- The last line of a check that found `count` faults.
 abbrev pub last_line : ℕ → List ℕ
 last_line count = if count == 0 then codes "good" ++ 10 ∷ [] else codes "faults " ++ (decimal count ++ 10 ∷ [])
 
--- the whole text
+-- The whole text of a check of `image`.
 unfoldable pub check_text : List ℕ → List ℕ
 check_text image =
     flat_map finding_line (image_findings image)

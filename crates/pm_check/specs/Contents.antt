@@ -1,4 +1,4 @@
--- The contents of the files of a salvaged volume, without reference to how the volume is made.
+-- The contents of the files of a salvaged volume, stated without the steps that create the volume.
 use Rattle.std.specs.Prelude.{ℕ, ◌%◌, ◌&&◌, Bool, nat_le, List, [], map, unwrap_or, if◌then◌else◌}
 use Rattle.std.specs.List.{filter}
 use Rattle.std.specs.List.Sorted.{IsPermutation}
@@ -10,46 +10,48 @@ use Rattle.pm_volume.specs.declared.fields.TheConstants.{PAST_DIRECTORY, PAST_SE
 use Rattle.pm_check.specs.Saving.{image_blocks}
 use Rattle.pm_check.specs.declared.believing.Taken.{Taken}
 
--- the contents of a file, without its name and its position
+-- The contents of a file, without its name and its position on the volume.
 pub record Content : Type 0 where
   pub kind : ℕ
   pub bytes : List ℕ
   pub date : ℕ
 
--- the contents of the file of an entry in an image
+-- The contents of the file of the entry `e` in `image`.
 unfoldable pub content_in : List ℕ → Entry → Content
 content_in image e = record { kind = e.kind % 16; bytes = unwrap_or (file_bytes image e) []; date = e.date }
 
--- the contents of all files of a volume
+-- The contents of all files of `volume`.
 abbrev pub contents_of : List ℕ → List Content
 contents_of volume = map (content_in volume) (files_of volume)
 
--- whether an entry could be the first file of a volume of `blocks` blocks whose files begin at block `lowest`
+-- Is true if the entry `e` could be the first file of a volume of `blocks` blocks whose files begin at block `lowest`.
 abbrev pub could_stand : ℕ → ℕ → Entry → Bool
 could_stand lowest blocks e = is_sound_entry lowest e && nat_le e.end blocks
 
--- the entries in the 77 slots of a directory that could be the first file
+-- The entries in the 77 slots of the directory `d` that could be the first file of a volume of `blocks` blocks whose
+-- files begin at block `lowest`.
 unfoldable pub believed : List ℕ → ℕ → ℕ → List Entry
 believed d lowest blocks = filter (could_stand lowest blocks) (entries_from d 1 77)
 
--- these entries by the first or the second copy of the directory of an image
+-- The entries of the second copy of the directory of `image` that could be the first file if `second` is true.
+-- Otherwise the same for the first copy.
 unfoldable pub believed_of : List ℕ → Bool → List Entry
 believed_of image second =
     if second then believed (second_of image) PAST_SECOND (image_blocks image)
     else believed (directory_of image) PAST_DIRECTORY (image_blocks image)
 
--- The files of `volume` have, in some order, the contents of the files of these entries in `image`. No file is missing
--- and no other file is added.
+-- The files of `volume` have, in some order, the contents of the files of `entries` in `image`. No file is missing, and
+-- `volume` has no other file.
 unfoldable pub HasFilesOf : List ℕ → List Entry → List ℕ → Type 0
 HasFilesOf image entries volume = IsPermutation (map (content_in image) entries) (contents_of volume)
 
--- the entry of a file that is copied
+-- The entry of the copied file `t`.
 abbrev pub entry_taken : Taken → Entry
 entry_taken t = t.entry
 
 abbrev pub entries_taken : List Taken → List Entry
 entries_taken taken = map entry_taken taken
 
--- the contents of these files in an image
+-- The contents of the files of `taken` in `image`.
 abbrev pub contents_taken : List ℕ → List Taken → List Content
 contents_taken image taken = map (content_in image) (entries_taken taken)

@@ -1,4 +1,4 @@
--- The text of each rule that an image breaks, without the line feed.
+-- The text of each broken rule, without the line feed.
 use Rattle.std.specs.Prelude.{ℕ, List, ◌∷◌, ◌++◌, codes}
 use Rattle.std.specs.Fmt.{decimal}
 use Rattle.pm_check.specs.declared.finding.Finding.{Finding}

@@ -1,4 +1,4 @@
--- The rules of a volume that an image breaks, each checked by itself.
+-- The rules of a volume that an image breaks, each checked without regard to the others. A finding is a broken rule.
 use Rattle.std.specs.Prelude.{ℕ, zero, suc, ◌+◌, ◌-◌, ◌/◌, ◌%◌, ◌==◌, ◌&&◌, ◌||◌, Bool, true, false, not, nat_lt}
 use Rattle.std.specs.Prelude.{List, [], ◌∷◌, ◌++◌, length, min, slice_index, if◌then◌else◌}
 use Rattle.pm_volume.specs.Directory.{block_count, directory_of, entry_in, file_count, files_begin}
@@ -10,12 +10,13 @@ use Rattle.pm_check.specs.declared.finding.Finding.{Finding}
 use Rattle.pm_check.specs.declared.finding.Finding.TheVariants as findings
 use Rattle.pm_check.specs.declared.finding.SlotFinding.TheVariants as slots
 
--- `finding` if the condition is true
+-- The list with `finding` if the condition is true, and otherwise the empty list.
 abbrev pub found_if : Bool → Finding → List Finding
 found_if true finding = finding ∷ []
 found_if false finding = []
 
--- the findings for the header: its name, the block where files begin, the number of blocks, and the number of files
+-- The findings for the header of the directory `d`: for its name, the block at which files begin, the number of blocks,
+-- and the number of files.
 unfoldable pub header_findings : List ℕ → ℕ → List Finding
 header_findings d blocks =
     found_if (nat_lt (slice_index d HEADER_NAME) 1 || nat_lt LONGEST_VOLUME_NAME (slice_index d HEADER_NAME))
@@ -26,16 +27,17 @@ header_findings d blocks =
     ++ (found_if (nat_lt blocks (block_count d)) (findings.PastImage (block_count d) blocks)
     ++ found_if (nat_lt MOST_FILES (file_count d)) (findings.ManyFiles (file_count d)))))
 
--- whether the last block has fewer than 1 or more than 512 bytes; a file without blocks has no last block
+-- Is true if the file of the entry `e` has blocks, and the number of bytes in its last block is not from 1 to 512.
 abbrev pub has_wrong_last : Entry → Bool
 has_wrong_last e = nat_lt e.first e.end && (nat_lt e.last_bytes 1 || nat_lt BLOCK e.last_bytes)
 
--- whether the file in slot `n` begins before the end of the file in the slot before; slot 1 has none before it
+-- Is true if the file in slot `n`, which begins at block `first`, begins before block `before`, the end of the file in
+-- the slot before. Is false for slot 1.
 abbrev pub is_out_of_order : ℕ → ℕ → ℕ → Bool
 is_out_of_order n first before = nat_lt 1 n && nat_lt first before
 
--- the findings for the entry in slot `n`: its name, its first block, its end, the bytes of its last block, and its
--- order; it must not begin before the entry before it ends
+-- The findings for the entry in slot `n` of the directory `d`: for its name, its first block, its end, the bytes of its
+-- last block, and its order. An entry must not begin before the end of the entry before it.
 unfoldable pub slot_findings : List ℕ → ℕ → List Finding
 slot_findings d n =
     let e = entry_in d n in
@@ -48,20 +50,20 @@ slot_findings d n =
     ++ found_if (is_out_of_order n e.first (entry_in d (n - 1)).end)
     (findings.Slot n (slots.Order e.first (entry_in d (n - 1)).end))))))
 
--- the findings for the entries in the `left` slots from slot `n`
+-- The findings for the entries in the given number of slots from slot `n` on.
 unfoldable pub findings_from : List ℕ → ℕ → ℕ → List Finding
 findings_from d n zero = []
 findings_from d n (suc left) = slot_findings d n ++ findings_from d (n + 1) left
 
--- the number of slots with files: the number that the header states, but at most 77
+-- The number of slots with files: the number that the header of `d` states, but at most 77.
 abbrev pub slot_count : List ℕ → ℕ
 slot_count d = min (file_count d) MOST_FILES
 
--- the findings for a directory in an image of `blocks` blocks
+-- The findings for the directory `d` in an image of `blocks` blocks.
 unfoldable pub directory_findings : List ℕ → ℕ → List Finding
 directory_findings d blocks = header_findings d blocks ++ findings_from d 1 (slot_count d)
 
--- the findings for an image: those of its length, and those of its directory if it has one
+-- The findings for `image`: for its length, and for its directory if it has one.
 unfoldable pub image_findings : List ℕ → List Finding
 image_findings image =
     found_if (not (length image % BLOCK == 0)) (findings.NotBlocks (length image))

@@ -1,4 +1,4 @@
-//! The valid entries of a directory. Each entry is checked by itself.
+//! The valid entries of a directory. Each entry is checked without regard to the other entries.
 ghost use Rattle.std.specs.Prelude.{◌≡◌, ◌+◌, ◌≤◌, ◌++◌, IfOk, OnOk, [], length};
 ghost use Rattle.pm_volume.specs.declared.fields.TheConstants.{DIRECTORY_SIZE, MOST_FILES};
 ghost use Rattle.pm_check.specs.Believing.{is_empty, left_from, left_of, placed, sharing, taken_from, taken_with};
@@ -10,33 +10,33 @@ use crate::rules::has_wrong_last;
 use pm_volume::{Entry, entry_at};
 use std::alloc::{AllocError, Global};
 
-/// An entry that is not copied to the new volume.
+/// An entry whose file is not copied to the new volume, because the entry is invalid.
 #[derive(Clone, Copy)]
 pub struct Left {
     /// The slot of the entry.
     pub slot: u16,
-    /// The first rule that the entry breaks by itself.
+    /// The first rule that the entry breaks, checked without regard to the other entries.
     pub finding: SlotFinding,
 }
 
-/// A file that is copied to the new volume.
+/// An entry whose file is copied to the new volume.
 #[derive(Clone, Copy)]
 pub struct Taken {
     /// The slot of the entry.
     pub slot: u16,
-    /// The entry.
+    /// The entry itself.
     pub entry: Entry,
 }
 
-// Whether a slot contains no entry.
+// Is true if the slot of `entry` is empty: the name has no characters, and the block numbers are 0.
 fn is_empty(entry: &Entry) -> bool
     ensures value { result ≡ is_empty entry.now }
 {
     entry.name[0] == 0 && entry.first == 0 && entry.end == 0
 }
 
-// Returns the first rule that an entry breaks by itself, in an image of `blocks` blocks whose files begin at block
-// `lowest` or later.
+// Returns the first rule that `entry` breaks, without regard to other entries. The image has `blocks` blocks, and its
+// files begin at block `lowest` or later.
 #[tactic(auto, unfolding(crate::specs::Believing::why_left))]
 fn why_left(lowest: u16, blocks: u16, entry: &Entry) -> Option<SlotFinding>
     ensures finding { result ≡ why_left lowest blocks entry.now }
@@ -57,7 +57,7 @@ fn why_left(lowest: u16, blocks: u16, entry: &Entry) -> Option<SlotFinding>
     }
 }
 
-// Appends the entry in slot `slot` if it breaks the rule `why` and the slot is not empty.
+// Appends the entry in slot `slot` to `left` if `why` is a broken rule and the slot is not empty.
 fn push_left(
     left: &mut Vec<Left>,
     slot: u16,
@@ -72,7 +72,7 @@ fn push_left(
     }
 }
 
-// Inserts a file before the first file that has a higher first block.
+// Inserts `file` into `taken`, before the first file that begins at a higher block.
 fn place(taken: &mut Vec<Taken>, file: Taken) -> Result<(), AllocError>
     ensures placed { OnOk result (taken.new.items ≡ placed file taken.old.items) }
 {
@@ -85,7 +85,7 @@ fn place(taken: &mut Vec<Taken>, file: Taken) -> Result<(), AllocError>
     Ok(taken.push(file)?)
 }
 
-// Inserts the entry in slot `slot` if it breaks no rule.
+// Inserts the entry in slot `slot` into `taken` if `why` is `None`: the entry breaks no rule.
 fn push_taken(
     taken: &mut Vec<Taken>,
     slot: u16,
@@ -100,8 +100,7 @@ fn push_taken(
     }
 }
 
-/// Returns the files to copy and the entries to leave out. The files are in the order of their first blocks, the
-/// entries in the order of their slots.
+/// Returns the files to copy, in the order of their first blocks, and the invalid entries, in the order of their slots.
 ///
 /// `directory` is a directory of 2,048 bytes in an image of `blocks` blocks whose files begin at block `lowest` or
 /// later.
@@ -127,7 +126,7 @@ pub fn taken_and_left(
     Ok((taken, left))
 }
 
-/// Returns the first file of `taken` that is in another slot than `file` and has a block in common with it.
+/// Returns the first file of `taken` that is in another slot than `file` and has a block in common with `file`.
 #[tactic(auto, unfolding(crate::specs::Believing::sharing))]
 pub fn sharing(file: &Taken, taken: &[Taken]) -> Option<Taken>
     ensures first { result ≡ sharing file.now taken.now }

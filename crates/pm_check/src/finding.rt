@@ -7,38 +7,39 @@ use std::fmt;
 /// A rule that an image breaks.
 #[derive(Clone, Copy)]
 pub enum Finding {
-    /// The number of bytes of the image is this one, not a multiple of 512.
+    /// The image has this number of bytes, which is not a multiple of 512.
     NotBlocks(usize),
-    /// The number of bytes of the image is this one, below the 6 blocks of the shortest volume.
+    /// The image has this number of bytes, fewer than the 6 blocks that it needs for a directory.
     TooShort(usize),
-    /// The name of the volume has this number of characters.
+    /// The volume's name has this number of characters, not 1 to 7.
     VolumeName(u8),
-    /// The directory states that files begin at this block.
+    /// The directory states that files begin at the block with this number, not at 6 or 10.
     FilesBegin(u16),
-    /// The volume has the first number of blocks, and files begin at the second.
+    /// The volume has the first number of blocks, but files begin at the block with the second number.
     FewBlocks(u16, u16),
-    /// The directory states the first number of blocks, and the image has the second.
+    /// The directory states the first number of blocks, but the image has only the second number.
     PastImage(u16, usize),
-    /// The directory states this number of files.
+    /// The directory states this number of files, which is greater than 77.
     ManyFiles(u16),
-    /// The entry in this slot breaks a rule.
+    /// The entry in the slot with this number breaks the rule.
     Slot(u16, SlotFinding),
 }
 
-/// A rule that an entry breaks.
+/// A rule that the entry in a slot breaks.
 #[derive(Clone, Copy)]
 pub enum SlotFinding {
-    /// The name has this number of characters.
+    /// The name of the file has this number of characters, not 1 to 15.
     Name(u8),
-    /// The entry begins at the first block, and files begin at the second.
+    /// The entry begins at the block with the first number, but files begin at the block with the second number.
     First(u16, u16),
-    /// The entry ends before the first block, and begins at the second.
+    /// The entry ends before the block with the first number, but begins at the block with the second number.
     End(u16, u16),
-    /// The entry ends before the first block, and the volume before the second.
+    /// The entry ends before the block with the first number, but the volume has only the second number of blocks.
     PastVolume(u16, u16),
-    /// The last block has this number of bytes.
+    /// The last block of the file has this number of bytes.
     LastBytes(u16),
-    /// The entry begins at the first block, and the entry in the slot before ends before the second.
+    /// The entry begins at the block with the first number, but the entry in the slot before ends before the block with
+    /// the second number.
     Order(u16, u16),
 }
 

@@ -1,5 +1,5 @@
-//! Other formats of images. A format is recognized by a valid directory header at the offset that the format has for
-//! it.
+//! Other formats of images. A format is recognized by a valid directory header at the offset at which this format has
+//! the header. A .2mg file has a header of its own before the image.
 ghost use Rattle.std.specs.Prelude.{◌≡◌, ◌+◌, ◌≤◌, ◌<◌, ◌++◌, OnOk, length};
 ghost use Rattle.std.specs.Bool.{OnTrue};
 ghost use Rattle.pm_volume.specs.declared.fields.TheConstants.{SLOT};
@@ -15,13 +15,14 @@ use pm_volume::fields::{
 };
 use std::alloc::AllocError;
 
-/// The number of bytes of a disk of 280 blocks.
+/// The number of bytes of a disk of 280 blocks, the only size for which DOS sector order is recognized.
 const SECTORS: usize = 143360;
 
-/// The offset of the directory header on a disk in DOS sector order: the sector that is the first half of block 2.
+/// The offset of the directory header on a disk in DOS sector order. The sector at this offset is the first half of
+/// block 2.
 const SECTORS_HEADING: usize = 2816;
 
-/// Appends `note` if `holds` is true.
+/// Appends `note` to `notes` if `holds` is true.
 pub fn push_note(notes: &mut Vec<Note>, holds: bool, note: Note) -> Result<(), AllocError>
     ensures more { OnOk result (notes.new.items ≡ notes.old.items ++ note_if holds note) }
 {
@@ -31,7 +32,8 @@ pub fn push_note(notes: &mut Vec<Note>, holds: bool, note: Note) -> Result<(), A
     Ok(())
 }
 
-// Returns the word of a header at offset `place`. `is_swapped` states whether the bytes of each word are exchanged.
+// Returns the word of `header` at offset `place`. If `is_swapped` is true, the two bytes of each word of the image are
+// exchanged.
 #[tactic(auto, unfolding(crate::specs::Forms::heading_word))]
 fn heading_word(header: &[u8], place: usize, is_swapped: bool) -> u16
     requires room { place + 2 ≤ length header.now }
@@ -45,7 +47,8 @@ fn heading_word(header: &[u8], place: usize, is_swapped: bool) -> u16
     }
 }
 
-// Returns the length of the name of the volume in characters.
+// Returns the number of characters of the volume's name in `header`. If `is_swapped` is true, the two bytes of each
+// word are exchanged.
 fn heading_length(header: &[u8], is_swapped: bool) -> u8
     requires size { length header.now ≡ SLOT }
     ensures length { result ≡ heading_length is_swapped header.now }
@@ -53,7 +56,8 @@ fn heading_length(header: &[u8], is_swapped: bool) -> u8
     if is_swapped { header[7] } else { header[6] }
 }
 
-// Whether 26 bytes are the header of a volume in an image of `blocks` blocks.
+// Is true if `header` is a valid directory header of a volume in an image of `blocks` blocks. If `is_swapped` is true,
+// the two bytes of each word are exchanged.
 #[tactic(auto, unfolding(crate::specs::Forms::is_heading))]
 fn is_heading(header: &[u8], blocks: usize, is_swapped: bool) -> bool
     requires size { length header.now ≡ SLOT }
@@ -71,7 +75,8 @@ fn is_heading(header: &[u8], blocks: usize, is_swapped: bool) -> bool
         && files <= MOST_FILES
 }
 
-// Whether an image has such a header at offset `place`.
+// Is true if `image` has a valid directory header at offset `place`. The parameters `blocks` and `is_swapped` are those
+// of `is_heading`.
 #[tactic(auto, unfolding(crate::specs::Forms::has_heading))]
 fn has_heading(image: &[u8], place: usize, blocks: usize, is_swapped: bool) -> bool
     requires place { place ≤ 4294970111 }
@@ -83,7 +88,7 @@ fn has_heading(image: &[u8], place: usize, blocks: usize, is_swapped: bool) -> b
     is_heading(&image[place..place + SLOT], blocks, is_swapped)
 }
 
-// Whether the `size` bytes of an image from offset `begin` are blocks in order.
+// Is true if the `size` bytes of `image` from offset `begin` on have a directory header where blocks in order have it.
 fn is_in_blocks(image: &[u8], begin: usize, size: usize) -> bool
     requires place { begin < 4294967296 }
     ensures value { result ≡ is_in_blocks image.now begin size }
@@ -91,7 +96,8 @@ fn is_in_blocks(image: &[u8], begin: usize, size: usize) -> bool
     has_heading(image, begin + DIRECTORY, size / BLOCK, false)
 }
 
-// Whether these bytes are blocks with the bytes of each word exchanged.
+// Is true if the `size` bytes of `image` from offset `begin` on have a directory header where blocks with exchanged
+// bytes in each word have it.
 fn is_swapped(image: &[u8], begin: usize, size: usize) -> bool
     requires place { begin < 4294967296 }
     ensures value { result ≡ is_swapped image.now begin size }
@@ -99,7 +105,8 @@ fn is_swapped(image: &[u8], begin: usize, size: usize) -> bool
     has_heading(image, begin + DIRECTORY, size / BLOCK, true)
 }
 
-// Whether these bytes are a disk in DOS sector order.
+// Is true if the `size` bytes of `image` from offset `begin` on have a directory header where a disk in DOS sector
+// order has it.
 fn is_in_sectors(image: &[u8], begin: usize, size: usize) -> bool
     requires place { begin < 4294967296 }
     ensures value { result ≡ is_in_sectors image.now begin size }
@@ -107,7 +114,7 @@ fn is_in_sectors(image: &[u8], begin: usize, size: usize) -> bool
     size == SECTORS && has_heading(image, begin + SECTORS_HEADING, 280, false)
 }
 
-/// Returns the number in the four bytes at offset `place`, low byte first.
+/// Returns the number in the four bytes of `image` at offset `place`, low byte first.
 #[tactic(auto, unfolding(crate::specs::Forms::long_in))]
 pub(crate) fn long(image: &[u8], place: usize) -> usize
     requires room { place + 4 ≤ length image.now }
@@ -117,7 +124,7 @@ pub(crate) fn long(image: &[u8], place: usize) -> usize
     usize::from(word(image, place)) + 65536 * usize::from(word(image, place + 2))
 }
 
-/// Returns the number of bytes of the blocks, as the header of a .2mg file states it.
+/// Returns the number of bytes of the blocks in a .2mg file, as the header of the file states it.
 #[tactic(auto, unfolding(crate::specs::Forms::front_size))]
 pub(crate) fn front_size(image: &[u8]) -> usize
     requires room { 32 ≤ length image.now }
@@ -132,7 +139,7 @@ pub(crate) fn front_size(image: &[u8]) -> usize
     }
 }
 
-// Whether an image begins with the header of a .2mg file.
+// Is true if `image` begins with the header of a .2mg file, and the blocks that this header describes are in `image`.
 #[tactic(auto, unfolding(crate::specs::Forms::has_front))]
 fn has_front(image: &[u8]) -> bool
     ensures value { result ≡ has_front image.now }
@@ -146,7 +153,7 @@ fn has_front(image: &[u8]) -> bool
     &image[..4] == b"2IMG".as_slice() && 52 <= begin && 0 < size && begin + size <= image.len()
 }
 
-// Appends the formats after the header of a .2mg file.
+// Appends a note for each format that the blocks after the header of a .2mg file may have.
 #[tactic(auto, unfolding(crate::specs::Forms::front_notes))]
 fn push_front(notes: &mut Vec<Note>, image: &[u8]) -> Result<(), AllocError>
     requires room { 64 ≤ length image.now }
@@ -162,7 +169,7 @@ fn push_front(notes: &mut Vec<Note>, image: &[u8]) -> Result<(), AllocError>
     push_note(notes, is_turned, Note::Form(Form::FrontSwapped))
 }
 
-/// Appends the other formats that an image may have.
+/// Appends a note for each other format that `image` may have.
 #[tactic(auto, unfolding(crate::specs::Forms::form_notes))]
 pub fn push_forms(notes: &mut Vec<Note>, image: &[u8]) -> Result<(), AllocError>
     ensures more { OnOk result (notes.new.items ≡ notes.old.items ++ form_notes image.now) }
@@ -177,7 +184,7 @@ pub fn push_forms(notes: &mut Vec<Note>, image: &[u8]) -> Result<(), AllocError>
     Ok(())
 }
 
-// Returns the first matching format after the header of a .2mg file.
+// Returns the first format that matches the blocks after the header of a .2mg file.
 #[tactic(auto, unfolding(crate::specs::Forms::front_form))]
 fn front_form(image: &[u8]) -> Option<Form>
     requires room { 64 ≤ length image.now }
@@ -196,8 +203,8 @@ fn front_form(image: &[u8]) -> Option<Form>
     }
 }
 
-/// Returns the first other format in which an image has a directory header. It is the first format that `check` notes.
-/// Returns None if there is no such format. Blocks in order from the first byte are not another format.
+/// Returns the first other format in which `image` has a directory header, which is the first format that `check`
+/// notes. Returns `None` if no format matches. Blocks in order from the first byte are not another format.
 #[tactic(auto, unfolding(crate::specs::Forms::form_seen))]
 pub fn form_seen(image: &[u8]) -> Option<Form>
     ensures form { result ≡ form_seen image.now }

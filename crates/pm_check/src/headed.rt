@@ -1,5 +1,5 @@
-//! Files of kind .2mg. Their header states where the blocks begin, how many bytes they have and in which order they
-//! are.
+//! Files of kind .2mg. The header of such a file states where the blocks of the image begin, how many bytes they have,
+//! and their order.
 ghost use Rattle.std.specs.Prelude.{◌≡◌, ◌+◌, ◌≤◌, ◌<◌, IfOk, IfSome, length};
 ghost use Rattle.pm_bytes.specs.Words.{written};
 ghost use Rattle.pm_check.specs.Headed.{Lies, filed, fits, long_bytes, new_file, order_of, span_fitting, span_of};
@@ -10,27 +10,27 @@ use crate::order::Order;
 use pm_bytes::{BLOCK, set_bytes};
 use std::alloc::{AllocError, Global};
 
-/// The size of a header in bytes.
+/// The number of bytes of a header.
 const HEADER: usize = 64;
 
 /// The first bytes of a new header: the letters of the format, the letters of the program, the size of the header,
-/// version 1, blocks in order, and no flags.
+/// version 1, the number for blocks in order, and no flags.
 const FRONT: [u8; 20] = [
     50, 73, 77, 71, 80, 77, 67, 72, 64, 0, 1, 0, 1, 0, 0, 0, 0, 0, 0, 0,
 ];
 
-/// The position of the blocks, as a header states it.
+/// The position, size and order of the blocks, as a header states them.
 #[derive(Clone, Copy)]
 pub struct Span {
     /// The offset of the blocks in bytes.
     pub begin: usize,
     /// The number of bytes of the blocks.
     pub size: usize,
-    /// The order of the blocks.
+    /// The order in which the file has the blocks.
     pub order: Order,
 }
 
-/// Returns the order with this number.
+/// Returns the order for which a header has the number `number`.
 fn order_of(number: usize) -> Option<Order>
     ensures value { result ≡ order_of number }
 {
@@ -41,7 +41,8 @@ fn order_of(number: usize) -> Option<Order>
     }
 }
 
-/// Whether 32 bytes begin a header that fits a file of `count` bytes.
+/// Is true if `header` begins the header of a .2mg file, and the blocks that it describes are in a file of `count`
+/// bytes.
 #[tactic(auto, unfolding(crate::specs::Headed::fits))]
 fn fits(header: &[u8], count: usize) -> bool
     requires room { length header.now ≡ 32 }
@@ -52,7 +53,8 @@ fn fits(header: &[u8], count: usize) -> bool
     &header[..4] == b"2IMG".as_slice() && 52 <= begin && 0 < size && begin + size <= count
 }
 
-/// Returns the position of the blocks if these 32 bytes begin a header that fits a file of `count` bytes.
+/// Returns the position of the blocks that `header` states. Returns `None` if `header` does not fit a file of `count`
+/// bytes (`fits`), or has an unknown order.
 fn span_from(header: &[u8], count: usize) -> Option<Span>
     requires room { length header.now ≡ 32 }
     ensures value { result ≡ span_fitting header.now count }
@@ -68,7 +70,8 @@ fn span_from(header: &[u8], count: usize) -> Option<Span>
     })
 }
 
-/// Returns the position of the blocks if a file has a header that fits.
+/// Returns the position of the blocks that the header of `file` states, or `None` if `file` does not begin with a
+/// fitting header.
 #[tactic(auto, unfolding(crate::specs::Headed::span_of), using(crate::proofs::HeadedLaws::span_lies, crate::proofs::HeadedLaws::front_of_32))]
 fn span_of(file: &[u8]) -> Option<Span>
     ensures value { result ≡ span_of file.now }
@@ -80,8 +83,8 @@ fn span_of(file: &[u8]) -> Option<Span>
     span_from(&file[..32], file.len())
 }
 
-/// Returns the volume in a file of kind .2mg, with its blocks in order. The volume has no bytes if the file has no such
-/// header.
+/// Returns the image of the volume in the .2mg file `file`, with its blocks in order. Returns no bytes if `file` does
+/// not begin with a fitting header.
 ///
 /// # Errors
 ///
@@ -98,7 +101,7 @@ pub fn volume_in(alloc: Global, file: &[u8]) -> Result<Vec<u8>, AllocError>
     }
 }
 
-/// Returns the four bytes of a number, low byte first.
+/// Returns the low four bytes of `number`, low byte first.
 fn long_bytes(number: usize) -> [u8; 4]
     ensures bytes { result ≡ long_bytes number }
 {
@@ -110,7 +113,7 @@ fn long_bytes(number: usize) -> [u8; 4]
     ]
 }
 
-/// Creates a new file for a volume.
+/// Creates a new .2mg file that contains `volume`.
 #[tactic(auto, unfolding(crate::specs::Headed::new_file, crate::specs::Headed::plain_header))]
 fn new_file(alloc: Global, volume: &[u8]) -> Result<Vec<u8>, AllocError>
     ensures file { IfOk result (λ file. file.items ≡ new_file volume.now) }
@@ -125,7 +128,8 @@ fn new_file(alloc: Global, volume: &[u8]) -> Result<Vec<u8>, AllocError>
     Ok(file)
 }
 
-/// Returns a copy of a file with other blocks at offset `begin`. All other bytes are unchanged.
+/// Returns a copy of `file` in which the bytes from offset `begin` on are replaced by `blocks`. All other bytes are
+/// unchanged.
 fn exchanged(alloc: Global, file: &[u8], begin: usize, blocks: &[u8]) -> Result<Vec<u8>, AllocError>
     requires room { begin + length blocks.now ≤ length file.now }
     ensures file { IfOk result (λ made. made.items ≡ written file.now begin blocks.now) }
@@ -136,10 +140,11 @@ fn exchanged(alloc: Global, file: &[u8], begin: usize, blocks: &[u8]) -> Result<
     Ok(made)
 }
 
-/// Returns the file of kind .2mg for a volume that replaces the file `old`.
+/// Returns the .2mg file that contains `volume` and replaces the file `old`.
 ///
-/// If the blocks of `old` have as many bytes as `volume`, the header and all other bytes around them are unchanged.
-/// Otherwise the file gets a new header. The result contains `volume` if it has fewer than 4,294,967,296 bytes.
+/// If the blocks of `old` have as many bytes as `volume`, the header and all other bytes around the blocks are
+/// unchanged. Otherwise the file gets a new header. If `volume` has fewer than 4,294,967,296 bytes, `volume_in` returns
+/// it from the result.
 ///
 /// # Errors
 ///

@@ -1,7 +1,7 @@
 //! Checks of images of volumes.
 //!
-//! `check` reports what is wrong with an image, and in which other format it may be a volume. `salvage` copies the
-//! files of a damaged image to a new volume. It copies each file whose entry is valid by itself.
+//! `check` reports which rules an image breaks, and in which other format it may be a volume. `salvage` copies files of
+//! a damaged image to a new volume: each file whose entry is valid without regard to the other entries.
 #![tactic(auto)]
 
 mod believing;

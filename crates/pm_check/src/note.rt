@@ -1,4 +1,4 @@
-//! Facts about an image that break no rule, and their texts.
+//! Notes: facts about an image that break no rule, and their texts.
 ghost use Rattle.std.specs.Prelude.{Some};
 ghost use Rattle.pm_check.specs.NoteTexts.{form_text, note_text};
 
@@ -7,38 +7,40 @@ use std::fmt;
 /// A format of images whose blocks are not in order from the first byte.
 #[derive(Clone, Copy, Debug, PartialEq, Eq)]
 pub enum Form {
-    /// The sectors of a disk of 140 KB in DOS sector order.
+    /// A disk of 140 KB whose sectors are in DOS sector order.
     Dos,
-    /// The two bytes of each word exchanged.
+    /// Blocks in which the two bytes of each word are exchanged.
     Swapped,
     /// Blocks in order after the header of a .2mg file.
     FrontBlocks,
-    /// Sectors in DOS sector order after such a header.
+    /// Sectors in DOS sector order after the header of a .2mg file.
     FrontDos,
-    /// The two bytes of each word exchanged after such a header.
+    /// Blocks with the two bytes of each word exchanged, after the header of a .2mg file.
     FrontSwapped,
 }
 
-/// A fact that breaks no rule.
+/// A fact about an image that breaks no rule.
 #[derive(Clone, Copy)]
 pub enum Note {
     /// The image has a directory header in this format.
     Form(Form),
-    /// The name of the volume has a byte that a new name cannot have.
+    /// The volume's name has a byte that is not from 33 to 126.
     VolumeName,
-    /// The name in this slot has such a byte.
+    /// The name of the file in the slot with this number has a byte that is not from 33 to 126.
     Name(u16),
-    /// The file in the first slot has a block in common with the file in the second slot, which is before it.
+    /// The file in the slot with the first number has a block in common with the file in the slot with the second
+    /// number, which is before it.
     Shares(u16, u16),
-    /// The file in the first slot has the name of the file in the second slot, which is before it.
+    /// The file in the slot with the first number has the same name as the file in the slot with the second number,
+    /// which is before it.
     SameName(u16, u16),
     /// The second copy of the directory breaks no rule.
     SecondGood,
-    /// The second copy of the directory breaks a rule, or does not state that it is one.
+    /// The second copy of the directory breaks a rule, or does not state that files begin at block 10.
     SecondDamaged,
-    /// The headers of the two copies differ.
+    /// The headers of the two copies of the directory differ.
     HeadersDiffer,
-    /// This slot of the two copies differs.
+    /// The slot with this number differs in the two copies of the directory.
     SlotsDiffer(u16),
 }
 

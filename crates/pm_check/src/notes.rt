@@ -1,4 +1,4 @@
-//! Facts about an image that break no rule.
+//! Notes: facts about an image that break no rule of a volume.
 ghost use Rattle.std.specs.Prelude.{◌≡◌, ◌-◌, ◌≤◌, ◌++◌, IfOk, OnOk, length};
 ghost use Rattle.pm_volume.specs.Directory.{entry_in};
 ghost use Rattle.pm_volume.specs.declared.fields.TheConstants.{DIRECTORY_END, DIRECTORY_SIZE, MOST_FILES, SECOND_END};
@@ -18,7 +18,7 @@ use pm_volume::fields::{
 use pm_volume::{Entry, entry_at, is_same_name};
 use std::alloc::{AllocError, Global};
 
-// Whether each byte of a name is from 33 to 126.
+// Is true if each byte of `name` is from 33 to 126.
 #[tactic(auto, unfolding(crate::specs::Notes::is_plain))]
 fn is_plain(name: &[u8]) -> bool
     ensures value { result ≡ is_plain name.now }
@@ -26,7 +26,7 @@ fn is_plain(name: &[u8]) -> bool
     name.iter().all(|c| 33 <= *c && *c <= 126)
 }
 
-/// Returns the characters of the name of the volume, at most 7. `directory` has 2,048 bytes.
+/// Returns the characters of the volume's name in the header of `directory`, at most 7.
 #[tactic(auto, unfolding(crate::specs::Notes::header_name))]
 pub fn header_name(directory: &[u8]) -> &[u8]
     requires whole { length directory.now ≡ DIRECTORY_SIZE }
@@ -36,14 +36,14 @@ pub fn header_name(directory: &[u8]) -> &[u8]
     &directory[HEADER_NAME + 1..HEADER_NAME + 1 + length]
 }
 
-/// Whether two files have a block in common.
+/// Is true if the files of the entries `a` and `b` have a block in common.
 pub fn shares(a: &Entry, b: &Entry) -> bool
     ensures value { result ≡ shares a.now b.now }
 {
     a.first < a.end && b.first < b.end && a.first < b.end && b.first < a.end
 }
 
-// Appends the notes for what the files in slots `n` and `k` have in common.
+// Appends the notes for the files in slots `n` and `k` of `directory`: a common block, and equal names.
 #[tactic(auto, unfolding(crate::specs::Notes::pair_notes))]
 fn push_pair(notes: &mut Vec<Note>, directory: &[u8], n: u16, k: u16) -> Result<(), AllocError>
     requires whole { length directory.now ≡ DIRECTORY_SIZE }
@@ -59,7 +59,7 @@ fn push_pair(notes: &mut Vec<Note>, directory: &[u8], n: u16, k: u16) -> Result<
     push_note(notes, has_name, Note::SameName(n, k))
 }
 
-// Appends the notes for what the file in slot `n` has in common with the files before it.
+// Appends the notes for the file in slot `n` and each file in a slot before `n`: common blocks, and equal names.
 fn push_pairs(notes: &mut Vec<Note>, directory: &[u8], n: u16) -> Result<(), AllocError>
     requires whole { length directory.now ≡ DIRECTORY_SIZE }
     requires from { 1 ≤ n }
@@ -72,7 +72,7 @@ fn push_pairs(notes: &mut Vec<Note>, directory: &[u8], n: u16) -> Result<(), All
     Ok(())
 }
 
-// Appends the notes for the file in slot `n`.
+// Appends the notes for the file in slot `n` of `directory`.
 #[tactic(auto, unfolding(crate::specs::Notes::slot_notes))]
 fn push_slot(notes: &mut Vec<Note>, directory: &[u8], n: u16) -> Result<(), AllocError>
     requires whole { length directory.now ≡ DIRECTORY_SIZE }
@@ -85,7 +85,7 @@ fn push_slot(notes: &mut Vec<Note>, directory: &[u8], n: u16) -> Result<(), Allo
     push_pairs(notes, directory, n)
 }
 
-// Appends the notes for the files.
+// Appends the notes for all files of `directory`.
 fn push_slots(notes: &mut Vec<Note>, directory: &[u8]) -> Result<(), AllocError>
     requires whole { length directory.now ≡ DIRECTORY_SIZE }
     ensures more { OnOk result
@@ -98,7 +98,7 @@ fn push_slots(notes: &mut Vec<Note>, directory: &[u8]) -> Result<(), AllocError>
     Ok(())
 }
 
-// Appends the notes for a directory.
+// Appends the notes for `directory`: its volume name and its files.
 #[tactic(auto, unfolding(crate::specs::Notes::directory_notes))]
 fn push_directory_notes(notes: &mut Vec<Note>, directory: &[u8]) -> Result<(), AllocError>
     requires whole { length directory.now ≡ DIRECTORY_SIZE }
@@ -108,7 +108,7 @@ fn push_directory_notes(notes: &mut Vec<Note>, directory: &[u8]) -> Result<(), A
     push_slots(notes, directory)
 }
 
-// Whether slot `n` differs in two directories.
+// Is true if slot `n` has different bytes in `directory` and in `other`.
 #[tactic(auto, unfolding(crate::specs::Notes::differs))]
 fn differs(directory: &[u8], other: &[u8], n: u16) -> bool
     requires whole { length directory.now ≡ DIRECTORY_SIZE }
@@ -120,7 +120,7 @@ fn differs(directory: &[u8], other: &[u8], n: u16) -> bool
     directory[at..at + SLOT] != other[at..at + SLOT]
 }
 
-// Returns the note for slot `n` if it differs.
+// Returns the note which states that slot `n` differs in the two copies of the directory. Slot 0 is the header.
 fn differing(n: u16) -> Note
     ensures note { result ≡ differing n }
 {
@@ -131,7 +131,7 @@ fn differing(n: u16) -> Note
     }
 }
 
-// Appends the notes for the slots that differ.
+// Appends a note for each slot in which `directory` and `other` differ.
 fn push_differing(notes: &mut Vec<Note>, directory: &[u8], other: &[u8]) -> Result<(), AllocError>
     requires whole { length directory.now ≡ DIRECTORY_SIZE }
     requires other_whole { length other.now ≡ DIRECTORY_SIZE }
@@ -144,7 +144,7 @@ fn push_differing(notes: &mut Vec<Note>, directory: &[u8], other: &[u8]) -> Resu
     Ok(())
 }
 
-// Returns the note for the state of a second copy.
+// Returns the note for a second copy that is good if `is_good` is true, and damaged otherwise.
 fn copy_note(is_good: bool) -> Note
     ensures note { result ≡ copy_note is_good }
 {
@@ -155,8 +155,8 @@ fn copy_note(is_good: bool) -> Note
     }
 }
 
-// Appends the note for the state of a second copy and the notes for the slots that differ. Appends nothing if no second
-// copy exists.
+// Appends the note for the state of the second copy `second`, and a note for each slot in which it differs from
+// `directory`. Appends nothing if `directory` does not state that a second copy exists and `is_good` is false.
 #[tactic(auto, unfolding(crate::specs::Notes::second_notes))]
 fn push_second(
     notes: &mut Vec<Note>,
@@ -175,7 +175,8 @@ fn push_second(
     push_differing(notes, directory, second)
 }
 
-// Whether a second copy breaks no rule in an image of `blocks` blocks and states that it is one.
+// Is true if `second` breaks no rule as the directory of an image of `blocks` blocks, and states that files begin at
+// block 10, as a volume with a second copy does.
 #[tactic(auto, unfolding(crate::specs::Notes::is_good_second))]
 fn is_good_second(alloc: Global, second: &[u8], blocks: usize) -> Result<bool, AllocError>
     requires whole { length second.now ≡ DIRECTORY_SIZE }
@@ -186,7 +187,7 @@ fn is_good_second(alloc: Global, second: &[u8], blocks: usize) -> Result<bool, A
     Ok(word(second, HEADER_FILES_BEGIN) == PAST_SECOND && found.len() == 0)
 }
 
-// Appends the notes for the second copy of an image.
+// Appends the notes for the second copy of the directory of `image`, if `image` is long enough to have one.
 #[tactic(auto, unfolding(crate::specs::Notes::copies_notes))]
 fn push_copies(alloc: Global, notes: &mut Vec<Note>, image: &[u8]) -> Result<(), AllocError>
     requires long { DIRECTORY_END ≤ length image.now }
@@ -200,10 +201,10 @@ fn push_copies(alloc: Global, notes: &mut Vec<Note>, image: &[u8]) -> Result<(),
     push_second(notes, &image[DIRECTORY..DIRECTORY_END], second, is_good)
 }
 
-/// Returns the facts about an image that break no rule.
+/// Returns the notes for `image`: facts that break no rule.
 ///
-/// They are its other formats and, if the image has a directory, notes on the names and blocks of files and on the
-/// second copy.
+/// The notes state in which other formats `image` has a directory header. If `image` has a directory, they also state
+/// facts about the names and blocks of files and about the second copy.
 #[tactic(auto, unfolding(crate::specs::Notes::image_notes))]
 pub fn image_notes(alloc: Global, image: &[u8]) -> Result<Vec<Note>, AllocError>
     ensures notes { IfOk result (λ notes. notes.items ≡ image_notes image.now) }

@@ -1,27 +1,28 @@
-//! The orders of the bytes of an image.
+//! The orders in which a file can have the bytes of an image. A conversion changes one order to blocks in order, or
+//! back.
 ghost use Rattle.std.specs.Prelude.{◌≡◌, ◌<◌, IfOk, length};
 ghost use Rattle.pm_check.specs.Orders.{other_sector, place_in, turned};
 
 use std::alloc::{AllocError, Global};
 
-/// The size of a sector in bytes.
+/// The number of bytes of a sector.
 const SECTOR: usize = 256;
 
-/// The size of a track of sixteen sectors in bytes.
+/// The number of bytes of a track, which has sixteen sectors.
 const TRACK: usize = 4096;
 
-/// The order of the bytes of an image in its file. Each order is its own inverse.
+/// The order in which a file has the bytes of an image. Each conversion is its own inverse.
 #[derive(Clone, Copy)]
 pub enum Order {
-    /// Blocks in order.
+    /// The blocks are in order.
     Blocks,
-    /// The sectors of each track in the order of DOS 3.3. Bytes after the last whole track are unchanged.
+    /// The sectors of each track are in the order of DOS 3.3. Bytes after the last whole track are unchanged.
     Dos,
-    /// The two bytes of each word exchanged. A single last byte is unchanged.
+    /// The two bytes of each word are exchanged. A single last byte is unchanged.
     Swapped,
 }
 
-/// Returns the sector of a track that is exchanged with this one.
+/// Returns the sector with which sector `sector` of a track is exchanged.
 #[tactic(auto, unfolding(crate::specs::Orders::other_sector))]
 fn other_sector(sector: usize) -> usize
     requires inside { sector < 16 }
@@ -35,8 +36,8 @@ fn other_sector(sector: usize) -> usize
     }
 }
 
-/// Returns the offset before the conversion of the byte at offset `place`, if sectors are exchanged in an image of
-/// `size` bytes.
+/// Returns the offset that the byte at offset `place` of the converted image had before the conversion. The sectors of
+/// each track of the image, which has `size` bytes, are exchanged.
 fn place_in_sectors(size: usize, place: usize) -> usize
     requires inside { place < size }
     ensures value { result ≡ place_in Order.Dos size place }
@@ -49,8 +50,8 @@ fn place_in_sectors(size: usize, place: usize) -> usize
     }
 }
 
-/// Returns the offset before the conversion of the byte at offset `place`, if the bytes of words are exchanged in an
-/// image of `size` bytes.
+/// Returns the offset that the byte at offset `place` of the converted image had before the conversion. The bytes of
+/// each word of the image, which has `size` bytes, are exchanged.
 fn place_in_words(size: usize, place: usize) -> usize
     requires inside { place < size }
     ensures value { result ≡ place_in Order.Swapped size place }
@@ -64,7 +65,8 @@ fn place_in_words(size: usize, place: usize) -> usize
 }
 
 impl Order {
-    /// Returns the offset before the conversion of the byte at offset `place` of a converted image of `size` bytes.
+    /// Returns the offset that the byte at offset `place` of the converted image had before the conversion. The image
+    /// has `size` bytes.
     fn place_in(self, size: usize, place: usize) -> usize
         requires inside { place < size }
         ensures value { result ≡ place_in self size place }
@@ -77,11 +79,11 @@ impl Order {
         }
     }
 
-    /// Converts an image in this order to blocks in order, or blocks in order to this order.
+    /// Converts `image` from this order to blocks in order, or from blocks in order to this order.
     ///
     /// # Errors
     ///
-    /// `AllocError`: memory was refused.
+    /// `AllocError`: the host has no memory for the converted image.
     #[tactic(auto, unfolding(crate::specs::Orders::turned), using(crate::proofs::OrderLaws::front_none, crate::proofs::OrderLaws::front_more))]
     pub fn turned(self, alloc: Global, image: &[u8]) -> Result<Vec<u8>, AllocError>
         ensures image { IfOk result (λ made. made.items ≡ turned self image.now) }

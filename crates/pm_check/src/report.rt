@@ -1,4 +1,4 @@
-//! The lines of a salvage.
+//! The lines of the report of a salvage. A file is suspect if its contents may be wrong. `Doubt` has the reasons.
 ghost use Rattle.std.specs.Prelude.{◌≡◌, ◌≤◌, ◌++◌, OnOk, Some, string_bytes};
 ghost use Rattle.std.specs.List.{flat_map};
 ghost use Rattle.pm_check.specs.Report.{counted, doubt_of, doubt_text, last_line, left_line, taken_line};
@@ -12,9 +12,9 @@ use std::fmt;
 pub enum Doubt {
     /// The file is not suspect.
     Sure,
-    /// The file has a block in common with the file in this slot.
+    /// The file has a block in common with the file in the slot with this number.
     Shares(u16),
-    /// The slot is after the number of files that the header states.
+    /// The number of the slot is greater than the number of files that the header states.
     Behind,
 }
 
@@ -30,8 +30,8 @@ impl fmt::Display for Doubt {
     }
 }
 
-/// Returns the reason why the file in slot `slot` is suspect. The header states `count` files, and `other` is a file
-/// with a block in common.
+/// Returns the reason why the file in slot `slot` is suspect. `count` is the number of files that the header states,
+/// and `other` is a file with a block in common, if one exists.
 pub fn doubt_of(count: u16, slot: u16, other: Option<Taken>) -> Doubt
     ensures doubt { result ≡ doubt_of count slot other }
 {
@@ -42,7 +42,7 @@ pub fn doubt_of(count: u16, slot: u16, other: Option<Taken>) -> Doubt
     }
 }
 
-/// Returns the number of suspect files after one more file.
+/// Returns the number of suspect files: `doubted`, plus 1 if `doubt` is a reason why another file is suspect.
 pub fn counted(doubted: usize, doubt: Doubt) -> usize
     requires few { doubted ≤ 77 }
     ensures count { result ≡ counted doubted doubt }
@@ -53,7 +53,7 @@ pub fn counted(doubted: usize, doubt: Doubt) -> usize
     }
 }
 
-// Appends the line of an entry that is left out.
+// Appends the line of the invalid entry `left` to `text`.
 #[tactic(auto, unfolding(crate::specs::Report::left_line))]
 fn push_left(text: &mut String, left: Left) -> Result<(), AllocError>
     ensures text { OnOk result (string_bytes text.new ≡ string_bytes text.old ++ left_line left) }
@@ -63,7 +63,7 @@ fn push_left(text: &mut String, left: Left) -> Result<(), AllocError>
     Ok(())
 }
 
-/// Appends the lines of the entries that are left out.
+/// Appends the lines of the invalid entries `all` to `text`.
 pub fn push_all_left(text: &mut String, all: &[Left]) -> Result<(), AllocError>
     ensures text { OnOk result (string_bytes text.new ≡ string_bytes text.old ++ flat_map left_line all.now) }
 {
@@ -73,7 +73,7 @@ pub fn push_all_left(text: &mut String, all: &[Left]) -> Result<(), AllocError>
     Ok(())
 }
 
-/// Appends the line of a file that is copied as `name`.
+/// Appends the line of the file in slot `slot`, which is copied under the name `name`.
 #[tactic(auto, unfolding(crate::specs::Report::taken_line))]
 pub fn push_taken(text: &mut String, slot: u16, name: &str, doubt: Doubt) -> Result<(), AllocError>
     ensures text { OnOk result (string_bytes text.new ≡ string_bytes text.old ++ taken_line slot name.now doubt) }
@@ -82,7 +82,7 @@ pub fn push_taken(text: &mut String, slot: u16, name: &str, doubt: Doubt) -> Res
     Ok(())
 }
 
-/// Appends the last line, with the numbers of files copied, of entries left out and of suspect files.
+/// Appends the last line, with the number of copied files, of invalid entries and of suspect files.
 #[tactic(auto, unfolding(crate::specs::Report::last_line))]
 pub fn push_last(
     text: &mut String,

@@ -1,4 +1,5 @@
-//! The rules of a volume that an image breaks. Each rule is checked by itself.
+//! The rules of a volume that an image breaks. Each rule is checked without regard to the others. A finding is a broken
+//! rule.
 ghost use Rattle.std.specs.Prelude.{◌≡◌, ◌≤◌, ◌++◌, IfOk, OnOk, length};
 ghost use Rattle.pm_volume.specs.declared.fields.TheConstants.{DIRECTORY_SIZE, MOST_FILES};
 ghost use Rattle.pm_check.specs.Rules.{directory_findings, findings_from, found_if, has_wrong_last, header_findings};
@@ -13,7 +14,7 @@ use pm_volume::fields::{
 use pm_volume::{Entry, entry_at};
 use std::alloc::{AllocError, Global};
 
-// Appends `finding` if `is_broken` is true.
+// Appends `finding` to `found` if `is_broken` is true.
 fn push_if(found: &mut Vec<Finding>, is_broken: bool, finding: Finding) -> Result<(), AllocError>
     ensures more { OnOk result (found.new.items ≡ found.old.items ++ found_if is_broken finding) }
 {
@@ -23,7 +24,7 @@ fn push_if(found: &mut Vec<Finding>, is_broken: bool, finding: Finding) -> Resul
     Ok(())
 }
 
-// Appends the finding for slot `slot` if `is_broken` is true.
+// Appends the finding `finding` for slot `slot` to `found` if `is_broken` is true.
 fn push_of(
     found: &mut Vec<Finding>,
     slot: u16,
@@ -36,7 +37,7 @@ fn push_of(
     push_if(found, is_broken, Finding::Slot(slot, finding))
 }
 
-// Appends the findings for the header.
+// Appends the findings for the header of `directory`, in an image of `blocks` blocks.
 #[tactic(auto, unfolding(crate::specs::Rules::header_findings))]
 fn push_header(found: &mut Vec<Finding>, directory: &[u8], blocks: usize) -> Result<(), AllocError>
     requires whole { length directory.now ≡ DIRECTORY_SIZE }
@@ -61,23 +62,22 @@ fn push_header(found: &mut Vec<Finding>, directory: &[u8], blocks: usize) -> Res
     push_if(found, MOST_FILES < files, Finding::ManyFiles(files))
 }
 
-/// Whether the last block of an entry has a wrong number of bytes. The number is from 1 to 512 if the file has blocks.
-/// Otherwise any number is correct.
+/// Is true if the file of `entry` has blocks, and the number of bytes in its last block is not from 1 to 512.
 pub fn has_wrong_last(entry: &Entry) -> bool
     ensures value { result ≡ has_wrong_last entry.now }
 {
     entry.first < entry.end && (entry.last_bytes < 1 || 512 < entry.last_bytes)
 }
 
-// Whether the entry in slot `n` begins before the end of the entry in the slot before. The entry in slot 1 has none
-// before it.
+// Is true if the entry in slot `n`, which begins at block `first`, begins before block `before`, the end of the entry
+// in the slot before. Is false for slot 1.
 fn is_out_of_order(n: u16, first: u16, before: u16) -> bool
     ensures value { result ≡ is_out_of_order n first before }
 {
     1 < n && first < before
 }
 
-// Appends the findings for the entry in slot `n`.
+// Appends the findings for the entry in slot `n` of `directory`.
 #[tactic(auto, unfolding(crate::specs::Rules::slot_findings))]
 fn push_slot(found: &mut Vec<Finding>, directory: &[u8], n: u16) -> Result<(), AllocError>
     requires whole { length directory.now ≡ DIRECTORY_SIZE }
@@ -111,7 +111,7 @@ fn push_slot(found: &mut Vec<Finding>, directory: &[u8], n: u16) -> Result<(), A
     push_of(found, n, is_out_of_order(n, first, before), order)
 }
 
-// Appends the findings for the entries.
+// Appends the findings for the entries of `directory`.
 fn push_slots(found: &mut Vec<Finding>, directory: &[u8]) -> Result<(), AllocError>
     requires whole { length directory.now ≡ DIRECTORY_SIZE }
     ensures more { OnOk result
@@ -124,7 +124,7 @@ fn push_slots(found: &mut Vec<Finding>, directory: &[u8]) -> Result<(), AllocErr
     Ok(())
 }
 
-/// Appends the findings for a directory of 2,048 bytes in an image of `blocks` blocks.
+/// Appends the findings for `directory`, in an image of `blocks` blocks.
 #[tactic(auto, unfolding(crate::specs::Rules::directory_findings))]
 pub fn push_directory(
     found: &mut Vec<Finding>,
@@ -138,7 +138,7 @@ pub fn push_directory(
     push_slots(found, directory)
 }
 
-/// Returns the rules that an image breaks: those of its length, and those of the directory if it has one.
+/// Returns the rules that `image` breaks: the rules of its length, and the rules of its directory if it has one.
 #[tactic(auto, unfolding(crate::specs::Rules::image_findings))]
 pub fn image_findings(alloc: Global, image: &[u8]) -> Result<Vec<Finding>, AllocError>
     ensures findings { IfOk result (λ found. found.items ≡ image_findings image.now) }

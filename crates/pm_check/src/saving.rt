@@ -1,4 +1,4 @@
-//! The volume that is salvaged from an image.
+//! Salvage: a new volume with the files of a damaged image.
 ghost use Rattle.std.specs.List.Sorted.{IsPermutation};
 ghost use Rattle.std.specs.Prelude.{◌≡◌, ◌≢◌, ◌∷◌, ◌++◌, ◌≤◌, Ok, Err, IfOk, IfErr, OnOk, length, string_bytes};
 ghost use Rattle.pm_volume.specs.declared.fault.VolumeFault.{VolumeFault};
@@ -23,16 +23,16 @@ use pm_volume::fields::{
 use pm_volume::{Entry, Volume, VolumeFault};
 use std::alloc::Global;
 
-/// The result of a salvage.
+/// The result of a salvage: a new volume, and a report.
 #[derive(Drop)]
 pub struct Salvaged {
     /// The image of the new volume.
     pub image: Vec<u8>,
-    /// A line for each entry, and a last line.
+    /// The report: a line for each entry that is copied or left out, and a last line.
     pub text: String,
 }
 
-// Returns the bytes of a file of an image, or no bytes if they are not in the image.
+// Returns the bytes of the file of `entry` in `image`. Returns no bytes if they are not all in `image`.
 #[tactic(auto, unfolding(crate::specs::Saving::bytes_of, pm_volume::specs::Files::file_bytes))]
 fn bytes_of<'a>(image: &'a [u8], entry: &Entry) -> &'a [u8]
     ensures bytes { result.now ≡ bytes_of image.now entry.now }
@@ -45,7 +45,7 @@ fn bytes_of<'a>(image: &'a [u8], entry: &Entry) -> &'a [u8]
     image.get(begin..end).unwrap_or(&[])
 }
 
-// Adds the file of an entry to a volume, and its line to the text.
+// Adds the file of `file`, from `image`, to `volume`, and its line to `text`. `doubt` states why the file is suspect.
 #[tactic(auto, unfolding(crate::specs::Saving::saved_one))]
 fn save(
     alloc: Global,
@@ -79,7 +79,8 @@ fn save(
     }
 }
 
-// Adds the files and their lines. Returns the number of suspect files.
+// Adds all files of `taken` to `volume`, and their lines to `text`. `count` is the number of files that the header
+// states. Returns the number of suspect files.
 fn save_all(
     alloc: Global,
     image: &[u8],
@@ -107,7 +108,8 @@ fn save_all(
     Ok(doubted)
 }
 
-// Returns the number of blocks of the new volume: `blocks`, or more if these files need more, but at most 65,535.
+// Returns the number of blocks of the new volume: `blocks`, or more if the files of `taken` need more, but at most
+// 65,535.
 #[tactic(auto, unfolding(crate::specs::Saving::room_for))]
 fn room_for(blocks: u16, taken: &[Taken]) -> u16
     requires few { length taken.now ≤ 77 }
@@ -121,7 +123,8 @@ fn room_for(blocks: u16, taken: &[Taken]) -> u16
     room as u16
 }
 
-// Salvages these entries of an image.
+// Creates a volume with the name `name` and the files of the entries `taken` of `image`, and the report of the salvage.
+// `count` is the number of files that the header states.
 #[tactic(auto, unfolding(crate::specs::Saving::saved, crate::specs::Contents::HasFilesOf))]
 fn save_entries(
     alloc: Global,
@@ -152,7 +155,8 @@ fn save_entries(
     Ok(Salvaged { image, text })
 }
 
-// Salvages an image of `blocks` blocks by one of its directories. Its files begin at block `lowest` or later.
+// Salvages `image`, which has `blocks` blocks, with the directory `directory`. An entry is invalid if it begins before
+// block `lowest`.
 #[tactic(auto, unfolding(crate::specs::Saving::saved_by))]
 fn save_by(
     alloc: Global,
@@ -178,22 +182,23 @@ fn save_by(
     save_entries(alloc, image, name.as_str(), blocks, count, &taken, &left)
 }
 
-// Returns the number of whole blocks of an image, at most 65,535.
+// Returns the number of whole blocks of `image`, at most 65,535.
 fn image_blocks(image: &[u8]) -> u16
     ensures blocks { result ≡ image_blocks image.now }
 {
     (image.len() / BLOCK).min(65535) as u16
 }
 
-/// Returns a new volume with the files of an image whose directory entries are valid by themselves, and a report.
+/// Returns a new volume and a report. The volume has each file of `image` whose directory entry is valid without regard
+/// to the other entries.
 ///
-/// The image may have any bytes. `second` selects the second copy of the directory instead of the first. The report has
-/// a line for each entry, and a last line.
+/// The image may have any bytes. If `second` is true, the second copy of the directory is used instead of the first.
+/// The report has a line for each entry that is copied or left out, and a last line.
 ///
 /// # Errors
 ///
 /// Checked in this order:
-/// - `TooShort`: the image is too short to have that copy of the directory.
+/// - `TooShort`: `image` is too short to have the selected copy of the directory.
 /// - The faults of `Volume::blank` and `Volume::add`: `NoRoom` if the files need more than 65,535 blocks, and
 ///   `NoMemory`.
 #[tactic(auto, unfolding(crate::specs::Saving::salvaged, crate::specs::Contents::believed_of))]

@@ -1,4 +1,4 @@
--- The changes of a volume as functions of its image.
+-- Each change of a volume, stated as a function of its image (for commands).
 use Rattle.std.proofs.Common.{◌≡◌, ℕ, List, length, Ok, Err, None, true, false, refl}
 use Rattle.pm_volume.specs.Changes.{AddsFile, RemovesFile, RenamesFile, SetsKind, blocks_for, place_for, slot_named, slot_numbered}
 use Rattle.pm_volume.specs.Changes.{slot_to_rename}

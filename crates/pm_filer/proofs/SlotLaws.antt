@@ -1,4 +1,4 @@
--- The file in a slot of the directory.
+-- Laws of the file in a slot of the directory.
 use Rattle.std.proofs.Common.{◌≡◌, ◌<◌, ◌≤◌, ℕ, zero, suc, ◌+◌, List, [], ◌∷◌, ◌++◌, length, Option, Some, None, option_map, refl, sym, ◌∙◌, arith}
 use Rattle.std.specs.Prelude.{slice_get}
 use Rattle.pm_volume.specs.Files.{files_of}
@@ -10,7 +10,7 @@ same_option : (r : Option Entry) → option_map (λ e. e) r ≡ r
 same_option (Some e) = refl
 same_option None = refl
 
--- the file at index `place` of the list of files is in slot `place + 1`
+-- If a file has index `place` in the list of files, then it is in slot `place + 1`.
 pub slot_at : (image : List ℕ) (slot place : ℕ) (r : Option Entry) → slot ≡ place + 1
     → option_map (λ e. e) r ≡ slice_get (files_of image) place → r ≡ file_in_slot image slot
 slot_at image zero place r is at = absurd (omega (arith, is))
@@ -18,7 +18,7 @@ slot_at image (suc before) place r is at =
     let same : before ≡ place = omega (arith, is) in
     rw same (sym (same_option r) ∙ at)
 
--- the file at an index of the list of files
+-- If `n` equals `place`, then the file with index `n` is the file with index `place`.
 pub file_at : (image : List ℕ) (place n : ℕ) (r : Option Entry) → n ≡ place → option_map (λ e. e) r ≡ slice_get (files_of image) n
     → r ≡ slice_get (files_of image) place
 file_at image place n r same at = rw (← same) (sym (same_option r) ∙ at)

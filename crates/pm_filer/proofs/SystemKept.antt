@@ -1,4 +1,4 @@
--- The other files are unchanged if a file is replaced.
+-- If a file is replaced, then all other files are unchanged.
 use Rattle.std.proofs.Common.{◌∙◌, ◌-◌, ℕ, suc, List, Result, Ok, Err, subst, IfSome}
 use Rattle.std.specs.Prelude.{OnOk}
 use Rattle.std.proofs.lemmas.List.Elements.{All-append, All-drop, All-take}
@@ -27,7 +27,7 @@ stay_beside old mid new name removed first second =
     (All-remove (FileStays old mid) (files_of old) (removed.slot - 1) first)
     (subst (λ files. All (FileStays mid new) files) removed.files second))
 
--- what follows if a result is Ok
+-- If `A` implies `B`, and `A` holds if the result is `Ok`, then `B` holds if the result is `Ok`.
 pub where_ok : {X Y : Type 0} {A B : Type 0} (r : Result X Y) → (A → B) → OnOk r A → OnOk r B
 where_ok (Ok x) f a = f a
 where_ok (Err e) f a = tt

@@ -1,4 +1,4 @@
--- The changes of a volume as functions of its image.
+-- Each change of a volume, stated as a function of its image (for the system segment).
 use Rattle.std.proofs.Common.{◌≡◌, ℕ, List, length, Ok, Err, None, refl}
 use Rattle.pm_volume.specs.Changes.{AddsFile, RemovesFile, blocks_for, place_for, slot_named}
 use Rattle.pm_volume.specs.Directory.{directory_of}

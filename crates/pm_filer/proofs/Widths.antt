@@ -1,4 +1,4 @@
--- Numbers in columns.
+-- Laws of numbers that are printed in columns.
 use Rattle.std.proofs.Common.{◌≡◌, ℕ, zero, suc, ◌-◌, ◌^◌, List, [], ◌∷◌, ◌++◌, false, length, replicate, refl, ap, arith, append-nil}
 use Rattle.std.specs.List.{repeat}
 use Rattle.std.specs.Fmt.{decimal, padded_integral, format_spec, char_count}
@@ -19,7 +19,7 @@ filled padding width numeral e =
     let none : padding - padding ≡ 0 = omega arith in
     rw (none, append-nil, repeat_space, e) refl
 
--- the text that `{n:2}`, `{n:3}`, `{n:4}` and `{n:5}` write
+-- The formats `{n:2}`, `{n:3}`, `{n:4}` and `{n:5}` print a number right-aligned in that many characters.
 pub right_in_two : (n : ℕ) → padded_integral (format_spec 32 0 0 2 (2 ^ 64 - 1)) false [] (decimal n) ≡ at_right 2 n
 unfolding padded_integral at_right spaces char_count
 right_in_two n = simp append-nil (filled (2 - length (decimal n) - 0 - 0) (2 - length (decimal n)) (decimal n) (omega arith))
@@ -36,7 +36,7 @@ pub right_in_five : (n : ℕ) → padded_integral (format_spec 32 0 0 5 (2 ^ 64 
 unfolding padded_integral at_right spaces char_count
 right_in_five n = simp append-nil (filled (5 - length (decimal n) - 0 - 0) (5 - length (decimal n)) (decimal n) (omega arith))
 
--- the text that `{n:02}` and `{n:03}` write
+-- The formats `{n:02}` and `{n:03}` print a number with at least that many digits.
 pub padded_two : (n : ℕ) → padded_integral (format_spec 32 0 4 2 (2 ^ 64 - 1)) false [] (decimal n) ≡ padded 2 n
 unfolding padded_integral padded char_count
 padded_two n = simp append-nil (ap (λ k. replicate k 48 ++ decimal n) (omega arith))

@@ -1,4 +1,4 @@
--- The volume after a command, and the reply.
+-- The image of a volume after a command, and the reply.
 use Rattle.std.specs.Prelude.{◌≡◌, ℕ, List, Option, Some, None, Result, Ok, Err, IsOk, ⊤, string_bytes, nat_lt, length}
 use Rattle.std.specs.Prelude.{if◌then◌else◌, zero, suc, slice_get}
 use Rattle.pm_volume.specs.Dates.{date_word, is_date}
@@ -33,14 +33,14 @@ filer_number (faults.Text fault) = 2
 filer_number faults.BadDate = 3
 filer_number faults.NoMemory = 4
 
--- the fault for a fault of a text; `NoMemory` is a fault of the filer
+-- The fault of a command for the fault of a text. `NoMemory` of a text becomes `NoMemory` of the command.
 abbrev pub of_text : TextFault → FilerFault
 of_text NoHeader = faults.Text NoHeader
 of_text text.NoMemory = faults.NoMemory
 of_text (text.LineTooLong line) = faults.Text (text.LineTooLong line)
 of_text (text.BadByte place) = faults.Text (text.BadByte place)
 
--- a command, with its numbers and bytes
+-- A command as contracts describe it, with numbers and lists of bytes.
 pub data Order : Type 0 where
   ListFiles : Order
   Get : List ℕ → Order
@@ -91,7 +91,7 @@ order_of commands.ListAll = ListAll
 order_of (commands.ListFitting pattern) = ListFitting (string_bytes pattern)
 order_of (commands.RemoveFitting pattern) = RemoveFitting (string_bytes pattern)
 
--- the reply to a command, as bytes
+-- The reply to a command as contracts describe it, with lists of bytes.
 pub data Answer : Type 0 where
   Lines : List ℕ → Answer
   Bytes : List ℕ → Answer
@@ -102,12 +102,13 @@ answer_of (replies.Lines text) = Lines (string_bytes text)
 answer_of (replies.Bytes bytes) = Bytes bytes.items
 answer_of replies.Done = Done
 
--- the image after a command, and the reply
+-- The image after a command, and the reply.
 pub record Filed : Type 0 where
   pub image : List ℕ
   pub answer : Answer
 
--- the result of a call that does not change the volume; memory may be refused only if nothing else is wrong
+-- The result of a call that does not change the volume `image` is the defined result `read`. If the call returns
+-- `NoMemory`, then `read` is not a fault.
 abbrev pub Looks : List ℕ → Result Reply FilerFault → Result Filed FilerFault → Type 0
 Looks image (Ok reply) read = read ≡ Ok (record { image = image; answer = answer_of reply })
 Looks image (Err faults.NoMemory) read = IsOk read
@@ -115,12 +116,12 @@ Looks image (Err (faults.Volume fault)) read = read ≡ Err (faults.Volume fault
 Looks image (Err (faults.Text fault)) read = read ≡ Err (faults.Text fault)
 Looks image (Err faults.BadDate) read = read ≡ Err faults.BadDate
 
--- a change that the volume accepts or refuses
+-- The result of a command that changes the volume: the new image, or the fault of the volume.
 abbrev pub changed : Result (List ℕ) VolumeFault → Result Filed FilerFault
 changed (Ok image) = Ok (record { image = image; answer = Done })
 changed (Err fault) = Err (faults.Volume fault)
 
--- the bytes of a file, if there is one
+-- The result of a command that reads the bytes of a file: these bytes, or `NoFile` if they do not exist.
 abbrev pub lent : List ℕ → Option (List ℕ) → Result Filed FilerFault
 lent image (Some bytes) = Ok (record { image = image; answer = Bytes bytes })
 lent image None = Err (faults.Volume NoFile)
@@ -129,40 +130,43 @@ abbrev pub bytes_of_file : List ℕ → Option Entry → Option (List ℕ)
 bytes_of_file image None = None
 bytes_of_file image (Some entry) = file_bytes image entry
 
--- the file in a slot of the directory; slots count from 1, and slot 0 has no file
+-- The entry of the file in a directory slot. Slots are numbered from 1; slot 0 has no file.
 abbrev pub file_in_slot : List ℕ → ℕ → Option Entry
 file_in_slot image zero = None
 file_in_slot image (suc before) = slice_get (files_of image) before
 
--- the text of a text file, if there is one
+-- The result of a command that reads a text file with the given bytes: its text, or a fault if it has no header or does
+-- not exist.
 abbrev pub text_read : List ℕ → Option (List ℕ) → Result Filed FilerFault
 text_read image (Some bytes) =
     if nat_lt (length bytes) 1024 then Err (faults.Text NoHeader)
     else Ok (record { image = image; answer = Bytes (text_of_file bytes) })
 text_read image None = Err (faults.Volume NoFile)
 
--- a text added as a text file, or the fault of the text; the fault of the text comes before a fault of the volume
+-- The result of a command that adds `text` as a text file: the new image, or a fault. A fault of the text comes before
+-- a fault of the volume.
 abbrev pub text_written : List ℕ → List ℕ → List ℕ → Option TextFault → Result Filed FilerFault
 text_written image name text None = changed (added image name TEXT (text_file text) (last_date_of (directory_of image)))
 text_written image name text (Some fault) = Err (faults.Text fault)
 
--- an image with a copy of the file of an entry, under this name, with the kind and the date of the entry, if its bytes
--- exist
+-- The image with a copy of the file of the entry `e` under the name `name`, with its kind and date. The last argument
+-- has the bytes of this file. Without them, the fault is `NoFile`.
 abbrev pub copied_bytes : List ℕ → List ℕ → Entry → Option (List ℕ) → Result (List ℕ) VolumeFault
 copied_bytes image name e (Some bytes) = added image name e.kind bytes e.date
 copied_bytes image name e None = Err NoFile
 
--- an image with a copy of a file of another image, if there is one
+-- The image with a copy of the given file of the image `from`, under the name `name`. If the file does not exist, the
+-- fault is `NoFile`.
 abbrev pub copied : List ℕ → List ℕ → List ℕ → Option Entry → Result (List ℕ) VolumeFault
 copied image name from (Some e) = copied_bytes image name e (file_bytes from e)
 copied image name from None = Err NoFile
 
--- an image with a copy of a file of another image; a fault of that image comes before any other
+-- The result of `copied`, unless the image `from` has a fault. A fault of `from` comes before any other fault.
 abbrev pub copied_from : List ℕ → List ℕ → List ℕ → Option Entry → Option VolumeFault → Result (List ℕ) VolumeFault
 copied_from image name from entry None = copied image name from entry
 copied_from image name from entry (Some fault) = Err fault
 
--- the result of a command; a refused command does not change the volume
+-- The result of a command on the volume `image`. If a command is refused, the volume is unchanged.
 unfoldable pub filed : List ℕ → Order → Result Filed FilerFault
 filed image ListFiles = Ok (record { image = image; answer = Lines (list_text image) })
 filed image (Get name) = lent image (bytes_of_file image (file_named image name))
@@ -191,8 +195,9 @@ filed image ListAll = Ok (record { image = image; answer = Lines (full_list_text
 filed image (ListFitting pattern) = Ok (record { image = image; answer = Lines (fitting_list_text image pattern) })
 filed image (RemoveFitting pattern) = changed (fitting_removed image pattern)
 
--- the outcomes in which memory may be refused: for a command that returns bytes or text, if nothing else is wrong; for
--- a command that adds a text, always, because its file is created before anything is checked
+-- States when a command can return `NoMemory`, given its defined result `outcome`. A command that returns bytes or text
+-- can do so only if `outcome` is not a fault. A command that adds a text always can, because it creates its file before
+-- it checks anything. Other commands cannot.
 abbrev pub MayWantMemory : Order → Result Filed FilerFault → Type 0
 MayWantMemory ListFiles outcome = IsOk outcome
 MayWantMemory (Get name) outcome = IsOk outcome

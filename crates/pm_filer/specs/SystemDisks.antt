@@ -1,4 +1,4 @@
--- The volume on which the code file of a program has the system segment.
+-- Adding the system segment to the code file of a program on a volume.
 use Rattle.std.specs.Prelude.{ℕ, ◌==◌, List, Option, Some, None, Result, Ok, Err, if◌then◌else◌}
 use Rattle.pm_codefile.specs.declared.file.Slot.{Slot}
 use Rattle.pm_filer.specs.SystemSegments.{given, system_slot}
@@ -12,7 +12,7 @@ use Rattle.pm_volume.specs.declared.entry.Entry.{Entry}
 use Rattle.pm_volume.specs.declared.fault.VolumeFault.{VolumeFault}
 use Rattle.pm_volume.specs.declared.kinds.TheConstants.{CODE}
 
--- the bytes of the first file with a name, if there is one and its kind is code
+-- The bytes of the file of the entry `entry`, if the entry exists and its kind is code.
 abbrev pub code_of : List ℕ → Option Entry → Option (List ℕ)
 code_of image None = None
 code_of image (Some entry) = if entry.kind == CODE then file_bytes image entry else None
@@ -20,7 +20,7 @@ code_of image (Some entry) = if entry.kind == CODE then file_bytes image entry e
 abbrev pub program_file : List ℕ → List ℕ → Option (List ℕ)
 program_file image name = code_of image (file_named image name)
 
--- a code file, added like any other file: in the lowest gap that is large enough, with the last date of the volume
+-- The image with the code file `file` added: in the lowest gap that is large enough, with the last date of the volume.
 abbrev pub put_code : List ℕ → List ℕ → List ℕ → Result (List ℕ) VolumeFault
 put_code image name file = added image name CODE file (last_date_of (directory_of image))
 
@@ -28,17 +28,19 @@ abbrev pub put_anew : List ℕ → List ℕ → Result (List ℕ) VolumeFault �
 put_anew name file (Err fault) = Err fault
 put_anew name file (Ok image) = put_code image name file
 
--- a change that the volume accepts or refuses
+-- The result of a change that a volume accepts or refuses.
 abbrev pub changed : Result (List ℕ) VolumeFault → Result (List ℕ) SystemFault
 changed (Ok image) = Ok image
 changed (Err fault) = Err (Volume fault)
 
--- the image after the first file with a name was removed and the new code file was added
+-- The image in which the first file with the name `name` is removed and the new code file is added. A fault in the new
+-- file comes first.
 abbrev pub exchanged : List ℕ → List ℕ → Result (List ℕ) SystemFault → Result (List ℕ) SystemFault
 exchanged image name (Err fault) = Err fault
 exchanged image name (Ok file) = changed (put_anew name file (file_removed image name))
 
--- the image is unchanged if there is no code file with that name
+-- The image in which the code file with the name `name` has the new segment. If no such code file exists, the image is
+-- unchanged.
 abbrev pub exchanged_if : List ℕ → List ℕ → Slot → List ℕ → Option (List ℕ) → Result (List ℕ) SystemFault
 exchanged_if image name slot segment None = Ok image
 exchanged_if image name slot segment (Some file) = exchanged image name (given file slot segment)
@@ -47,7 +49,7 @@ abbrev pub put_in : List ℕ → List ℕ → Result (Slot × List ℕ) SystemFa
 put_in image name (Err fault) = Err fault
 put_in image name (Ok (slot, segment)) = exchanged_if image name slot segment (program_file image name)
 
--- The image on which the code file with a name has the segment of the system file, or the fault. A fault of the system
--- file comes first, then one of the program file, then one of the volume.
+-- The image in which the code file with the name `name` has the segment of the system file `system`, or a fault. A
+-- fault of the system file comes first, then a fault of the program file, then a fault of the volume.
 unfoldable pub image_with_system : List ℕ → List ℕ → List ℕ → Result (List ℕ) SystemFault
 image_with_system image name system = put_in image name (system_slot system)

@@ -1,4 +1,4 @@
--- The numbers of the faults.
+-- The numbers of the faults of adding a system segment.
 use Rattle.std.specs.Prelude.{ℕ}
 use Rattle.pm_filer.specs.declared.system_fault.SystemFault.{SystemFault}
 use Rattle.pm_filer.specs.declared.system_fault.SystemFault.TheVariants.{NoCode, NoSegment, NoProgram, Taken, Volume}

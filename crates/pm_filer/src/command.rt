@@ -1,4 +1,4 @@
-//! Commands on a volume, and their replies.
+//! The commands on a volume, and their replies. A directory slot is numbered from 1, in the order of the list of files.
 ghost use Rattle.std.specs.Prelude.{◌≡◌, ◌≢◌, Ok, Err, Some, None, IfOk, IfErr, IsErrOf, OnErr, OnOk, false};
 ghost use Rattle.std.specs.Prelude.{true, if◌then◌else◌};
 ghost use Rattle.pm_volume.specs.declared.fault.VolumeFault.TheVariants.{NoFile};
@@ -19,71 +19,73 @@ use pm_volume::kinds::TEXT;
 use pm_volume::{Date, Entry, Volume, VolumeFault};
 use std::alloc::Global;
 
-/// A command on a volume.
+/// A command on the files of a volume.
 #[derive(Drop)]
 pub enum FileCommand {
     /// Lists the files.
     List,
     /// Returns the bytes of the first file with this name.
     Get(String),
-    /// Adds a file with this name, kind (low four bits) and bytes, and the last date of the volume.
+    /// Adds a file with this name, this kind (low four bits) and these bytes. Its date is the last date of the volume.
     Put(String, u8, Vec<u8>),
     /// Removes the first file with this name.
     Remove(String),
-    /// Renames the first file with the first name to the second name.
+    /// Renames the first file with the first name. Its new name is the second name.
     Change(String, String),
     /// Returns the text of the first file with this name, which must be a text file.
     GetText(String),
-    /// Adds a file with this name, the text file of this text and the last date of the volume.
+    /// Converts this text to a text file, and adds it under this name. Its date is the last date of the volume.
     PutText(String, Vec<u8>),
-    /// Moves the files together. Bad blocks do not move. The number of free blocks is unchanged. They are one gap if
-    /// there are no bad blocks.
+    /// Moves the files together. Bad blocks do not move. The number of free blocks is unchanged. If the volume has no
+    /// bad blocks, the free blocks are then one gap.
     Krunch,
     /// Sets the last date of the volume: year 0 to 127, month 1 to 12, day 1 to 31.
     Date(u8, u8, u8),
-    /// Deletes all files and renames the volume to this name.
+    /// Removes all files, and changes the volume's name to this name.
     Zero(String),
-    /// Creates a second copy of the directory. Refused if a file begins below block 10.
+    /// Creates a second copy of the directory. The command is refused if a file begins below block 10.
     Duplicate,
     /// Removes the second copy of the directory.
     Single,
-    /// Returns the bytes of the file in this slot of the directory. Slots count from 1, like the lines of the list.
+    /// Returns the bytes of the file in this directory slot.
     GetSlot(u16),
-    /// Returns the text of the file in this slot, which must be a text file.
+    /// Returns the text of the file in this directory slot, which must be a text file.
     GetTextSlot(u16),
-    /// Removes the file in this slot. A file with the same name in another slot is unchanged.
+    /// Removes the file in this directory slot. A file with the same name in another slot is unchanged.
     RemoveSlot(u16),
-    /// Renames the file in this slot to this name. A file with the old name in another slot is unchanged.
+    /// Renames the file in this directory slot to this name. A file with the old name in another slot is unchanged.
     ChangeSlot(u16, String),
-    /// Sets the kind of the first file with this name to this kind (low four bits).
+    /// Sets the kind of the first file with this name to the low four bits of this number.
     Kind(String, u8),
-    /// Sets the kind of the file in this slot to this kind (low four bits). A file with the same name in another slot
-    /// is unchanged.
+    /// Sets the kind of the file in this directory slot to the low four bits of the second number. A file with the same
+    /// name in another slot is unchanged.
     KindSlot(u16, u8),
-    /// Adds a copy of the first file with this name from the volume in this image, with its kind and date.
+    /// Copies the first file with this name from the volume in this image, with its kind and date.
     Copy(String, Vec<u8>),
-    /// Adds a copy of the file in this slot of the volume in this image under this name, with its kind and date.
+    /// Copies the file in this directory slot from the volume in this image, with its kind and date. The copy has this
+    /// name.
     CopySlot(u16, String, Vec<u8>),
-    /// Lists the files with the numbers of their kinds and their slots, and the free blocks between them.
+    /// Lists the files with their slots and the numbers of their kinds, and the free blocks between the files.
     ListAll,
     /// Lists the files whose names match this pattern.
     ListFitting(String),
-    /// Removes all files whose names match this pattern. There must be at least one.
+    /// Removes all files whose names match this pattern. The command is refused if no name matches.
     RemoveFitting(String),
 }
 
 /// The reply to a command.
 #[derive(Drop)]
 pub enum Reply {
-    /// Lines of text. Each ends with a line feed.
+    /// Lines of text, each of which ends with a line feed.
     Lines(String),
-    /// Bytes of a file, or of its text.
+    /// The bytes of a file, or of its text.
     Bytes(Vec<u8>),
-    /// Nothing. The volume was changed.
+    /// No data. The volume was changed.
     Done,
 }
 
-// Returns the bytes of a file. Fails with `NoFile` if there is none.
+// Returns the bytes of the file of `entry`. Fails with `NoFile` if `entry` is `None`, or if the bytes are not all in
+// the image.
 fn bytes_of_file(volume: &Volume, entry: Option<Entry>) -> Result<&[u8], VolumeFault>
     ensures bytes { IfOk result (λ bytes. bytes_of_file volume.now entry ≡ Some bytes.now) }
     ensures refusal { IfErr result (λ fault. (fault ≡ NoFile) × (bytes_of_file volume.now entry ≡ None)) }
@@ -92,7 +94,7 @@ fn bytes_of_file(volume: &Volume, entry: Option<Entry>) -> Result<&[u8], VolumeF
     volume.file(&entry).ok_or(VolumeFault::NoFile)
 }
 
-// Returns the bytes of a file as a reply.
+// Returns the bytes of the file of `entry` as a reply. Fails as `bytes_of_file` does.
 fn get(alloc: Global, volume: &Volume, entry: Option<Entry>) -> Result<Reply, FilerFault>
     ensures looks { Looks volume.now result (lent volume.now (bytes_of_file volume.now entry)) }
 {
@@ -100,7 +102,7 @@ fn get(alloc: Global, volume: &Volume, entry: Option<Entry>) -> Result<Reply, Fi
     Ok(Reply::Bytes(bytes.to_vec(alloc)?))
 }
 
-// Returns the text of a text file as a reply.
+// Returns the text of the text file of `entry` as a reply.
 fn get_text(alloc: Global, volume: &Volume, entry: Option<Entry>) -> Result<Reply, FilerFault>
     ensures looks { Looks volume.now result (text_read volume.now (bytes_of_file volume.now entry)) }
 {
@@ -109,7 +111,7 @@ fn get_text(alloc: Global, volume: &Volume, entry: Option<Entry>) -> Result<Repl
     Ok(Reply::Bytes(text))
 }
 
-// Returns the file in slot `slot` of the directory.
+// Returns the entry of the file in slot `slot` of the directory, or `None` if the slot has no file.
 fn in_slot(volume: &Volume, slot: u16) -> Option<Entry>
     ensures file { result ≡ file_in_slot volume.now slot }
 {
@@ -117,7 +119,7 @@ fn in_slot(volume: &Volume, slot: u16) -> Option<Entry>
     volume.entries().nth(place)
 }
 
-// Adds the text file of a text.
+// Converts `text` to a text file, and adds it to `volume` under the name `name`.
 fn put_text(alloc: Global, volume: &mut Volume, name: &str, text: Vec<u8>) -> Result<(), FilerFault>
     ensures done { OnOk result
         (text_written volume.old name.now text.items (text_fault text.items)
@@ -133,7 +135,7 @@ fn put_text(alloc: Global, volume: &mut Volume, name: &str, text: Vec<u8>) -> Re
     Ok(())
 }
 
-// Deletes all files.
+// Removes all files of `volume`, and changes its name to `name`.
 #[tactic(auto, using(crate::proofs::Made::made))]
 fn forget(volume: &mut Volume, name: &str) -> Result<(), VolumeFault>
     ensures done { OnOk result (zeroed volume.old name.now ≡ Ok volume.new) }
@@ -145,7 +147,7 @@ fn forget(volume: &mut Volume, name: &str) -> Result<(), VolumeFault>
     Ok(())
 }
 
-// Adds a file with the last date of the volume.
+// Adds a file to `volume`. Its date is the last date of the volume.
 #[tactic(auto, using(crate::proofs::Made::made))]
 fn put(volume: &mut Volume, name: &str, kind: u8, bytes: &[u8]) -> Result<(), VolumeFault>
     ensures done { OnOk result
@@ -160,7 +162,7 @@ fn put(volume: &mut Volume, name: &str, kind: u8, bytes: &[u8]) -> Result<(), Vo
     Ok(())
 }
 
-// Renames a file.
+// Renames the first file with the name `old` to `new`.
 fn change(volume: &mut Volume, old: &str, new: &str) -> Result<(), VolumeFault>
     ensures done { OnOk result (renamed volume.old old.now new.now ≡ Ok volume.new) }
     ensures volume { OnOk result (IsVolume volume.new) }
@@ -171,7 +173,7 @@ fn change(volume: &mut Volume, old: &str, new: &str) -> Result<(), VolumeFault>
     Ok(())
 }
 
-// Renames the file in a slot.
+// Renames the file in directory slot `slot` to `new`.
 fn change_slot(volume: &mut Volume, slot: u16, new: &str) -> Result<(), VolumeFault>
     ensures done { OnOk result (slot_renamed volume.old slot new.now ≡ Ok volume.new) }
     ensures volume { OnOk result (IsVolume volume.new) }
@@ -182,7 +184,7 @@ fn change_slot(volume: &mut Volume, slot: u16, new: &str) -> Result<(), VolumeFa
     Ok(())
 }
 
-// Sets the kind of a file.
+// Sets the kind of the first file with the name `name`.
 #[tactic(auto, using(crate::proofs::Made::made))]
 fn set_kind(volume: &mut Volume, name: &str, kind: u8) -> Result<(), VolumeFault>
     ensures done { OnOk result (kind_set volume.old name.now kind ≡ Ok volume.new) }
@@ -194,7 +196,7 @@ fn set_kind(volume: &mut Volume, name: &str, kind: u8) -> Result<(), VolumeFault
     Ok(())
 }
 
-// Sets the kind of the file in a slot.
+// Sets the kind of the file in directory slot `slot`.
 #[tactic(auto, using(crate::proofs::Made::made))]
 fn set_slot_kind(volume: &mut Volume, slot: u16, kind: u8) -> Result<(), VolumeFault>
     ensures done { OnOk result (slot_kind_set volume.old slot kind ≡ Ok volume.new) }
@@ -206,7 +208,7 @@ fn set_slot_kind(volume: &mut Volume, slot: u16, kind: u8) -> Result<(), VolumeF
     Ok(())
 }
 
-// Adds a copy of a file of another volume, with its kind and date.
+// Copies the file of `entry` from the volume `from` to `volume`, under the name `name`, with its kind and date.
 #[tactic(auto, using(crate::proofs::Made::made))]
 fn copy(
     volume: &mut Volume,
@@ -225,7 +227,7 @@ fn copy(
     Ok(())
 }
 
-// Opens the volume in an image.
+// Opens `image` as a volume.
 fn opened(image: Vec<u8>) -> Result<Volume, VolumeFault>
     ensures opened { IfOk result (λ v. v ≡ image.items) }
     ensures sound { OnOk result (image_fault image.items ≡ None) }
@@ -237,7 +239,7 @@ fn opened(image: Vec<u8>) -> Result<Volume, VolumeFault>
     }
 }
 
-// Adds a copy of the first file with this name in another image.
+// Copies the first file with the name `name` from the volume in `image` to `volume`.
 fn copy_named(volume: &mut Volume, name: &str, image: Vec<u8>) -> Result<(), VolumeFault>
     ensures done { OnOk result
         (copied_from volume.old name.now image.items (file_named image.items name.now) (image_fault image.items)
@@ -253,7 +255,7 @@ fn copy_named(volume: &mut Volume, name: &str, image: Vec<u8>) -> Result<(), Vol
     copy(volume, name, &from, entry)
 }
 
-// Adds a copy of the file in a slot of another image.
+// Copies the file in directory slot `slot` of the volume in `image` to `volume`, under the name `name`.
 fn copy_slot(volume: &mut Volume, slot: u16, name: &str, image: Vec<u8>) -> Result<(), VolumeFault>
     ensures done { OnOk result
         (copied_from volume.old name.now image.items (file_in_slot image.items slot) (image_fault image.items)
@@ -269,7 +271,7 @@ fn copy_slot(volume: &mut Volume, slot: u16, name: &str, image: Vec<u8>) -> Resu
     copy(volume, name, &from, entry)
 }
 
-// Sets the last date of the volume.
+// Sets the last date of `volume`.
 fn set_date(volume: &mut Volume, year: u8, month: u8, day: u8) -> Result<(), FilerFault>
     ensures good { OnOk result (is_date year month day ≡ true) }
     ensures dated { OnOk result (volume.new ≡ dated_image volume.old (date_word year month day)) }
@@ -283,7 +285,7 @@ fn set_date(volume: &mut Volume, year: u8, month: u8, day: u8) -> Result<(), Fil
     Ok(())
 }
 
-// Lists the files whose names match a pattern.
+// Returns the list of the files whose names match `pattern`.
 fn list_fitting(alloc: Global, volume: &Volume, pattern: &str) -> Result<Reply, FilerFault>
     ensures lines { IfOk result (λ reply. answer_of reply ≡ Lines (fitting_list_text volume.now pattern.now)) }
     ensures refusal { IfErr result (λ fault. fault ≡ FilerFault.NoMemory) }
@@ -291,20 +293,20 @@ fn list_fitting(alloc: Global, volume: &Volume, pattern: &str) -> Result<Reply, 
     Ok(Reply::Lines(fitting_list_text(alloc, volume, pattern)?))
 }
 
-// Returns the reply to a command that has changed the volume.
+// Returns the reply `Done`. The argument is the empty result of a call that changed the volume.
 fn done(_changed: ()) -> Reply
     ensures done { result ≡ Reply.Done }
 {
     Reply::Done
 }
 
-/// Executes a command on a volume.
+/// Executes `command` on `volume`.
 ///
-/// Memory is needed only for a list, for the bytes or the text of a file, and for a text to add.
+/// Memory is needed only for a list, for the bytes or the text of a file, and for a text that is added.
 ///
 /// # Errors
 ///
-/// The fault of the command, or `NoMemory` if memory was refused. The volume is unchanged.
+/// The fault of the command, or `NoMemory` if the host has no memory for the result. `volume` is unchanged.
 #[tactic(auto, unfolding(crate::specs::Filed::filed), using(crate::proofs::Made::made))]
 pub fn apply(alloc: Global, volume: &mut Volume, command: FileCommand) -> Result<Reply, FilerFault>
     ensures done { IfOk result

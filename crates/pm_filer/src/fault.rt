@@ -1,4 +1,4 @@
-//! Why a command is refused.
+//! The reasons why a command on a volume is refused.
 ghost use Rattle.std.specs.Prelude.{◌≡◌};
 ghost use Rattle.pm_filer.specs.Filed.{filer_number};
 
@@ -7,25 +7,26 @@ use pm_volume::VolumeFault;
 use std::alloc::AllocError;
 use thiserror::Error;
 
-/// Why a command is refused. The volume is unchanged.
+/// The reason why a command is refused. The volume is unchanged.
 #[derive(Clone, Copy, Debug, Error)]
 pub enum FilerFault {
-    /// The volume refuses the command.
+    /// The volume refuses the command, for this reason.
     #[error("{0}")]
     Volume(VolumeFault),
-    /// The text or the text file has a fault.
+    /// The text that is added, or the text file that is read, has this fault.
     #[error("{0}")]
     Text(TextFault),
     /// The year is above 127, the month is not 1 to 12, or the day is not 1 to 31.
     #[error("not a date")]
     BadDate,
-    /// Memory was refused.
+    /// The host has no memory for the command.
     #[error("out of memory")]
     NoMemory,
 }
 
 impl FilerFault {
-    /// The number of the fault: 1 for a fault of the volume, 2 of the text, 3 of a date, 4 if memory was refused.
+    /// Returns the number of the fault: 1 for a fault of the volume, 2 for a fault of a text, 3 for an invalid date,
+    /// and 4 for out of memory.
     pub fn number(self) -> u8
         ensures value { result ≡ filer_number self }
     {

@@ -1,4 +1,4 @@
-//! Name patterns, and the files that match one.
+//! Name patterns, and the files whose names match a pattern.
 ghost use Rattle.std.specs.Prelude.{◌≡◌, ◌==◌, ◌<◌, Ok, Err, IfErr, IfSome, OnErr, OnOk, length, slice_get};
 ghost use Rattle.std.specs.List.{list_any, position};
 ghost use Rattle.pm_volume.specs.Directory.{IsVolume};
@@ -9,7 +9,7 @@ ghost use Rattle.pm_filer.specs.Fitting.{without_first, without_fitting};
 
 use pm_volume::{Entry, Volume, VolumeFault, is_same_name};
 
-/// Whether a name begins with `begin` and ends with `end`, in either case. The two must not overlap.
+/// Is true if `name` begins with `begin` and ends with `end`, and the two do not overlap in `name`. Case is ignored.
 fn is_around(begin: &[u8], end: &[u8], name: &[u8]) -> bool
     ensures around { result ≡ is_around begin.now end.now name.now }
 {
@@ -21,7 +21,7 @@ fn is_around(begin: &[u8], end: &[u8], name: &[u8]) -> bool
         && is_same_name(end, &name[rest..])
 }
 
-/// Returns the index of the first `=` of a pattern.
+/// Returns the index of the first `=` of `pattern`, or `None`.
 fn first_equals(pattern: &[u8]) -> Option<usize>
     ensures place { result ≡ position (λ c. c == 61) pattern.now }
     ensures within { IfSome result (λ place. place < length pattern.now) }
@@ -29,8 +29,8 @@ fn first_equals(pattern: &[u8]) -> Option<usize>
     pattern.iter().position(|c| *c == b'=')
 }
 
-/// Whether a name matches a pattern, in either case. The first `=` of the pattern matches any characters, or none.
-/// Without `=` the pattern must be the name.
+/// Is true if `name` matches `pattern`. Case is ignored. The first `=` of the pattern matches any number of characters,
+/// also none. A pattern without `=` matches only the equal name.
 #[tactic(auto, unfolding(crate::specs::Fitting::fits))]
 pub fn fits(pattern: &str, name: &[u8]) -> bool
     ensures fits { result ≡ fits pattern.now name.now }
@@ -42,28 +42,28 @@ pub fn fits(pattern: &str, name: &[u8]) -> bool
     }
 }
 
-/// Whether the name of a file matches a pattern.
+/// Is true if the name of the file of `entry` matches `pattern`.
 pub(crate) fn is_fitting(pattern: &str, entry: &Entry) -> bool
     ensures fits { result ≡ is_fitting pattern.now entry.now }
 {
     fits(pattern, entry.characters())
 }
 
-/// Whether the name of any file of a volume matches a pattern.
+/// Is true if the name of at least one file of `volume` matches `pattern`.
 fn has_fitting(volume: &Volume, pattern: &str) -> bool
     ensures some { result ≡ list_any (is_fitting pattern.now) (files_of volume.now) }
 {
     volume.entries().any(|entry| is_fitting(pattern, &entry))
 }
 
-/// Returns the file that has `before` files before it.
+/// Returns the entry of the file that has `before` files before it in the list of files.
 fn file_behind(volume: &Volume, before: u16) -> Option<Entry>
     ensures file { result ≡ slice_get (files_of volume.now) before }
 {
     volume.entries().nth(usize::from(before))
 }
 
-/// Whether the file with `before` files before it exists and its name matches.
+/// Is true if a file with `before` files before it exists, and its name matches `pattern`.
 fn is_fitting_behind(volume: &Volume, pattern: &str, before: u16) -> bool
     ensures there { result ≡ is_fitting_there pattern.now (slice_get (files_of volume.now) before) }
 {
@@ -73,7 +73,7 @@ fn is_fitting_behind(volume: &Volume, pattern: &str, before: u16) -> bool
     }
 }
 
-/// Removes the file in a slot, if there is one.
+/// Removes the file in directory slot `slot`, if the slot has a file.
 fn remove_there(volume: &mut Volume, slot: u16)
     ensures removed { volume.new ≡ changed_or volume.old (slot_removed volume.old slot) }
     ensures volume { IsVolume volume.old → IsVolume volume.new }
@@ -84,7 +84,7 @@ fn remove_there(volume: &mut Volume, slot: u16)
     }
 }
 
-/// Removes the file with `before` files before it, if its name matches.
+/// Removes the file that has `before` files before it, if its name matches `pattern`.
 fn remove_if_fitting(volume: &mut Volume, pattern: &str, before: u16)
     requires low { before < 65535 }
     ensures removed { volume.new ≡ without_fitting pattern.now before volume.old }
@@ -95,7 +95,7 @@ fn remove_if_fitting(volume: &mut Volume, pattern: &str, before: u16)
     }
 }
 
-/// Removes those of the first `count` files whose names match, the last one first.
+/// Removes the files among the first `count` whose names match `pattern`. The last file is removed first.
 fn remove_first(volume: &mut Volume, pattern: &str, count: u16)
     ensures removed { volume.new ≡ without_first pattern.now count volume.old }
     ensures volume { IsVolume volume.old → IsVolume volume.new }
@@ -107,7 +107,7 @@ fn remove_first(volume: &mut Volume, pattern: &str, count: u16)
     }
 }
 
-/// Removes all files whose names match a pattern. Fails with `NoFile` if there are none. The volume is then unchanged.
+/// Removes all files whose names match `pattern`. Fails with `NoFile` if no name matches; the volume is then unchanged.
 #[tactic(auto, unfolding(crate::specs::Fitting::fitting_removed))]
 pub(crate) fn remove_fitting(volume: &mut Volume, pattern: &str) -> Result<(), VolumeFault>
     ensures removed { OnOk result (fitting_removed volume.old pattern.now ≡ Ok volume.new) }

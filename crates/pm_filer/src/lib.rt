@@ -1,4 +1,4 @@
-//! Commands on the files of a volume. A system segment can be added to the code file of a program on a volume.
+//! Commands on the files of a volume. The system segment can also be added to the code file of a program on a volume.
 #![tactic(auto)]
 
 mod command;

@@ -1,4 +1,4 @@
-//! The text of the list of files of a volume.
+//! The text of the list of the files of a volume.
 ghost use Rattle.std.specs.Prelude.{◌≡◌, ◌++◌, ◌<◌, Some, IfOk, OnOk, length, string_bytes};
 ghost use Rattle.std.specs.Option.{option_map};
 ghost use Rattle.pm_filer.specs.Listing.{at_right, date_text, entry_details, file_line, fitting_list_text};
@@ -16,8 +16,8 @@ use pm_volume::{Copies, Date, Entry, Space, Volume, kinds};
 use std::alloc::{AllocError, Global};
 use std::fmt;
 
-/// Returns the word for a kind of file: `none`, `badb`, `code`, `text`, `info`, `data`, `graf`, `foto` and `secd` for 0
-/// to 8. Returns None for other kinds.
+/// Returns the word for the kind `kind`: `none`, `badb`, `code`, `text`, `info`, `data`, `graf`, `foto` or `secd` for 0
+/// to 8. Returns `None` for other kinds.
 #[tactic(auto, unfolding(crate::specs::Listing::kind_word))]
 pub fn kind_word(kind: u8) -> Option<&'static str>
     ensures word { option_map (λ word. word.now) result ≡ kind_word kind }
@@ -36,7 +36,7 @@ pub fn kind_word(kind: u8) -> Option<&'static str>
     }
 }
 
-/// A kind, shown in four characters.
+/// A kind of file. It is printed as its word, or as its number in four characters.
 #[derive(Clone, Copy)]
 struct Kind(u8);
 
@@ -53,7 +53,7 @@ impl fmt::Display for Kind {
     }
 }
 
-/// A date word, shown as year, month and day.
+/// A date word. It is printed as year, month and day.
 #[derive(Clone, Copy)]
 pub struct DateWord(pub u16);
 
@@ -67,7 +67,7 @@ impl fmt::Display for DateWord {
     }
 }
 
-/// A number, shown right-aligned in five characters.
+/// A number that is printed right-aligned in five characters.
 #[derive(Clone, Copy)]
 struct Five(u16);
 
@@ -81,7 +81,7 @@ impl fmt::Display for Five {
     }
 }
 
-/// A number, shown right-aligned in three characters.
+/// A number that is printed right-aligned in three characters.
 #[derive(Clone, Copy)]
 struct Three(u16);
 
@@ -95,7 +95,7 @@ impl fmt::Display for Three {
     }
 }
 
-/// A number, shown right-aligned in two characters.
+/// A number that is printed right-aligned in two characters.
 #[derive(Clone, Copy)]
 struct Two(u16);
 
@@ -109,7 +109,7 @@ impl fmt::Display for Two {
     }
 }
 
-/// Returns the byte that is shown for a byte of a name: `?` if it is not printable.
+/// Returns the byte that is printed for the byte `byte` of a name: `?` if `byte` is not printable.
 fn shown_byte(byte: u8) -> u8
     ensures value { result ≡ shown_byte byte }
 {
@@ -120,7 +120,7 @@ fn shown_byte(byte: u8) -> u8
     }
 }
 
-/// Appends the bytes of a name as they are shown.
+/// Appends the printable form of `name` to `text`.
 fn push_name(text: &mut String, name: &[u8]) -> Result<(), AllocError>
     ensures text { OnOk result (string_bytes text.new ≡ string_bytes text.old ++ printable_name name.now) }
 {
@@ -140,7 +140,8 @@ fn push_spaces(text: &mut String, count: usize) -> Result<(), AllocError>
     Ok(())
 }
 
-/// The part of the line of a file after the name.
+/// The part of a file's line after the name. It is printed as kind, first block, number of blocks, bytes in the last
+/// block, and date.
 #[derive(Clone, Copy)]
 struct Details(Entry);
 
@@ -158,7 +159,7 @@ impl fmt::Display for Details {
     }
 }
 
-/// Appends the line of a file.
+/// Appends the line of the file of `entry`.
 #[tactic(auto, unfolding(crate::specs::Listing::file_line), using(crate::proofs::Columns::shown_length))]
 fn push_entry(text: &mut String, entry: Entry) -> Result<(), AllocError>
     ensures text { OnOk result (string_bytes text.new ≡ string_bytes text.old ++ file_line entry) }
@@ -171,7 +172,7 @@ fn push_entry(text: &mut String, entry: Entry) -> Result<(), AllocError>
     Ok(())
 }
 
-/// Appends the lines of the files.
+/// Appends a line for each file of `volume`.
 fn push_files(text: &mut String, volume: &Volume) -> Result<(), AllocError>
     ensures text { OnOk result
         (string_bytes text.new ≡ string_bytes text.old ++ flat_map file_line (files_of volume.now)) }
@@ -183,7 +184,8 @@ fn push_files(text: &mut String, volume: &Volume) -> Result<(), AllocError>
     Ok(())
 }
 
-/// Appends the last line.
+/// Appends the last line of the list of `volume`: the number of files, of free blocks, and of blocks of the largest
+/// gap.
 #[tactic(auto, unfolding(crate::specs::Listing::space_line))]
 fn push_space(text: &mut String, volume: &Volume) -> Result<(), AllocError>
     ensures text { OnOk result (string_bytes text.new ≡ string_bytes text.old ++ space_line volume.now) }
@@ -194,8 +196,9 @@ fn push_space(text: &mut String, volume: &Volume) -> Result<(), AllocError>
     Ok(())
 }
 
-/// Returns the list of files of a volume. It has the name of the volume and a colon, a line for each file, and a last
-/// line. The last line has the number of files, the number of free blocks and the size of the largest gap in blocks.
+/// Returns the list of files of `volume`. It has a line with the volume's name and a colon, a line for each file, and a
+/// last line. The last line has the number of files, the number of free blocks, and the number of blocks of the largest
+/// gap.
 #[tactic(auto, unfolding(crate::specs::Listing::list_text))]
 pub(crate) fn list_text(alloc: Global, volume: &Volume) -> Result<String, AllocError>
     ensures text { IfOk result (λ text. string_bytes text ≡ list_text volume.now) }
@@ -208,7 +211,7 @@ pub(crate) fn list_text(alloc: Global, volume: &Volume) -> Result<String, AllocE
     Ok(text)
 }
 
-/// The part of the line of a file after the name, in the full list.
+/// The part of a file's line after the name, in the full list. It has the slot and the entry of the file.
 #[derive(Clone, Copy)]
 struct FullDetails(u16, Entry);
 
@@ -224,7 +227,7 @@ impl fmt::Display for FullDetails {
     }
 }
 
-/// Appends the line of a file with the number of its kind and its slot.
+/// Appends the line of the file of `entry` in the full list. The line ends with the number of the kind, and the slot.
 #[tactic(auto, unfolding(crate::specs::Listing::full_line), using(crate::proofs::Columns::shown_length))]
 fn push_full_entry(text: &mut String, slot: u16, entry: Entry) -> Result<(), AllocError>
     ensures text { OnOk result (string_bytes text.new ≡ string_bytes text.old ++ full_line slot entry) }
@@ -237,7 +240,8 @@ fn push_full_entry(text: &mut String, slot: u16, entry: Entry) -> Result<(), All
     Ok(())
 }
 
-/// Appends the line of the free blocks from `begin` to `end` (exclusive). Appends nothing if there are none.
+/// Appends the line of the free blocks from `begin` up to, but not including, `end`. Appends nothing if these are no
+/// blocks.
 #[tactic(auto, unfolding(crate::specs::Listing::gap_line))]
 fn push_gap(text: &mut String, begin: u16, end: u16) -> Result<(), AllocError>
     ensures text { OnOk result (string_bytes text.new ≡ string_bytes text.old ++ gap_line begin end) }
@@ -250,7 +254,7 @@ fn push_gap(text: &mut String, begin: u16, end: u16) -> Result<(), AllocError>
     Ok(())
 }
 
-/// Returns the first block after the directory or its second copy, where files begin.
+/// Returns the block at which files of `volume` begin: 6, or 10 if the directory has a second copy.
 fn first_block(volume: &Volume) -> u16
     ensures block { result ≡ files_begin (directory_of volume.now) }
 {
@@ -260,7 +264,7 @@ fn first_block(volume: &Volume) -> u16
     }
 }
 
-/// Appends the lines of the files. The free blocks before each file and after the last file have a line too.
+/// Appends a line for each file of `volume`, and for the free blocks before each file and after the last file.
 fn push_all(text: &mut String, volume: &Volume) -> Result<(), AllocError>
     ensures text { OnOk result (string_bytes text.new ≡ string_bytes text.old
         ++ full_lines 1 (files_begin (directory_of volume.now)) (files_of volume.now)
@@ -278,7 +282,7 @@ fn push_all(text: &mut String, volume: &Volume) -> Result<(), AllocError>
     push_gap(text, begin, volume.blocks())
 }
 
-/// Returns the full list of files. It is the same as `list_text`, with two additions. The line of each file ends with
+/// Returns the full list of files of `volume`. It differs from `list_text` in two ways. The line of each file ends with
 /// the number of its kind and its slot. Each gap has a line with its first block and its number of blocks.
 #[tactic(auto, unfolding(crate::specs::Listing::full_list_text))]
 pub(crate) fn full_list_text(alloc: Global, volume: &Volume) -> Result<String, AllocError>
@@ -292,7 +296,7 @@ pub(crate) fn full_list_text(alloc: Global, volume: &Volume) -> Result<String, A
     Ok(whole)
 }
 
-/// Appends the lines of the files whose names match. Returns the number of these files.
+/// Appends the lines of the files of `volume` whose names match `pattern`. Returns the number of these files.
 fn push_fitting(text: &mut String, volume: &Volume, pattern: &str) -> Result<usize, AllocError>
     ensures text { OnOk result (string_bytes text.new ≡ string_bytes text.old
         ++ flat_map file_line (fitting_files volume.now pattern.now)) }
@@ -309,8 +313,8 @@ fn push_fitting(text: &mut String, volume: &Volume, pattern: &str) -> Result<usi
     Ok(count)
 }
 
-/// Returns the list of only those files whose names match a pattern. The free blocks in the last line are those of the
-/// volume.
+/// Returns the list of only those files of `volume` whose names match `pattern`. The last line has the free blocks of
+/// the whole volume.
 #[tactic(auto, unfolding(crate::specs::Listing::fitting_list_text, crate::specs::Listing::some_space_line))]
 pub(crate) fn fitting_list_text(
     alloc: Global,

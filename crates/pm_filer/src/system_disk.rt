@@ -1,4 +1,4 @@
-//! Volumes on which a program has a system segment.
+//! Adding the system segment to the code file of a program on a volume.
 ghost use Rattle.std.specs.Prelude.{◌≡◌, ◌≢◌, ◌-◌, Ok, Err, IfErr, IfOk, IfSome, OnOk, option_map};
 ghost use Rattle.std.specs.List.{All, remove};
 ghost use Rattle.pm_filer.specs.SystemDisks.{image_with_system, program_file, put_anew, put_code};
@@ -15,7 +15,7 @@ use pm_volume::kinds::CODE;
 use pm_volume::{Volume, VolumeFault};
 use std::alloc::Global;
 
-/// Returns the bytes of the first file with this name if its kind is code.
+/// Returns the bytes of the first file with the name `name`, if its kind is code.
 fn program_file<'a>(volume: &'a Volume, name: &str) -> Option<&'a [u8]>
     ensures bytes { option_map (λ bytes. bytes.now) result ≡ program_file volume.now name.now }
 {
@@ -27,7 +27,7 @@ fn program_file<'a>(volume: &'a Volume, name: &str) -> Option<&'a [u8]>
     }
 }
 
-/// Adds a code file with the last date of the volume.
+/// Adds the code file `file` to `volume` under the name `name`. Its date is the last date of the volume.
 #[tactic(auto, using(crate::proofs::SystemMade::made))]
 fn put_code(volume: &mut Volume, name: &str, file: &[u8]) -> Result<(), VolumeFault>
     ensures done { OnOk result (put_code volume.old name.now file.now ≡ Ok volume.new) }
@@ -39,7 +39,7 @@ fn put_code(volume: &mut Volume, name: &str, file: &[u8]) -> Result<(), VolumeFa
     Ok(())
 }
 
-/// Replaces the first file with this name by another code file.
+/// Replaces the first file with the name `name` by the code file `file`.
 #[tactic(auto, using(crate::proofs::SystemMade::made))]
 fn exchange(volume: &mut Volume, name: &str, file: &[u8]) -> Result<(), VolumeFault>
     ensures done { OnOk result (put_anew name.now file.now (file_removed volume.old name.now) ≡ Ok volume.new) }
@@ -52,23 +52,23 @@ fn exchange(volume: &mut Volume, name: &str, file: &[u8]) -> Result<(), VolumeFa
     put_code(volume, name, file)
 }
 
-/// Returns the volume after the system segment was added to the code file with this name, as by `with_system`. `system`
-/// is the code file with the system segment in its slot 0.
+/// Returns `volume` after the system segment was added to the code file with the name `name`, as `with_system` does.
+/// `system` is a code file with the system segment in its slot 0.
 ///
-/// The first file with the name is removed. The new file is added like any other file, in the lowest gap that is large
-/// enough, with the last date of the volume. Every other file keeps its blocks and bytes. If the first file with this
-/// name is not a code file, or there is none, the volume is unchanged.
+/// The first file with this name is removed. The new file is added like any other file, in the lowest gap that is large
+/// enough, with the last date of the volume. Every other file keeps its blocks and bytes. If no file has this name, or
+/// the first file with this name is not a code file, the volume is unchanged.
 ///
 /// # Errors
 ///
 /// Checked in this order:
-/// - `NoCode`, `NoSegment`: as for `with_system`, also if there is no code file with the name.
+/// - `NoCode`, `NoSegment`: as for `with_system`, even if the volume has no code file with this name.
 /// - `NoProgram`, `Taken`, `NoRoom`: as for `with_system`.
-/// - `BadName`: a new file cannot have the name.
-/// - `Duplicate`: a second file has the name.
+/// - `BadName`: the name is not valid for a new file.
+/// - `Duplicate`: a second file has this name.
 /// - `NoRoom`: no gap is large enough.
 ///
-/// `NoMemory`: memory was refused.
+/// `NoMemory` is possible at any point: the host has no memory for the new file.
 #[tactic(auto, unfolding(crate::specs::SystemDisks::image_with_system))]
 pub fn put_system(
     alloc: Global,

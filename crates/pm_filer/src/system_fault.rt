@@ -1,4 +1,4 @@
-//! Why a system segment is not added to a program.
+//! The reasons why the system segment is not added to a program.
 ghost use Rattle.std.specs.Prelude.{◌≡◌};
 ghost use Rattle.pm_filer.specs.SystemFaults.{number_of};
 
@@ -7,31 +7,31 @@ use pm_volume::VolumeFault;
 use std::alloc::AllocError;
 use thiserror::Error;
 
-/// Why a system segment is not added to a program. Nothing has changed.
+/// The reason why the system segment is not added to a program. Nothing has changed.
 #[derive(Clone, Copy, Debug, Error)]
 pub enum SystemFault {
-    /// 1: the system's file is not a code file.
+    /// 1: the system's file is not a code file, for this reason.
     #[error("the file of --system is not a code file: {0}")]
     NoCode(CodeFault),
     /// 2: slot 0 of the system's file has no segment.
     #[error("the file of --system has no segment in slot 0")]
     NoSegment,
-    /// 3: the program's file is not a code file.
+    /// 3: the program's file is not a code file, for this reason.
     #[error("the program is not a code file: {0}")]
     NoProgram(CodeFault),
     /// 4: slot 0 of the program's file has a segment.
     #[error("the program already has a segment in slot 0; run it without --system")]
     Taken,
-    /// 5: the volume refuses the program's file with the segment.
+    /// 5: the volume refuses the program's file with the added segment, for this reason.
     #[error("cannot add the system segment to the program on unit 4: {0}")]
     Volume(VolumeFault),
-    /// 6: memory was refused.
+    /// 6: the host has no memory for the new file.
     #[error("out of memory")]
     NoMemory,
 }
 
 impl SystemFault {
-    /// The fault's number, as the program prints it.
+    /// Returns the fault's number, as the program prints it.
     pub fn number(self) -> u8
         ensures value { result ≡ number_of self }
     {

@@ -1,4 +1,4 @@
-//! Code files to which the segment of another code file is added.
+//! Adding slot 0 of one code file, the system file, to another code file, the program file.
 ghost use Rattle.std.specs.Prelude.{◌≡◌, ◌≢◌, ◌≤◌, length, Err, Ok, IfErr, IfOk, IsErrOf, IsOk};
 ghost use Rattle.pm_bytes.specs.declared.blocks.TheConstants.{BLOCK};
 ghost use Rattle.pm_bytes.specs.Blocks.{blocks_for};
@@ -11,7 +11,7 @@ use pm_codefile::{CodeFile, Slot};
 use pm_volume::VolumeFault;
 use std::alloc::{AllocError, Global};
 
-/// Returns slot 0 of the system file and its segment.
+/// Returns slot 0 of the dictionary of the system file `system`, and the code of its segment.
 #[tactic(auto, unfolding(crate::specs::SystemSegments::system_slot))]
 pub(crate) fn system_slot(system: &[u8]) -> Result<(Slot, &[u8]), SystemFault>
     ensures found { IfOk result (λ found. system_slot system.now ≡ Ok (found.0, found.1.now)) }
@@ -26,8 +26,8 @@ pub(crate) fn system_slot(system: &[u8]) -> Result<(Slot, &[u8]), SystemFault>
     Ok((slot, segment))
 }
 
-/// Returns a code file with a segment after its last block. Slot 0 of the dictionary describes this segment. The file
-/// has `block` blocks without the segment.
+/// Returns the code file `file` with `segment` added after its last block. Slot 0 of the new dictionary describes this
+/// segment, with the length and the name of `slot`. `block` is the number of blocks of `file`.
 #[tactic(auto, unfolding(crate::specs::SystemSegments::with_segment))]
 fn with_segment(
     alloc: Global,
@@ -49,7 +49,7 @@ fn with_segment(
     Ok(new)
 }
 
-/// Returns the program file with a segment in its slot 0, which must be empty.
+/// Returns the program file `file` with `segment` added as its slot 0, which must be empty.
 #[tactic(auto, unfolding(crate::specs::SystemSegments::given))]
 pub(crate) fn given(
     alloc: Global,
@@ -76,8 +76,8 @@ pub(crate) fn given(
 
 /// Returns the code file `file` with the segment that the code file `system` has in slot 0.
 ///
-/// The segment is added after the last block of `file`. Slot 0 of the dictionary gets its block, its length and its
-/// name. All other bytes are unchanged.
+/// The segment is added after the last block of `file`. Slot 0 of the dictionary then states the block, length and name
+/// of this segment. All other bytes are unchanged.
 ///
 /// # Errors
 ///
@@ -87,7 +87,7 @@ pub(crate) fn given(
 /// - `NoProgram`: `file` is not a code file.
 /// - `Taken`: slot 0 of `file` has a segment.
 /// - `NoRoom` of a volume: `file` has more than 65,535 blocks of 512 bytes.
-/// - `NoMemory`: memory was refused.
+/// - `NoMemory`: the host has no memory for the new file.
 pub fn with_system(alloc: Global, file: &[u8], system: &[u8]) -> Result<Vec<u8>, SystemFault>
     ensures done { IfOk result (λ new. with_system file.now system.now ≡ Ok new.items) }
     ensures refusal { IfErr result (λ fault. fault ≢ NoMemory → with_system file.now system.now ≡ Err fault) }

@@ -1,4 +1,4 @@
--- Runs: one after another, and with a greater limit.
+-- Laws of runs: runs one after another, runs with a greater limit, and the equality of outcomes.
 use Rattle.std.proofs.Common.{◌≡◌, ◌≢◌, ◌<◌, ◌⊎◌, inl, inr, ℕ, zero, suc, ◌+◌, ◌-◌, refl, sym, ap, ◌∙◌, arith}
 use Rattle.std.proofs.lemmas.Bool.{cases_lt, cases_order}
 use Rattle.pm_machine.specs.declared.state.Stop.{Stop}
@@ -8,7 +8,7 @@ use Rattle.pm_machine.specs.Steps.{stepped}
 use Rattle.pm_machine.specs.Runs.{after_steps, AllWent, Ran, WentAll, StoppedAfter, last_counts}
 use Rattle.pm_machine.specs.RunLaws.{RunsGoOn, RunsStay, RunsAreOne, SameOutcome}
 
--- Steps after others.
+-- The state after `m + k` steps is the state after `k` steps from the state after `m` steps.
 pub after_both : (k m : ℕ) (s : State) → after_steps (m + k) s ≡ after_steps k (after_steps m s)
 unfolding after_steps
 after_both zero m s = let e : m + zero ≡ m = omega arith in rw e refl
@@ -60,7 +60,7 @@ runs_stay m n c s t (stop.Halted e) other h = (h.0, stays m n c h.0 s t (stop.Ha
 
 -- ---- one outcome
 
--- A run that some answer stopped.
+-- A run was stopped by some answer, after some number of steps.
 abbrev Stopped : ℕ → State → ℕ → Stop → State → Type 0
 Stopped limit s c a t = (n : ℕ) × StoppedAfter n limit s c a t
 
@@ -70,7 +70,8 @@ as_stopped limit c s t stop.Waiting h = inr (h, λ e. cc)
 as_stopped limit c s t stop.Ended h = inr (h, λ e. cc)
 as_stopped limit c s t (stop.Halted x) h = inr (h, λ e. cc)
 
--- If an answer stopped a run, the step did not answer `Went`.
+-- If an answer other than `Went` stopped a run after `n` steps, then it is false that more than `n` steps answered
+-- `Went`.
 not_went : (n limit c k : ℕ) (s t : State) (a : Stop) → StoppedAfter n limit s c a t → a ≢ stop.Went → AllWent k s → n < k → ⊥
 not_went n limit c k s t a h other went below =
     other (sym (ap (λ (p : State × Stop). p.1) h.last) ∙ went n below)

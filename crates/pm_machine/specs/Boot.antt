@@ -1,4 +1,4 @@
--- The start of a program from a code file on a volume.
+-- The start of a program: its code file on a volume, the first call, and the state after this call.
 use Rattle.std.specs.Prelude.{ℕ, zero, suc, ◌+◌, ◌%◌, ◌==◌, ◌≡◌, List, [], ◌∷◌, ◌++◌, Option, Some, None, is_none}
 use Rattle.std.specs.Prelude.{is_some, replicate, Result, Ok, Err, IsOk, if◌then◌else◌}
 use Rattle.pm_words.specs.declared.error.ExecError.{ExecError}
@@ -22,17 +22,17 @@ use Rattle.pm_machine.specs.State.{State, Whole}
 use Rattle.pm_machine.specs.Start.{devices_with, with_system_frame}
 use Rattle.pm_words.specs.declared.layout.TheConstants.{HEAP, SYSTEM_FRAME}
 
--- The required part, or the fault if it is missing.
+-- The given value, or the fault `fault` if it is missing.
 abbrev pub some_or : {A : Type 0} → BootFault → Option A → Result A BootFault
 some_or fault (Some x) = Ok x
 some_or fault None = Err fault
 
--- The image on a disk unit, or none if the number is not that of a disk unit.
+-- The image on disk unit `unit`. `None` if `unit` is not a disk unit or has no image.
 unfoldable pub image_of : List (Option (List ℕ)) → ℕ → Option (List ℕ)
 image_of images unit = image_on (unit_of unit) (devices_with images 0)
 
--- The code file with this name on the volume of a unit, as its entry and its bytes. It is a code file by its kind, is
--- readable, and has a segment in slot 1.
+-- The directory entry and the bytes of the code file `name` on disk unit `unit`. The kind of the file must be code. It
+-- must be a valid code file with a segment in slot 1.
 unfoldable pub code_file : List (Option (List ℕ)) → ℕ → List ℕ → Result (Entry × List ℕ) BootFault
 code_file images unit name = do
   image ← some_or NoFile (image_of images unit)
@@ -43,20 +43,20 @@ code_file images unit name = do
   _ ← demand (is_some (segment_in file 1)) BadCode
   Ok (entry, file)
 
--- The location of the code of a slot on the disk of a unit. `first` is the first block of the code file.
+-- Where the disk of unit `unit` has the code of a slot. `first` is the first block of the code file.
 abbrev pub row_of : ℕ → ℕ → Option Slot → SlotRow
 row_of unit first None = record { unit = unit; block = 0; length = 0 }
 row_of unit first (Some slot) =
     if slot.length == 0 then record { unit = unit; block = 0; length = 0 }
     else record { unit = unit; block = (first + slot.block) % 65536; length = slot.length }
 
--- The locations of the first `n` slots.
+-- Where the disk has the code of each of the first slots, of the given number.
 unfoldable pub rows_below : ℕ → ℕ → List ℕ → ℕ → List SlotRow
 rows_below unit first file zero = []
 rows_below unit first file (suc n) = rows_below unit first file n ++ row_of unit first (slot_in file n) ∷ []
 
--- The machine before its first call. The memory contains the system's frame, the heap begins at 1,024, and no segment
--- is loaded.
+-- The machine before its first call: the memory contains only the system's frame, the heap begins at 1,024, and no
+-- segment is loaded.
 unfoldable pub first_parts : Parts
 first_parts = record {
   memory = with_system_frame zero_words;
@@ -73,21 +73,21 @@ first_parts = record {
   places = replicate 16 None;
 }
 
--- An error of the first call, as a fault.
+-- The given result, with an execution error changed to the fault `Exec`.
 abbrev pub or_exec : {A : Type 0} → Result A ExecError → Result A BootFault
 or_exec (Ok x) = Ok x
 or_exec (Err e) = Err (Exec e)
 
--- A program starts with a call of procedure 1 of slot 1, whose segment is loaded. The result is the machine in this
--- procedure and the locations of its 16 slots.
+-- The machine after the start of the program `name` on disk unit `unit`, and where the disk has the code of its 16
+-- slots. A program starts with a call of procedure 1 of slot 1. This call loads the segment of slot 1.
 unfoldable pub begun : List (Option (List ℕ)) → ℕ → List ℕ → Result (Parts × List SlotRow) BootFault
 begun images unit name = do
   found ← code_file images unit name
   parts ← or_exec (called first_parts (Cxp 1 1) (segment_in found.1 1))
   Ok (parts, rows_below unit found.0.first found.1 16)
 
--- The start of a program. The volumes are the disks, the input queue is empty, and nothing was written. The call does
--- not count as a step.
+-- The whole state at the start of the program `name` on disk unit `unit`. The images are the disks, the input queue is
+-- empty, and nothing was written. The first call does not count as a step.
 unfoldable pub boot_start : List (Option (List ℕ)) → ℕ → List ℕ → ℕ → Result State BootFault
 boot_start images unit name clock = do
   b ← begun images unit name
@@ -101,11 +101,12 @@ boot_start images unit name clock = do
     devices = devices_with images clock;
   })
 
--- The part of a starting machine that calls use.
+-- The parts of the starting machine `b` that calls use.
 abbrev pub parts_of : Begun → Parts
 parts_of b = record { memory = b.memory.value.words; registers = b.registers; places = b.frames.places }
 
--- A program started or was refused. Memory can be out only if its file was found.
+-- The program started as `start` defines, or was refused with its fault. `NoMemory` is possible only if the code file
+-- was found (`found` is not a fault).
 abbrev pub Begins : Result Begun BootFault → Result (Entry × List ℕ) BootFault → Result (Parts × List SlotRow) BootFault
     → Type 0
 Begins (Ok b) found start = start ≡ Ok (parts_of b, b.rows)
@@ -115,7 +116,8 @@ Begins (Err BadCode) found start = start ≡ Err BadCode
 Begins (Err (Exec e)) found start = start ≡ Err (Exec e)
 Begins (Err NoMemory) found start = IsOk found
 
--- A machine was booted or refused. Memory can be out only if the file of the program was found.
+-- A machine was created as `start` defines, or was refused with its fault. `NoMemory` is possible only if the code file
+-- was found (`found` is not a fault).
 abbrev pub Boots : {A : Type 0} → Result Whole (BootFault × A) → Result (Entry × List ℕ) BootFault
     → Result State BootFault → Type 0
 Boots (Ok m) found start = start ≡ Ok m.state

@@ -1,4 +1,4 @@
--- The numbers of the faults.
+-- The numbers of the faults for which a machine cannot be created.
 use Rattle.std.specs.Prelude.{ℕ}
 use Rattle.pm_machine.specs.declared.state.BootFault.{BootFault}
 use Rattle.pm_machine.specs.declared.state.BootFault.TheVariants.{NoFile, NotCode, BadCode, Exec, NoMemory}

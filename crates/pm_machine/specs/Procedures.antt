@@ -1,4 +1,4 @@
--- Calls, returns, and standard procedures.
+-- The rules of calls, returns and standard procedures, applied to the whole state.
 use Rattle.std.specs.Prelude.{ℕ, Bool, true, false, Result, Ok, if◌then◌else◌, ◌==◌}
 use Rattle.pm_words.specs.declared.error.ExecError.{ExecError}
 use Rattle.pm_words.specs.Stack.{◌>>=◌}
@@ -16,14 +16,15 @@ use Rattle.pm_machine.specs.State.{State}
 use Rattle.pm_stdproc.specs.Loads.{code_needed}
 use Rattle.pm_words.specs.declared.layout.TheConstants.{SYSTEM_FRAME}
 
--- The part of the state that calls and returns use, and the state with a new such part.
+-- The part of the state `s` that calls and returns use. The next definition is the state with another such part.
 abbrev pub parts : State → Parts
 parts s = record { memory = s.memory; registers = s.registers; places = s.places }
 
 abbrev pub with_parts : Parts → State → State
 with_parts p s = record s { memory = p.memory; registers = p.registers; places = p.places }
 
--- CLP, CGP, CBP, CIP and CXP. .., parameters -> the frame of the procedure. A call, with the code that it must load.
+-- The state after the call `c` (CLP, CGP, CBP, CIP or CXP). The call replaces the parameters on the stack by the frame
+-- of the procedure. It loads the code of the segment if that is needed.
 unfoldable pub call_row : Call → State → Result State ExecError
 call_row c s = do
   code ← code_needed c s.places s.rows s.devices
@@ -38,23 +39,24 @@ abbrev pub is_base_return : Return → Bool
 is_base_return (return.Normal n) = false
 is_base_return (return.Base n) = true
 
--- A return to the system's frame ends the program.
+-- The status after a return to the frame at `mp`. A return to the system's frame ends the program.
 abbrev pub status_after : ℕ → Status → Status
 status_after mp now = if mp == SYSTEM_FRAME then status.Ended else now
 
--- RNP and RBP. The frame of the procedure -> .., n words. The result has n words.
+-- The state after the return `r` (RNP or RBP). The return replaces the frame of the procedure by the words of its
+-- result.
 abbrev pub return_row : Return → State → Result State ExecError
 return_row r s =
     returned (parts s) (words_of_return r) (is_base_return r) >>= λ p.
     Ok (record (with_parts p s) { status = status_after p.registers.mp s.status })
 
--- The part of the state that a standard procedure uses, and the state with a new such part.
+-- The part of the state `s` that a standard procedure uses. The next definition is the state with another such part.
 abbrev pub reach : State → Reach
 reach s = record { memory = s.memory; registers = s.registers; places = s.places; rows = s.rows; devices = s.devices }
 
 abbrev pub with_reach : Reach → State → State
 with_reach t s = record s { memory = t.memory; registers = t.registers; places = t.places; devices = t.devices }
 
--- CSP. The rule of the standard procedure.
+-- The state after CSP with the number `n`: the rule of this standard procedure is applied.
 abbrev pub standard_row : ℕ → State → Result State Pause
 standard_row n s = procedure_row (procedure_numbered n) (reach s) >>= λ t. Ok (with_reach t s)

@@ -1,11 +1,12 @@
 -- What a step writes: the ranges of memory that the rule of its instruction writes, in the state before the step. Words
--- that an instruction only reads or takes off the stack do not count.
+-- that an instruction only reads or takes off the stack are not included.
 --
--- A step that ends with an error counts as writing what it would write without the error. The same holds for a transfer
--- that moves nothing. The exceptions are:
+-- For a step that ends with an error, the ranges are those that the step would write without the error. The same holds
+-- for a transfer that moves nothing. These are the exceptions:
 --
 -- - An EXIT that does not find its procedure writes nothing.
--- - A call does not reach its segment if there is no space for its code or its slot has none. It then writes nothing.
+-- - A call does not reach its segment if its code does not fit below SP or its slot has no code. Such a call writes
+--   nothing.
 -- - A call that does not find its table writes no frame.
 -- - An operation on sets or WORDS that this machine does not have (error 11) writes the word of its result; a
 --   comparison of REAL writes nothing.
@@ -65,7 +66,7 @@ use Rattle.pm_machine.specs.Procedures.{parts, words_of_return}
 use Rattle.pm_machine.specs.Rows.{fetched}
 use Rattle.pm_machine.specs.State.{State}
 
--- A range of bytes from an address on.
+-- A range of memory: `bytes` bytes from address `start` on.
 pub record Stretch : Type 0 where
   pub start : ℕ
   pub bytes : ℕ
@@ -73,41 +74,45 @@ pub record Stretch : Type 0 where
 abbrev pub stretch : ℕ → ℕ → Stretch
 stretch a n = record { start = a; bytes = n }
 
--- The `n` bytes before `end`, or all bytes before it if there are fewer.
+-- The `n` bytes before address `end`. If fewer than `n` bytes exist before `end`, all of them.
 abbrev pub stretch_to : ℕ → ℕ → Stretch
 stretch_to end n = stretch (end - n) (min n end)
 
--- One of the `n` bytes from `a` on belongs to a range. If there are no bytes, none does.
+-- Is true if one of the `n` bytes from address `a` on belongs to the range `s`.
 abbrev pub touches : ℕ → ℕ → Stretch → Bool
 touches a n s = nat_lt 0 n && (nat_lt 0 s.bytes && (nat_lt s.start (a + n) && nat_lt a (s.start + s.bytes)))
 
 -- ---- the stack
 
--- The number of words of an operand that begins at an address of the stack. A set has its count and that many words.
+-- The number of words of an operand on the stack that begins at `sp`. A set has a word with its size, and that many
+-- words.
 abbrev pub words_of : Share → List ℕ → ℕ → ℕ
 words_of (share.Words n) m sp = n
 words_of share.Set m sp = word_at m sp + 1
 
--- The number of words that are taken off the stack.
+-- The number of words that an instruction with the effect `e` takes off the stack at `sp`.
 abbrev pub words_taken : Effect → List ℕ → ℕ → ℕ
 words_taken e m sp = words_of e.top m sp + words_of e.below m (sp + 2 * words_of e.top m sp)
 
--- An instruction that takes words off the stack at SP pushes `n` words, which end at the end of the words taken.
+-- The range that an instruction writes if it takes words off the stack at `sp` as `e` states, and pushes `n` words. The
+-- new words end where the old words ended.
 abbrev pub pushes : Effect → ℕ → List ℕ → ℕ → List Stretch
 pushes e n m sp = stretch_to (sp + 2 * words_taken e m sp) (2 * n) ∷ []
 
--- The words that an instruction leaves, by the table of effects. The words of a set are not defined there.
+-- The range that an instruction with the effect `e` writes when it pushes its result. The size of a set as a result is
+-- not defined here.
 abbrev pub pushes_words : Effect → List ℕ → ℕ → List Stretch
 pushes_words e m sp = pushes e (words_of e.leaves m sp) m sp
 
 -- ---- instructions on the stack
 
--- The word at an address, if there is one.
+-- The word at the given address, or nothing if the address is an error.
 abbrev pub word_stretch : Result ℕ ExecError → List Stretch
 word_stretch (Ok a) = stretch a 2 ∷ []
 word_stretch (Err e) = []
 
--- The sum of a base and an index, modulo 65,536. The index is at address `sp` of the stack and the base above it.
+-- The sum of a base and an index on the stack, modulo 65,536. The index is the word at `sp`, and the base is the word
+-- above it.
 abbrev pub place_on_stack : List ℕ → ℕ → ℕ
 place_on_stack m sp = (word_at m (sp + 2) + word_at m sp) % 65536
 
@@ -121,14 +126,15 @@ pointer_written (pointer.StoreWords n) m sp = stretch (word_at m (sp + 2 * n)) (
 pointer_written (pointer.Move b) m sp = stretch (word_at m (sp + 2)) (2 * b) ∷ []
 pointer_written o m sp = pushes_words (pointer_effect o) m sp
 
--- The number of words of the set on the top and of the set below it, without their counts.
+-- The number of words of the set on the top of the stack, without the word with its size. The next definition states
+-- the same for the set below it.
 abbrev pub upper_words : List ℕ → ℕ → ℕ
 upper_words m sp = word_at m sp
 
 abbrev pub lower_words : List ℕ → ℕ → ℕ
 lower_words m sp = word_at m (sp + 2 * (word_at m sp + 1))
 
--- The number of words that an instruction on sets pushes: a set with its count, or only words.
+-- The number of words that the given instruction on sets pushes: a set with the word for its size, or only words.
 abbrev pub set_words : Set → List ℕ → ℕ → ℕ
 set_words set.Member m sp = 1
 set_words set.Intersection m sp = 1 + min (lower_words m sp) (upper_words m sp)
@@ -139,16 +145,18 @@ set_words set.Subrange m sp =
     if int_lt (signed (word_at m sp)) (signed (word_at m (sp + 2))) then 1 else 2 + word_at m sp / 16
 set_words (set.Adjust n) m sp = n
 
--- The number of characters of the string or character that a word names: 1, or the length byte.
+-- The number of characters of the string at the address `e`, or 1 if `e` is a character (below 256).
 abbrev pub text_length : List ℕ → ℕ → ℕ
 text_length m e = if nat_lt e 256 then 1 else byte_at m e
 
--- A comparison leaves its result. A comparison of real numbers has none.
+-- The range that a comparison writes when it pushes its result. A comparison of real numbers has no effect, and writes
+-- nothing.
 abbrev pub compare_written : Option Effect → List ℕ → ℕ → List Stretch
 compare_written None m sp = []
 compare_written (Some e) m sp = pushes_words e m sp
 
--- IXS leaves the stack unchanged.
+-- The ranges that an instruction on bytes, sets, strings or fields writes. IXS (`Text.Index`) leaves the stack
+-- unchanged.
 abbrev pub value_written : Value → List ℕ → ℕ → List Stretch
 value_written (value.Byte byte.Load) m sp = pushes_words (words 2 1) m sp
 value_written (value.Byte byte.Store) m sp = stretch (place_on_stack m (sp + 2)) 1 ∷ []
@@ -163,8 +171,8 @@ value_written (value.Compare r k) m sp = compare_written (compare_effect k) m sp
 
 -- ---- calls and returns
 
--- The frame of a call of the procedure with this table: its parameters, the six control words below them, and for a
--- base call the saved BASE below those. Its other variables are not written.
+-- The new frame of a call of the procedure with the table `t`: its parameters, the six control words below them, and,
+-- for a base call, the saved BASE below those. The other variables are not written.
 abbrev pub frame_stretch : Bool → ℕ → ℕ → Table → Stretch
 frame_stretch base loaded sp t =
     stretch_to (frame_top loaded sp t.parameters - t.locals) (kept_below base + (12 + t.parameters))
@@ -173,14 +181,16 @@ abbrev pub frame_written : Call → ℕ → ℕ → Result Table ExecError → L
 frame_written call loaded sp (Ok t) = frame_stretch (is_base call t.level) loaded sp t ∷ []
 frame_written call loaded sp (Err e) = []
 
--- A call in the segment that was reached. Its loaded code, if any, ends at SP.
+-- What a call writes if it reaches the given segment: the code that is loaded for it, which ends at SP, and the new
+-- frame.
 abbrev pub reached_written : Call → ℕ → Result Reached ExecError → List Stretch
 reached_written call sp (Ok at) =
     stretch_to sp at.loaded
     ∷ frame_written call at.loaded sp (attributes at.memory at.place (procedure_called call))
 reached_written call sp (Err e) = []
 
--- The segment that a call of slot `n` reaches. A segment with an address is in memory; otherwise its code is loaded.
+-- The segment that a call of slot `n` with the given entry reaches. If the entry has an address, the segment is in
+-- memory. Otherwise its code is loaded.
 abbrev pub slot_reached : ℕ → Parts → Option (Option SegmentPlace) → Result (Option (List ℕ)) ExecError
     → Result Reached ExecError
 slot_reached n c (Some (Some p)) code = reach_standing c n p
@@ -189,7 +199,7 @@ slot_reached n c (Some None) (Ok None) = Err NoSegment
 slot_reached n c (Some None) (Err e) = Err e
 slot_reached n c None code = Err NoSegment
 
--- The segment that a call reaches.
+-- The segment that the given call reaches in the state `s`.
 abbrev pub call_reached : Call → State → Result Reached ExecError
 call_reached (Cxp n p) s =
     slot_reached n (parts s) (slice_get s.places n) (code_needed (Cxp n p) s.places s.rows s.devices)
@@ -198,28 +208,28 @@ call_reached call s = Ok (here (parts s))
 abbrev pub call_written : Call → State → List Stretch
 call_written call s = reached_written call s.registers.sp (call_reached call s)
 
--- The words of a result end at the SP that the frame contains.
+-- What a return from the frame at `mp` writes: `n` words of the result, which end at the SP that the frame has saved.
 abbrev pub return_written : ℕ → List ℕ → ℕ → List Stretch
 return_written n m mp = stretch_to (word_at m (mp + 10)) (2 * n) ∷ []
 
 -- ---- EXIT
 
--- The number of frames that are left in addition to the running procedure. It is 0 if the running procedure is the
--- requested one. Otherwise they are those from the frame at `a` up to the last one.
+-- The number of frames that EXIT leaves. It is 0 if the running procedure is the requested one (`here` is true).
+-- Otherwise, the frames from that at `a` up to the last one are left.
 abbrev pub frames_left : Bool → List ℕ → Wanted → ℕ → Result ℕ ExecError
 frames_left here m p a = if here then Ok 0 else (last_frame m p a >>= λ k. Ok (k + 1))
 
--- The number of frames that an EXIT leaves.
+-- The number of frames that an EXIT to the procedure `p` leaves.
 abbrev pub left_by_exit : Parts → Wanted → Result ℕ ExecError
 left_by_exit c p = do
   here ← is_wanted c.memory p c.registers.seg c.registers.jtab
   frames_left here c.memory p c.registers.mp
 
--- The address of the saved IPC in the frame that is `i` callers up from the frame at `a`.
+-- The address of the saved IPC in the frame to which `i` dynamic links lead from the frame at `a`.
 abbrev pub ip_kept : List ℕ → ℕ → ℕ → ℕ
 ip_kept m a i = (frame_up m a i + 8) % 65536
 
--- The words with the saved IPC in the first `n` frames from the frame at `a` on.
+-- The words with the saved IPC in a given number of frames, of which the first is at `a`.
 unfoldable pub ips_written : List ℕ → ℕ → ℕ → List Stretch
 ips_written m a zero = []
 ips_written m a (suc i) = stretch (ip_kept m a i) 2 ∷ ips_written m a i
@@ -228,7 +238,8 @@ abbrev pub frames_written : List ℕ → ℕ → Result ℕ ExecError → List S
 frames_written m a (Ok n) = ips_written m a n
 frames_written m a (Err e) = []
 
--- The procedure that an EXIT requests. Its number is on the top and the number of its segment below it.
+-- The procedure that an EXIT requests. The procedure number is on the top of the stack, and the segment number is below
+-- it.
 abbrev pub wanted_at : List ℕ → ℕ → Wanted
 wanted_at m sp = record { segment = word_at m (sp + 2); procedure = word_at m sp }
 
@@ -238,7 +249,7 @@ exit_written s =
 
 -- ---- standard procedures
 
--- The `count` bytes from `place` on. A count that is not above 0 as a signed number has no bytes.
+-- The `count` bytes from `place` on. If `count` is 0 or negative as a signed number, no bytes.
 abbrev pub counted_stretch : ℕ → ℕ → List Stretch
 counted_stretch place count = if is_positive count then stretch place count ∷ [] else []
 
@@ -255,7 +266,7 @@ memory_written memory.CheckIo m sp = []
 memory_written memory.Release m sp = []
 memory_written memory.Halt m sp = []
 
--- The memory of a transfer.
+-- The memory that a UNITREAD or UNITWRITE transfers.
 abbrev pub transfer_stretch : List ℕ → ℕ → Stretch
 transfer_stretch m sp = stretch (place_on_stack m (sp + 6)) (word_at m (sp + 4))
 
@@ -267,7 +278,7 @@ units_written units.Write m sp = []
 units_written units.Wait m sp = []
 units_written units.Clear m sp = []
 
--- The code of a loaded segment ends at SP after the slot number is taken off the stack.
+-- What a keep request writes if it loads the segment. The code ends at SP after the slot number is taken off the stack.
 abbrev pub kept_written : ℕ → Result (Option (List ℕ)) ExecError → List Stretch
 kept_written sp (Ok (Some code)) = stretch_to (sp + 2) (length code) ∷ []
 kept_written sp (Ok None) = []
@@ -302,10 +313,10 @@ abbrev pub instruction_written : Result Instr ExecError → State → List Stret
 instruction_written (Ok i) s = operation_written (operation_of i) s
 instruction_written (Err e) s = []
 
--- What the instruction at IPC writes.
+-- The ranges of memory that the instruction at IPC writes.
 unfoldable pub written : State → List Stretch
 written s = instruction_written (fetched s.memory s.registers.ipc) s
 
--- The instruction at IPC writes one of `n` bytes from `a` on.
+-- Is true if the instruction at IPC writes one of the `n` bytes from address `a` on.
 abbrev pub writes : ℕ → ℕ → State → Bool
 writes a n s = list_any (touches a n) (written s)

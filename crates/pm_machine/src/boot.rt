@@ -1,4 +1,4 @@
-//! The start of a program from a code file on a volume.
+//! The start of a program: finding its code file on a volume, and executing the first call.
 
 ghost use Rattle.std.specs.Prelude.{◌≡◌, ◌<◌, ◌%◌, IfOk, IfErr, IfSome, length, option_map};
 ghost use Rattle.pm_calls.specs.Calls.{called};
@@ -22,7 +22,7 @@ use pm_words::layout::{HEAP, SYSTEM_FRAME};
 use pm_words::{ExecError, Memory};
 use std::alloc::{AllocError, Global};
 
-/// The parts of a machine at its start, without its units.
+/// The parts of a machine at its start, without its units (devices).
 #[derive(Drop)]
 pub struct Begun {
     pub memory: Box<Memory>,
@@ -32,7 +32,7 @@ pub struct Begun {
     pub rows: SlotRows,
 }
 
-// Returns the volume on a disk unit, or `None` if there is none.
+// Returns the volume on disk unit `unit`. Returns `None` if `unit` is not a disk unit or has no volume.
 #[tactic(auto, unfolding(crate::specs::Boot::image_of))]
 fn volume_on(volumes: &[Option<Volume>; 6], unit: u8) -> Option<&Volume>
     ensures volume { option_map (λ volume. volume.now) result ≡ image_of volumes.now unit }
@@ -43,14 +43,14 @@ fn volume_on(volumes: &[Option<Volume>; 6], unit: u8) -> Option<&Volume>
     }
 }
 
-// Returns the code file with this name and its directory entry.
+// Returns the directory entry and the code file of the first file with the name `name` on unit `unit`.
 //
 // # Errors
 //
 // Checked in this order:
 //
-// - `NoFile`: the unit is not a disk unit or has no volume, or the volume has no file of this name.
-// - `NotCode`: the file is not a code file by its kind.
+// - `NoFile`: `unit` is not a disk unit or has no volume, or the volume has no file with this name.
+// - `NotCode`: the kind of the file is not code.
 // - `BadCode`: the code file is not valid, or it has no segment 1.
 #[tactic(auto, unfolding(crate::specs::Boot::code_file))]
 fn code_file<'a>(
@@ -82,7 +82,7 @@ fn code_file<'a>(
     Ok((entry, file))
 }
 
-// Returns the location of the code of a slot on the disk. `first` is the first block of the code file.
+// Returns where the disk has the code of slot `n` of `file`. `first` is the first block of the code file.
 fn row_of(unit: u8, first: u16, file: &CodeFile<'_>, n: u8) -> SlotRow
     ensures row { result ≡ row_of unit first (slot_in file.now n) }
     ensures even { result.length % 2 ≡ 0 }
@@ -101,7 +101,7 @@ fn row_of(unit: u8, first: u16, file: &CodeFile<'_>, n: u8) -> SlotRow
     }
 }
 
-// Returns the location of the code of each slot on the disk.
+// Returns where the disk has the code of each slot of `file`. `first` is the first block of the code file.
 fn rows_of(unit: u8, first: u16, file: &CodeFile<'_>) -> SlotRows
     ensures rows { result ≡ rows_below unit first file.now 16 }
 {
@@ -112,7 +112,7 @@ fn rows_of(unit: u8, first: u16, file: &CodeFile<'_>) -> SlotRows
     SlotRows::of(rows)
 }
 
-// Creates the parts of a machine before its first call.
+// Creates the parts of a machine before the first call.
 #[tactic(auto, unfolding(crate::specs::Boot::first_parts, crate::specs::Agreeing::InStep), using(pm_calls::proofs::TableLaws::carry))]
 fn start(alloc: Global) -> Result<Begun, AllocError>
     ensures parts { IfOk result (λ b. parts_of b ≡ first_parts) }
@@ -140,7 +140,7 @@ fn start(alloc: Global) -> Result<Begun, AllocError>
     })
 }
 
-// Calls procedure 1 of slot 1.
+// Executes the first call of a program: the call of procedure 1 of slot 1. `code` is the code of slot 1.
 #[tactic(auto, unfolding(crate::specs::Agreeing::InStep))]
 fn first_call(start: &mut Begun, code: Option<&[u8]>) -> Result<(), ExecError>
     requires even_code { IfSome code (λ c. length c.now % 2 ≡ 0) }
@@ -158,7 +158,8 @@ fn first_call(start: &mut Begun, code: Option<&[u8]>) -> Result<(), ExecError>
     )
 }
 
-/// Starts the program with this name on the volume of a unit.
+/// Starts the program with the name `name` on the volume of unit `unit`: finds its code file, and calls procedure 1 of
+/// slot 1.
 #[tactic(auto, unfolding(crate::specs::Boot::begun))]
 pub fn begin(
     alloc: Global,

@@ -1,4 +1,4 @@
-//! The position of a machine or of a frame in the code.
+//! Positions in the code: in which procedure, and where in this procedure, a machine executes or a frame continues.
 
 ghost use Rattle.std.specs.Prelude.{◌≡◌};
 ghost use Rattle.pm_machine.specs.CodePlaces.{place_at, place_in_code};
@@ -9,16 +9,16 @@ use pm_words::Memory;
 /// A position in the code.
 #[derive(Clone, Copy, Default)]
 pub struct CodePlace {
-    /// The number of the segment: the low byte of its highest word.
+    /// The number of the segment, which is the low byte of its highest word.
     pub segment: u8,
-    /// The number of the procedure: the low byte of the highest word of its table.
+    /// The number of the procedure, which is the low byte of the highest word of its table.
     pub procedure: u8,
-    /// IPC less the entry address of the procedure, in bytes, modulo 65,536.
+    /// The number of bytes from the entry address of the procedure to IPC, modulo 65,536.
     pub offset: u16,
 }
 
-/// Returns the position in the code for the SEG, JTAB and IPC of a machine or of a frame. Returns `None` if SEG or JTAB
-/// is odd.
+/// Returns the position in the code that `seg`, `jtab` and `ipc` describe. These are the values of SEG, JTAB and IPC of
+/// a machine or of a frame. Returns `None` if `seg` or `jtab` is odd.
 #[tactic(auto, unfolding(crate::specs::CodePlaces::place_at))]
 pub fn place_at(memory: &Memory, seg: u16, jtab: u16, ipc: u16) -> Option<CodePlace>
     ensures place { result ≡ place_at memory.now.words seg jtab ipc }
@@ -34,7 +34,7 @@ pub fn place_at(memory: &Memory, seg: u16, jtab: u16, ipc: u16) -> Option<CodePl
     })
 }
 
-/// Returns the position of a machine in the code, or `None` if SEG or JTAB is odd.
+/// Returns the position at which `machine` executes, or `None` if SEG or JTAB is odd.
 pub fn place_in_code(machine: &Machine) -> Option<CodePlace>
     ensures place { result ≡ place_in_code machine.now.state }
 {

@@ -1,4 +1,4 @@
-//! The machine: its whole state, and one call for each event.
+//! The p-machine: its whole state, and one call for each event.
 #![tactic(auto)]
 
 mod agreeing;

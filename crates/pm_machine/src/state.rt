@@ -1,4 +1,4 @@
-//! The plain parts of the machine.
+//! The types of the machine's state that contain only plain values.
 
 ghost use Rattle.std.specs.Prelude.{◌≡◌};
 ghost use Rattle.pm_machine.specs.Faults.{boot_number};
@@ -7,10 +7,10 @@ use pm_words::ExecError;
 use std::alloc::AllocError;
 use thiserror::Error;
 
-/// Whether the machine continues.
+/// Whether the machine continues, and otherwise why not.
 #[derive(Clone, Copy, Debug, PartialEq, Eq)]
 pub enum Status {
-    /// The next step is an instruction.
+    /// The machine continues: the next step executes an instruction.
     Running,
     /// The program has ended.
     Ended,
@@ -18,7 +18,7 @@ pub enum Status {
     Halted(ExecError),
 }
 
-/// The answer of a step.
+/// The answer of a step: how the step ended.
 #[derive(Clone, Copy, Debug, PartialEq, Eq)]
 pub enum Stop {
     /// The step succeeded, and the machine continues.
@@ -27,37 +27,37 @@ pub enum Stop {
     Waiting,
     /// The program has ended.
     Ended,
-    /// An execution error has stopped the machine. Its state is that before the instruction.
+    /// An execution error has stopped the machine. The step with the error changed only the status.
     Halted(ExecError),
 }
 
-/// The reason of the end of a run.
+/// The reason why a run ended.
 #[derive(Clone, Copy, Debug, PartialEq, Eq)]
 pub enum RunEnd {
-    /// It has executed its maximum number of steps.
+    /// The run has executed its maximum number of steps.
     Limit,
-    /// Its test stopped it before a step.
+    /// The test of the run stopped it before a step.
     Stopped,
-    /// A step had another answer than `Went`.
+    /// A step had this answer, which is not `Went`.
     Answered(Stop),
 }
 
 /// The reason why a machine cannot be created.
 #[derive(Clone, Copy, Debug, Drop, Error)]
 pub enum BootFault {
-    /// 1: there is no volume, or no such file on it.
+    /// 1: the disk unit has no volume, or the volume has no such file.
     #[error("no such file")]
     NoFile,
-    /// 2: the file is no code file.
+    /// 2: the kind of the file is not code.
     #[error("not a code file")]
     NotCode,
     /// 3: the code file cannot be read or has no segment 1, or bare code is too long.
     #[error("bad code file")]
     BadCode,
-    /// 4: the call of the first procedure fails.
+    /// 4: the first call of the program fails with this execution error.
     #[error("execution error at the first call")]
     Exec(ExecError),
-    /// 5: out of memory.
+    /// 5: the host has no memory for the machine.
     #[error("out of memory")]
     NoMemory,
 }

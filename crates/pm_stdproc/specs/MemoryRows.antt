@@ -1,5 +1,5 @@
--- The standard procedures that use only the stack, the heap and the memory. A rule pops its operands, the top one
--- first, and then checks them. Its lines are in the order of its errors.
+-- The rules of the standard procedures that use only the stack, the heap and the memory. A rule pops its operands, the
+-- top one first, and then checks them. The lines of a rule are in the order in which its errors are checked.
 use Rattle.std.specs.Prelude.{ℕ, ◌+◌, ◌-◌, ◌*◌, ◌/◌, ◌%◌, ℤ, pos, negsuc, Bool, ◌&&◌, List, Result, Ok, Err}
 use Rattle.std.specs.Prelude.{if◌then◌else◌, ◌==◌, nat_lt, nat_le}
 use Rattle.pm_words.specs.declared.error.ExecError.{ExecError}
@@ -13,33 +13,34 @@ use Rattle.pm_stdproc.specs.declared.procedures.OnMemory.{OnMemory}
 use Rattle.pm_stdproc.specs.declared.procedures.OnMemory.TheVariants.{CheckIo, New, MoveLeft, MoveRight, Fill, Scan}
 use Rattle.pm_stdproc.specs.declared.procedures.OnMemory.TheVariants.{Mark, Release, IoResult, Halt, FreeMemory}
 
--- a function from the memory and the registers to the memory and the registers
+-- A rule: from the memory and the registers it computes the new memory and registers, or an error.
 abbrev pub MemoryRow : Type 0
 MemoryRow = List ℕ → Registers → Result (List ℕ × Registers) ExecError
 
 -- ---- operands
 
--- a byte pointer on the stack, base and index: its address, which is their sum, and the SP above it
+-- Pops a byte pointer, which is an index and a base below it. The result has the address to which it points, which is
+-- their sum, and SP after both are popped.
 abbrev pub pop_place : List ℕ → ℕ → Result Popped ExecError
 pop_place m sp = do
   index ← pop m sp
   base ← pop m index.above
   Ok (record { word = (base.word + index.word) % 65536; above = base.above })
 
--- whether a word is above 0 as a signed number
+-- Is true if `w` is above 0 as a signed number.
 abbrev pub is_positive : ℕ → Bool
 is_positive w = nat_lt 0 w && nat_lt w 32768
 
 -- ---- the rules
 
--- IOCHECK
+-- IOCHECK: fails with `UserIo` if IORESULT is not 0.
 unfoldable pub check_io_row : MemoryRow
 check_io_row m r = do
   _ ← demand (r.ioresult == 0) error.UserIo
   Ok (m, r)
 
--- NEW. Operands: address, count. The word at the address receives NP, and the heap grows by `count` words. The count is
--- unsigned.
+-- NEW. Its operands are an address and a count. NP is written to the word at the address, and the heap grows by `count`
+-- words. The count is unsigned.
 unfoldable pub new_row : MemoryRow
 new_row m r = do
   n ← pop m r.sp
@@ -48,7 +49,8 @@ new_row m r = do
   _ ← demand (nat_le (r.np + 2 * n.word) a.above) error.StackOverflow
   Ok (new, record r { sp = a.above; np = r.np + 2 * n.word })
 
--- bytes moved from one range to another; a count of 0 or less does nothing, for any addresses
+-- The memory after `move` has moved `count` bytes from `from` to `to`. If `count` is 0 or negative, the memory is
+-- unchanged, for any addresses.
 abbrev pub moved : (List ℕ → ℕ → ℕ → ℕ → List ℕ) → List ℕ → ℕ → ℕ → ℕ → Result (List ℕ) ExecError
 moved move m from to count =
     if is_positive count then
@@ -56,8 +58,8 @@ moved move m from to count =
     (move m from to count))
     else Ok m
 
--- MOVELEFT and MOVERIGHT. Operands: source, destination, count. They move byte by byte: MOVELEFT from the low end,
--- MOVERIGHT from the high end.
+-- MOVELEFT and MOVERIGHT. Their operands are a source, a destination and a count. They move byte by byte: MOVELEFT from
+-- the low end, and MOVERIGHT from the high end.
 unfoldable pub move_bytes_row : (List ℕ → ℕ → ℕ → ℕ → List ℕ) → MemoryRow
 move_bytes_row move m r = do
   count ← pop m r.sp
@@ -66,13 +68,14 @@ move_bytes_row move m r = do
   new ← moved move m from.word to.word count.word
   Ok (new, record r { sp = from.above })
 
--- a range filled with one byte; a count of 0 or less does nothing, for any address
+-- The memory with the `count` bytes from `a` on set to `b`. If `count` is 0 or negative, the memory is unchanged, for
+-- any address.
 abbrev pub filled_with : List ℕ → ℕ → ℕ → ℕ → Result (List ℕ) ExecError
 filled_with m a count b =
     if is_positive count then (demand (lies_in_memory a count) error.InvalidMemory >>= λ _. Ok (filled m a count b))
     else Ok m
 
--- FILLCHAR. Operands: byte pointer, count, character
+-- FILLCHAR. Its operands are a byte pointer, a count and a character.
 unfoldable pub fill_row : MemoryRow
 fill_row m r = do
   ch ← pop m r.sp
@@ -81,20 +84,20 @@ fill_row m r = do
   new ← filled_with m place.word count.word (ch.word % 256)
   Ok (new, record r { sp = place.above })
 
--- whether all bytes that a scan may read are in memory
+-- Is true if all bytes that a scan from address `a` on may read are in memory.
 abbrev pub scan_lies_in_memory : ℕ → ℤ → Bool
 scan_lies_in_memory a (pos n) = nat_le (a + n) 65536
 scan_lies_in_memory a (negsuc n) = nat_le n a
 
--- the number of bytes that a scan passes, as a word; the limit is signed
+-- The number of bytes that a scan passes before it stops, as a word. The limit is signed.
 abbrev pub passed_by : List ℕ → ℕ → ℕ → ℕ → Bool → Result ℕ ExecError
 passed_by m a limit b equal = do
   let steps = signed limit
   _ ← demand (scan_lies_in_memory a steps) error.InvalidMemory
   Ok (word (scanned m a steps b equal))
 
--- SCAN. Operands: limit, kind, character, byte pointer, mask. It pushes the number of bytes before the first that
--- equals the character, or, if the kind is odd, before the first that differs. The mask is ignored.
+-- SCAN. Its operands are a limit, a kind, a character, a byte pointer and a mask. It pushes the number of bytes before
+-- the first that equals the character, or, if the kind is odd, before the first that differs. The mask is ignored.
 unfoldable pub scan_row : MemoryRow
 scan_row m r = do
   mask ← pop m r.sp
@@ -106,14 +109,14 @@ scan_row m r = do
   new ← push m limit.above r.np k
   Ok (new.0, record r { sp = new.1 })
 
--- MARK. Operand: address. The word at the address receives NP.
+-- MARK. Its operand is an address. NP is written to the word at this address.
 unfoldable pub mark_row : MemoryRow
 mark_row m r = do
   a ← pop m r.sp
   new ← store m a.word r.np
   Ok (new, record r { sp = a.above })
 
--- RELEASE. Operand: address. NP receives the word at the address, which must be even and at most SP.
+-- RELEASE. Its operand is an address. NP is set to the word at this address, which must be even and at most SP.
 unfoldable pub release_row : MemoryRow
 release_row m r = do
   a ← pop m r.sp
@@ -122,13 +125,13 @@ release_row m r = do
   _ ← demand (nat_le v a.above) error.StackOverflow
   Ok (m, record r { sp = a.above; np = v })
 
--- a word pushed on the stack
+-- The word `w` is pushed on the stack.
 unfoldable pub push_row : ℕ → MemoryRow
 push_row w m r = do
   new ← push m r.sp r.np w
   Ok (new.0, record r { sp = new.1 })
 
--- the rule of one of these procedures; MEMAVAIL pushes the number of words between NP and SP
+-- The rule of the given procedure. MEMAVAIL (`FreeMemory`) pushes the number of words between NP and SP.
 unfoldable pub memory_row : OnMemory → MemoryRow
 memory_row CheckIo m r = check_io_row m r
 memory_row New m r = new_row m r

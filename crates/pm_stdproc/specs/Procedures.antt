@@ -1,4 +1,4 @@
--- The standard procedures.
+-- The rules of the standard procedures on the whole state.
 use Rattle.std.specs.Prelude.{ℕ, List, Option, Result, Ok, Err, if◌then◌else◌, ◌==◌, slice_get}
 use Rattle.pm_words.specs.declared.error.ExecError.{ExecError}
 use Rattle.pm_words.specs.declared.error.ExecError.TheVariants as error
@@ -20,7 +20,7 @@ use Rattle.pm_stdproc.specs.declared.procedures.Procedure.{Procedure}
 use Rattle.pm_stdproc.specs.declared.procedures.Procedure.TheVariants.{OnMemory, OnUnits, Exit, Keep, Unkeep}
 use Rattle.pm_stdproc.specs.declared.procedures.Procedure.TheVariants.{Unimplemented}
 
--- the state that the standard procedures use
+-- The part of the machine's state that the standard procedures use.
 pub record Reach : Type 0 where
   pub memory : List ℕ
   pub registers : Registers
@@ -28,7 +28,7 @@ pub record Reach : Type 0 where
   pub rows : List SlotRow
   pub devices : Devices
 
--- the state of a memory, registers, places, rows and devices
+-- The state that has the given memory, registers, segment addresses, rows and devices.
 abbrev pub reach_of : List ℕ → Registers → List (Option SegmentPlace) → List SlotRow → Devices → Reach
 reach_of memory registers places rows devices = record {
   memory = memory;
@@ -41,7 +41,7 @@ reach_of memory registers places rows devices = record {
 abbrev pub devices_reached : Reach → Devices
 devices_reached s = s.devices
 
--- the procedure with this number; the machine does not have procedures with other numbers
+-- The standard procedure with the number `n`. Numbers that are not in this list are `Unimplemented`.
 unfoldable pub procedure_numbered : ℕ → Procedure
 procedure_numbered n =
     if n == 0 then OnMemory memory.CheckIo
@@ -69,7 +69,7 @@ procedure_numbered n =
 abbrev pub reach_parts : Reach → Registers → Parts
 reach_parts s r = record { memory = s.memory; registers = r; places = s.places }
 
--- EXIT. Operands: segment, procedure, the two numbers of the procedure to exit
+-- EXIT. Its operands are the segment number and the procedure number of the procedure to leave.
 unfoldable pub exit_row : Reach → Result Reach ExecError
 exit_row s = do
   procedure ← pop s.memory s.registers.sp
@@ -78,12 +78,12 @@ exit_row s = do
       (record { segment = segment.word; procedure = procedure.word })
   Ok (record s { memory = left.memory; registers = left.registers; places = left.places })
 
--- the state with new memory, registers and places
+-- The state `s` with the memory, registers and segment addresses of `p`.
 abbrev pub with_reach_parts : Reach → Parts → Reach
 with_reach_parts s p = record s { memory = p.memory; registers = p.registers; places = p.places }
 
--- Load a segment. Operand: segment. The program keeps the segment of this slot once more. If it is not loaded, it is
--- loaded from the current disk.
+-- CSP 21: a keep request for a segment. The operand is the slot of the segment. The number of its keep requests
+-- increases by 1. If the segment is not in memory, it is loaded from the disk that is now in its unit.
 unfoldable pub keep_row : Reach → Result Reach ExecError
 keep_row s = do
   segment ← pop s.memory s.registers.sp
@@ -91,7 +91,8 @@ keep_row s = do
   kept ← segment_kept (reach_parts s (record s.registers { sp = segment.above })) segment.word code
   Ok (with_reach_parts s kept)
 
--- Unload a segment. Operand: segment. The program keeps the segment of this slot once less.
+-- CSP 22: withdraws a keep request for a segment. The operand is the slot of the segment. The number of its keep
+-- requests decreases by 1.
 unfoldable pub unkeep_row : Reach → Result Reach ExecError
 unkeep_row s = do
   segment ← pop s.memory s.registers.sp
@@ -105,7 +106,7 @@ on_memory s row = row >>= λ t. Ok (record s { memory = t.0; registers = t.1 })
 abbrev pub on_units : Reach → Result Served Pause → Result Reach Pause
 on_units s row = row >>= λ t. Ok (record s { memory = t.memory; registers = t.registers; devices = t.devices })
 
--- the rule of a standard procedure
+-- The rule of a standard procedure.
 unfoldable pub procedure_row : Procedure → Reach → Result Reach Pause
 procedure_row (OnMemory o) s = or_fails (on_memory s (memory_row o s.memory s.registers))
 procedure_row (OnUnits o) s = on_units s (units_row o (served s.memory s.registers s.devices))

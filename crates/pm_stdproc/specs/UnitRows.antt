@@ -1,4 +1,4 @@
--- The standard procedures that use the units or the clock.
+-- The rules of the standard procedures that use the units or the clock.
 use Rattle.std.specs.Prelude.{ℕ, ◌≡◌, ◌/◌, ◌%◌, ◌&&◌, List, Result, Ok, OnErr}
 use Rattle.pm_words.specs.declared.error.ExecError.{ExecError}
 use Rattle.pm_words.specs.declared.error.ExecError.TheVariants.{InvalidMemory}
@@ -15,7 +15,7 @@ use Rattle.pm_stdproc.specs.declared.procedures.OnUnits.{OnUnits}
 use Rattle.pm_stdproc.specs.declared.procedures.OnUnits.TheVariants.{Read, Write, Time, Busy, Wait, Clear}
 use Rattle.pm_stdproc.specs.declared.rows.Order.{Order}
 
--- the state that such a procedure uses
+-- The part of the machine's state that these procedures use.
 pub record Served : Type 0 where
   pub memory : List ℕ
   pub registers : Registers
@@ -27,8 +27,9 @@ served m r d = record { memory = m; registers = r; devices = d }
 abbrev pub devices_served : Served → Devices
 devices_served s = s.devices
 
--- The result of the rule `row`: the state that its definition gives, or an error and the old state, including the spare
--- capacity of the units. The watch of the memory records each word that is written. MP is unchanged.
+-- A call returns what the rule `row` defines: the new state, or an error. After an error, the state is the old one,
+-- including the spare capacity of the units. The watch of the memory records each word that is written. MP is
+-- unchanged.
 pub record Serves (row : Served → Result Served Pause) {A : Type 0} (result : Result A Trap) (old new : Held)
     (memory changed : Contents) (registers after : Registers) : Type 0 where
   pub gives : Performs devices_served old.room result (served memory.words registers old.devices)
@@ -39,8 +40,8 @@ pub record Serves (row : Served → Result Served Pause) {A : Type 0} (result : 
 
 -- ---- transfers
 
--- Operands of a transfer: unit, byte pointer, count, block, mode. The bytes at the pointer must be in memory for any
--- unit. The count is unsigned. The mode is ignored.
+-- The operands of a UNITREAD or UNITWRITE: unit, byte pointer, count, block and mode. The `count` bytes at the pointer
+-- must be in memory, for any unit. The count is unsigned. The mode is ignored.
 unfoldable pub ordered : List ℕ → ℕ → Result Order ExecError
 ordered m sp = do
   mode ← pop m sp
@@ -56,7 +57,7 @@ ordered m sp = do
         = unit.above;
   })
 
--- the state after a transfer
+-- The state `s` after the transfer `t`. SP is `sp`, the SP after the operands are popped.
 abbrev pub after_transfer : Served → ℕ → Moved → Served
 after_transfer s sp t = record s {
   memory = t.memory;
@@ -64,14 +65,14 @@ after_transfer s sp t = record s {
   devices = t.devices;
 }
 
--- UNITREAD
+-- UNITREAD: reads bytes from a unit to memory.
 unfoldable pub read_row : Served → Result Served Pause
 read_row s = do
   o ← or_fails (ordered s.memory s.registers.sp)
   t ← unit_read (unit_of o.unit) o.transfer s.memory s.devices
   Ok (after_transfer s o.sp t)
 
--- UNITWRITE
+-- UNITWRITE: writes bytes from memory to a unit.
 unfoldable pub write_row : Served → Result Served Pause
 write_row s = do
   o ← or_fails (ordered s.memory s.registers.sp)
@@ -79,7 +80,8 @@ write_row s = do
 
 -- ---- the clock, and queries of a unit
 
--- TIME. Operands: address, address. The first word receives the high word of the clock, then the second its low word.
+-- TIME. Its operands are two addresses. The high word of the clock is written to the first, and then its low word to
+-- the second.
 unfoldable pub time_row : Served → Result Served ExecError
 time_row s = do
   b ← pop s.memory s.registers.sp
@@ -92,20 +94,20 @@ time_row s = do
         { sp = a.above };
   })
 
--- UNITWAIT. Operand: unit
+-- UNITWAIT. Its operand is a unit. Only IORESULT is set.
 unfoldable pub wait_row : Served → Result Served ExecError
 wait_row s = do
   unit ← pop s.memory s.registers.sp
   Ok (record s { registers = record s.registers { sp = unit.above; ioresult = known (unit_of unit.word) } })
 
--- UNITBUSY. Operand: unit. No unit is ever busy, so 0 is pushed.
+-- UNITBUSY. Its operand is a unit. No unit is ever busy, so 0 is pushed.
 unfoldable pub busy_row : Served → Result Served ExecError
 busy_row s = do
   unit ← pop s.memory s.registers.sp
   new ← push s.memory unit.above s.registers.np 0
   Ok (record s { memory = new.0; registers = record s.registers { sp = new.1; ioresult = known (unit_of unit.word) } })
 
--- UNITCLEAR. Operand: unit
+-- UNITCLEAR. Its operand is a unit, which is cleared. This empties the input queue of the console.
 unfoldable pub clear_row : Served → Result Served ExecError
 clear_row s = do
   unit ← pop s.memory s.registers.sp

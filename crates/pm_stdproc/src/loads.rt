@@ -1,4 +1,4 @@
-//! The code of segments on disks.
+//! The code of segments on disks: where each slot has its code, and which code a call loads.
 
 ghost use Rattle.std.specs.Prelude.{◌≡◌, ◌%◌, ◌<◌, All, IfOk, IfSome, length, slice_get};
 ghost use Rattle.pm_stdproc.specs.Loads.{code_lent, code_needed, length_of, slot_code};
@@ -9,18 +9,19 @@ use pm_units::Units;
 use pm_words::ExecError;
 use std::marker::Model;
 
-/// The position of the code of a slot on a disk.
+/// Where a disk has the code of a slot.
 #[derive(Clone, Copy)]
 pub struct SlotRow {
-    /// The number of the unit with the disk.
+    /// The number of the disk unit.
     pub unit: u8,
     /// The block of the disk at which the code begins. It is 0 for a slot with length 0.
     pub block: u16,
-    /// The length of the code in bytes.
+    /// The number of bytes of the code. It is 0 for an empty slot.
     pub length: u16,
 }
 
-/// The position of the code of each of the 16 slots on a disk. Contracts see it as a list. Each length is even.
+/// For each of the 16 slots, where a disk has its code. Contracts describe it as the list of the 16 rows. Each length
+/// is even.
 #[derive(Clone, Copy)]
 pub struct SlotRows {
     pub(crate) rows: [SlotRow; 16],
@@ -40,7 +41,7 @@ impl Model for SlotRows {
 }
 
 impl SlotRows {
-    /// Creates a table from its rows. Each length must be even. This is not checked at run time.
+    /// Creates the value from its 16 rows. Each length must be even; this is not checked at run time.
     pub fn of(rows: [SlotRow; 16]) -> SlotRows
         requires even_rows { All (λ row. row.length % 2 ≡ 0) rows }
         ensures rows { result ≡ rows }
@@ -48,7 +49,7 @@ impl SlotRows {
         SlotRows { rows }
     }
 
-    /// Returns the row of slot `n`, or None if the slot does not exist.
+    /// Returns the row of slot `n`, or `None` if `n` is above 15.
     pub fn get(&self, n: u16) -> Option<SlotRow>
         ensures row { result ≡ slice_get self.now n }
         ensures slot { IfSome result (λ row. n < 16) }
@@ -58,12 +59,12 @@ impl SlotRows {
     }
 }
 
-/// Returns the code to load for slot `n`, from the current disk. Returns None if its segment is already loaded, if the
-/// slot does not exist, or if its length is 0.
+/// Returns the code that must be loaded for slot `n`, from the disk that is now in its unit. Returns `None` if the
+/// segment of the slot is already loaded, if `n` is above 15, or if the slot is empty.
 ///
 /// # Errors
 ///
-/// `SystemIo`: the slot has a length and is not loaded, and the disk does not contain the code.
+/// `SystemIo`: the code must be loaded, but the disk is not mounted or does not contain it.
 #[tactic(auto, unfolding(crate::specs::Loads::slot_code))]
 pub fn slot_code<'a>(
     n: u16,
@@ -86,7 +87,7 @@ pub fn slot_code<'a>(
     }
 }
 
-/// Returns the code that a call loads, from the current disk. Only CXP loads code.
+/// Returns the code that `call` must load, from the disk that is now in the unit. Only CXP loads code.
 ///
 /// # Errors
 ///
@@ -107,7 +108,7 @@ pub fn code_for<'a>(
     }
 }
 
-/// Returns the length of the code of slot `n` in bytes, or 0 if the slot does not exist.
+/// Returns the number of bytes of the code of slot `n`, or 0 if `n` is above 15.
 pub fn length_of(n: u16, rows: &SlotRows) -> u16
     ensures length { result ≡ length_of (slice_get rows.now n) }
     ensures even { result % 2 ≡ 0 }

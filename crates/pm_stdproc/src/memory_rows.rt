@@ -1,4 +1,5 @@
-//! The standard procedures that use only the stack, the heap and the memory.
+//! The standard procedures that use only the stack, the heap and the memory. Each pops its operands from the stack. If
+//! it fails, nothing changes.
 
 ghost use Rattle.std.specs.Prelude.{◌≡◌, ◌-◌, ◌/◌, IfOk};
 ghost use Rattle.pm_words.specs.Watch.{WatchStays};
@@ -14,7 +15,8 @@ use pm_calls::ValidRegisters;
 use pm_words::stack::{load, store};
 use pm_words::{ExecError, Memory, Top};
 
-/// Pops a byte pointer, an index and a base, and returns its address. If it fails, nothing changes.
+/// Pops a byte pointer, which is an index and a base below it, and returns the address to which it points: their sum,
+/// modulo 65,536. If it fails, nothing changes.
 pub fn pop_place(top: &mut Top, memory: &Memory) -> Result<u16, ExecError>
     ensures place { Pops result top.old top.new (pop_place memory.now.words top.old.sp) }
 {
@@ -25,14 +27,14 @@ pub fn pop_place(top: &mut Top, memory: &Memory) -> Result<u16, ExecError>
     Ok(base.wrapping_add(index))
 }
 
-// Whether a word is above 0 as a signed number.
+// Is true if `word` is above 0 as a signed number.
 fn is_positive(word: u16) -> bool
     ensures positive { result ≡ is_positive word }
 {
     word > 0 && word < 32768
 }
 
-// IOCHECK.
+// IOCHECK: fails with `UserIo` if IORESULT is not 0.
 #[tactic(auto, unfolding(crate::specs::MemoryRows::check_io_row), using(pm_words::proofs::WatchLaws::stays))]
 fn check_io(memory: &mut Memory, registers: ValidRegisters) -> Result<ValidRegisters, ExecError>
     ensures row { Changes result memory.old memory.new (check_io_row memory.old.words registers) }
@@ -44,7 +46,7 @@ fn check_io(memory: &mut Memory, registers: ValidRegisters) -> Result<ValidRegis
     Ok(registers)
 }
 
-// NEW.
+// NEW: writes NP to the word at an address, and moves NP up by a number of words.
 #[tactic(auto, unfolding(crate::specs::MemoryRows::new_row), using(pm_words::proofs::WatchLaws::stays))]
 fn new(memory: &mut Memory, registers: ValidRegisters) -> Result<ValidRegisters, ExecError>
     ensures row { Changes result memory.old memory.new (new_row memory.old.words registers) }
@@ -65,7 +67,8 @@ fn new(memory: &mut Memory, registers: ValidRegisters) -> Result<ValidRegisters,
     Ok(registers.with_top(Top::of(stack.sp(), heap as u16)))
 }
 
-// Moves bytes one by one, from the low end.
+// Copies `count` bytes from address `from` to address `to`, one by one, from the low end. Does nothing if `count` is 0
+// or negative.
 #[tactic(auto, using(pm_words::proofs::WatchLaws::stays))]
 fn move_up(memory: &mut Memory, from: u16, to: u16, count: u16) -> Result<(), ExecError>
     ensures moved { Writes result memory.old memory.new (moved moved_up memory.old.words from to count) }
@@ -77,7 +80,8 @@ fn move_up(memory: &mut Memory, from: u16, to: u16, count: u16) -> Result<(), Ex
     }
 }
 
-// Moves bytes one by one, from the high end.
+// Copies `count` bytes from address `from` to address `to`, one by one, from the high end. Does nothing if `count` is 0
+// or negative.
 #[tactic(auto, using(pm_words::proofs::WatchLaws::stays))]
 fn move_down(memory: &mut Memory, from: u16, to: u16, count: u16) -> Result<(), ExecError>
     ensures moved { Writes result memory.old memory.new (moved moved_down memory.old.words from to count) }
@@ -89,7 +93,7 @@ fn move_down(memory: &mut Memory, from: u16, to: u16, count: u16) -> Result<(), 
     }
 }
 
-// MOVELEFT.
+// MOVELEFT: copies bytes, one by one, from the low end.
 #[tactic(auto, unfolding(crate::specs::MemoryRows::move_bytes_row), using(pm_words::proofs::WatchLaws::stays))]
 fn move_left(memory: &mut Memory, registers: ValidRegisters) -> Result<ValidRegisters, ExecError>
     ensures row { Changes result memory.old memory.new
@@ -104,7 +108,7 @@ fn move_left(memory: &mut Memory, registers: ValidRegisters) -> Result<ValidRegi
     Ok(registers.with_top(stack))
 }
 
-// MOVERIGHT.
+// MOVERIGHT: copies bytes, one by one, from the high end.
 #[tactic(auto, unfolding(crate::specs::MemoryRows::move_bytes_row), using(pm_words::proofs::WatchLaws::stays))]
 fn move_right(memory: &mut Memory, registers: ValidRegisters) -> Result<ValidRegisters, ExecError>
     ensures row { Changes result memory.old memory.new
@@ -119,7 +123,7 @@ fn move_right(memory: &mut Memory, registers: ValidRegisters) -> Result<ValidReg
     Ok(registers.with_top(stack))
 }
 
-// Fills a range with one byte.
+// Sets the `count` bytes from address `at` on to `byte`. Does nothing if `count` is 0 or negative.
 #[tactic(auto, using(pm_words::proofs::WatchLaws::stays))]
 fn fill_with(memory: &mut Memory, at: u16, count: u16, byte: u8) -> Result<(), ExecError>
     ensures filled { Writes result memory.old memory.new (filled_with memory.old.words at count byte) }
@@ -131,7 +135,7 @@ fn fill_with(memory: &mut Memory, at: u16, count: u16, byte: u8) -> Result<(), E
     }
 }
 
-// FILLCHAR.
+// FILLCHAR: sets a range of bytes to one character.
 #[tactic(auto, unfolding(crate::specs::MemoryRows::fill_row), using(pm_words::proofs::WatchLaws::stays))]
 fn fill(memory: &mut Memory, registers: ValidRegisters) -> Result<ValidRegisters, ExecError>
     ensures row { Changes result memory.old memory.new (fill_row memory.old.words registers) }
@@ -145,7 +149,8 @@ fn fill(memory: &mut Memory, registers: ValidRegisters) -> Result<ValidRegisters
     Ok(registers.with_top(stack))
 }
 
-// Returns the number of bytes that a scan passes.
+// Returns the number of bytes before the first byte that equals `byte`, or that differs from `byte` if `equal` is
+// false. The scan starts at address `at`. `limit` is signed, and so is the result.
 fn passed_by(memory: &Memory, at: u16, limit: u16, byte: u8, equal: bool) -> Result<u16, ExecError>
     ensures passed { result ≡ passed_by memory.now.words at limit byte equal }
 {
@@ -153,7 +158,7 @@ fn passed_by(memory: &Memory, at: u16, limit: u16, byte: u8, equal: bool) -> Res
     Ok(passed.ok_or(ExecError::InvalidMemory)?.cast_unsigned())
 }
 
-// SCAN.
+// SCAN: searches a byte that equals or differs from a character, and pushes the number of bytes before it.
 #[tactic(auto, unfolding(crate::specs::MemoryRows::scan_row), using(pm_words::proofs::WatchLaws::stays))]
 fn scan(memory: &mut Memory, registers: ValidRegisters) -> Result<ValidRegisters, ExecError>
     ensures row { Changes result memory.old memory.new (scan_row memory.old.words registers) }
@@ -170,7 +175,7 @@ fn scan(memory: &mut Memory, registers: ValidRegisters) -> Result<ValidRegisters
     Ok(registers.with_top(stack))
 }
 
-// MARK.
+// MARK: writes NP to the word at an address.
 #[tactic(auto, unfolding(crate::specs::MemoryRows::mark_row), using(pm_words::proofs::WatchLaws::stays))]
 fn mark(memory: &mut Memory, registers: ValidRegisters) -> Result<ValidRegisters, ExecError>
     ensures row { Changes result memory.old memory.new (mark_row memory.old.words registers) }
@@ -182,7 +187,7 @@ fn mark(memory: &mut Memory, registers: ValidRegisters) -> Result<ValidRegisters
     Ok(registers.with_top(stack))
 }
 
-// RELEASE.
+// RELEASE: sets NP to the word at an address.
 #[tactic(auto, unfolding(crate::specs::MemoryRows::release_row), using(pm_words::proofs::WatchLaws::stays))]
 fn release(memory: &mut Memory, registers: ValidRegisters) -> Result<ValidRegisters, ExecError>
     ensures row { Changes result memory.old memory.new (release_row memory.old.words registers) }
@@ -200,7 +205,7 @@ fn release(memory: &mut Memory, registers: ValidRegisters) -> Result<ValidRegist
     Ok(registers.with_top(Top::of(stack.sp(), np)))
 }
 
-// IORESULT and MEMAVAIL. Pushes a word.
+// Pushes `word`. IORESULT and MEMAVAIL use this function.
 #[tactic(auto, unfolding(crate::specs::MemoryRows::push_row), using(pm_words::proofs::WatchLaws::stays))]
 fn put(
     memory: &mut Memory,
@@ -215,14 +220,14 @@ fn put(
     Ok(registers.with_top(stack))
 }
 
-// MEMAVAIL. Returns the number of words between NP and SP.
+// Returns the number of words between NP and SP, which MEMAVAIL pushes.
 fn free_words(top: Top) -> u16
     ensures words { result ≡ (top.sp - top.np) / 2 }
 {
     (top.sp() - top.np()) / 2
 }
 
-/// Executes one of these procedures and returns the new registers. If it fails, the memory is unchanged.
+/// Executes the standard procedure `procedure` and returns the new registers. If it fails, the memory is unchanged.
 #[tactic(auto, unfolding(crate::specs::MemoryRows::memory_row), using(pm_words::proofs::WatchLaws::stays))]
 pub fn perform(
     memory: &mut Memory,

@@ -1,4 +1,4 @@
-//! The numbers of the standard procedures.
+//! The standard procedures and their numbers.
 
 ghost use Rattle.std.specs.Prelude.{◌≡◌};
 ghost use Rattle.pm_stdproc.specs.Procedures.{procedure_numbered};
@@ -6,65 +6,65 @@ ghost use Rattle.pm_stdproc.specs.Procedures.{procedure_numbered};
 /// A standard procedure that uses only the stack, the heap and the memory.
 #[derive(Clone, Copy)]
 pub enum OnMemory {
-    /// IOCHECK.
+    /// IOCHECK: fails if IORESULT is not 0.
     CheckIo,
-    /// NEW.
+    /// NEW: allocates words on the heap.
     New,
-    /// MOVELEFT.
+    /// MOVELEFT: copies bytes, from the low end.
     MoveLeft,
-    /// MOVERIGHT.
+    /// MOVERIGHT: copies bytes, from the high end.
     MoveRight,
-    /// FILLCHAR.
+    /// FILLCHAR: sets a range of bytes to one character.
     Fill,
-    /// SCAN.
+    /// SCAN: searches a byte.
     Scan,
-    /// MARK.
+    /// MARK: saves NP.
     Mark,
-    /// RELEASE.
+    /// RELEASE: restores NP.
     Release,
-    /// IORESULT.
+    /// IORESULT: pushes the result of the latest input or output.
     IoResult,
-    /// HALT.
+    /// HALT: stops the program with an error.
     Halt,
-    /// MEMAVAIL.
+    /// MEMAVAIL: pushes the number of free words.
     FreeMemory,
 }
 
 /// A standard procedure that uses the units or the clock.
 #[derive(Clone, Copy)]
 pub enum OnUnits {
-    /// UNITREAD.
+    /// UNITREAD: reads from a unit to memory.
     Read,
-    /// UNITWRITE.
+    /// UNITWRITE: writes from memory to a unit.
     Write,
-    /// TIME.
+    /// TIME: reads the clock.
     Time,
-    /// UNITBUSY.
+    /// UNITBUSY: pushes 0, because no unit is ever busy.
     Busy,
-    /// UNITWAIT.
+    /// UNITWAIT: sets only IORESULT, because no unit is ever busy.
     Wait,
-    /// UNITCLEAR.
+    /// UNITCLEAR: clears a unit. This empties the input queue if the unit is the console.
     Clear,
 }
 
 /// A standard procedure.
 #[derive(Clone, Copy)]
 pub enum Procedure {
-    /// A procedure on the memory.
+    /// A standard procedure that uses only the stack, the heap and the memory.
     OnMemory(OnMemory),
-    /// A procedure on the units.
+    /// A standard procedure that uses the units or the clock.
     OnUnits(OnUnits),
-    /// EXIT.
+    /// EXIT: leaves a procedure.
     Exit,
-    /// Loads a segment and keeps it.
+    /// Number 21: requests that a segment remains loaded. Loads it if needed.
     Keep,
-    /// Unloads a segment that the program keeps.
+    /// Number 22: withdraws such a request.
     Unkeep,
-    /// A procedure that this machine does not have.
+    /// A number for which this machine has no procedure.
     Unimplemented,
 }
 
-/// Returns the procedure with this number.
+/// Returns the standard procedure with the number `n`.
 #[tactic(auto, unfolding(crate::specs::Procedures::procedure_numbered))]
 pub fn procedure_of(n: u8) -> Procedure
     ensures procedure { result ≡ procedure_numbered n }

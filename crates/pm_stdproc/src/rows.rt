@@ -1,4 +1,4 @@
-//! The execution of the standard procedures.
+//! The execution of the standard procedures on the whole state. Each pops its operands from the stack.
 
 ghost use Rattle.std.specs.Prelude.{◌≡◌, ◌≢◌, ◌+◌, ◌≤◌, IfOk, List, OnErr};
 ghost use Rattle.pm_words.specs.Watch.{WatchStays};
@@ -19,18 +19,18 @@ use pm_calls::{Frames, ValidRegisters};
 use pm_units::{Transfer, Trap, Units, known, unit_of};
 use pm_words::{ExecError, Memory, Top};
 
-/// The operands of a transfer.
+/// The operands of a UNITREAD or UNITWRITE.
 #[derive(Clone, Copy)]
 pub struct Order {
-    /// The transfer.
+    /// The address, the number of bytes and the block of the transfer.
     pub transfer: Transfer,
     /// The number of the unit.
     pub unit: u16,
-    /// The SP above the operands.
+    /// SP after the operands are popped.
     pub sp: u16,
 }
 
-// Pops the operands of a transfer.
+// Pops the operands of a UNITREAD or UNITWRITE. Fails if the bytes to transfer are not all in memory.
 #[tactic(auto, unfolding(crate::specs::UnitRows::ordered))]
 fn order_of(top: &mut Top, memory: &Memory) -> Result<Order, ExecError>
     ensures order { result ≡ ordered memory.now.words top.old.sp }
@@ -58,7 +58,7 @@ fn order_of(top: &mut Top, memory: &Memory) -> Result<Order, ExecError>
     })
 }
 
-// EXIT.
+// EXIT: leaves the procedure with the popped number in the segment with the popped number.
 #[tactic(auto, unfolding(crate::specs::Procedures::exit_row), using(pm_words::proofs::WatchLaws::stays, pm_calls::proofs::TableLaws::carry))]
 fn exit_row(
     memory: &mut Memory,
@@ -85,7 +85,7 @@ fn exit_row(
     Ok(())
 }
 
-// CSP 22. Unload a segment.
+// CSP 22: withdraws one keep request for a segment.
 #[tactic(auto, unfolding(crate::specs::Procedures::unkeep_row))]
 fn unkeep_row(
     memory: &mut Memory,
@@ -111,17 +111,18 @@ fn unkeep_row(
     Ok(())
 }
 
-/// Executes the standard procedure with number `n`. The IPC must already be that of the next instruction.
+/// Executes the standard procedure with the number `n`. IPC must already be that of the next instruction.
 ///
-/// `rows` has the position of the code of each slot on a disk. `scratch` may contain anything before and after the
-/// call.
+/// `rows` states where the disk has the code of each slot. `scratch` is a second memory for old words; its contents do
+/// not matter before and after the call.
 ///
 /// # Errors
 ///
 /// The memory, the registers, the addresses of segments and the units are unchanged:
 /// - `Exec`: an execution error, as defined by the rule of the procedure.
 /// - `Waiting`: the input queue has fewer bytes than a unit reads.
-/// - `NoMemory`: memory was refused for bytes that are written or echoed and do not fit in the spare capacity.
+/// - `NoMemory`: the procedure writes or echoes more bytes than the spare capacity, and the host has no memory for
+///   them.
 #[tactic(auto, unfolding(crate::specs::Procedures::procedure_row), using(pm_words::proofs::WatchLaws::stays, pm_calls::proofs::TableLaws::carry))]
 pub fn perform(
     units: &mut Units,
@@ -156,7 +157,7 @@ pub fn perform(
     }
 }
 
-// CSP 21. Load a segment.
+// CSP 21: makes a keep request for a segment. Loads the segment if it is not in memory.
 #[tactic(auto, unfolding(crate::specs::Procedures::keep_row), using(pm_words::proofs::WatchLaws::stays))]
 fn keep_row(
     units: &Units,
@@ -185,7 +186,7 @@ fn keep_row(
     Ok(())
 }
 
-// Executes a standard procedure that uses the units or the clock.
+// Executes the standard procedure `procedure`, which uses the units or the clock.
 #[tactic(auto, unfolding(crate::specs::UnitRows::units_row), using(pm_words::proofs::WatchLaws::stays))]
 fn on_units(
     units: &mut Units,
@@ -206,7 +207,7 @@ fn on_units(
     }
 }
 
-// UNITREAD.
+// UNITREAD: reads bytes from a unit to memory, and sets IORESULT.
 #[tactic(auto, unfolding(crate::specs::UnitRows::read_row), using(pm_words::proofs::WatchLaws::stays))]
 fn read_row(
     units: &mut Units,
@@ -223,7 +224,7 @@ fn read_row(
     Ok(())
 }
 
-// UNITWRITE.
+// UNITWRITE: writes bytes from memory to a unit, and sets IORESULT.
 #[tactic(auto, unfolding(crate::specs::UnitRows::write_row), using(pm_words::proofs::WatchLaws::stays))]
 fn write_row(
     units: &mut Units,
@@ -240,7 +241,7 @@ fn write_row(
     Ok(())
 }
 
-// TIME.
+// TIME: writes the two words of the clock to two addresses.
 #[tactic(auto, unfolding(crate::specs::UnitRows::time_row), using(pm_words::proofs::WatchLaws::stays))]
 fn time_row(
     units: &mut Units,
@@ -262,7 +263,7 @@ fn time_row(
     Ok(())
 }
 
-// UNITBUSY.
+// UNITBUSY: pushes 0, because no unit is ever busy, and sets IORESULT.
 #[tactic(auto, unfolding(crate::specs::UnitRows::busy_row), using(pm_words::proofs::WatchLaws::stays))]
 fn busy_row(
     units: &mut Units,
@@ -280,7 +281,7 @@ fn busy_row(
     Ok(())
 }
 
-// UNITWAIT.
+// UNITWAIT: sets IORESULT.
 #[tactic(auto, unfolding(crate::specs::UnitRows::wait_row), using(pm_words::proofs::WatchLaws::stays))]
 fn wait_row(
     units: &mut Units,
@@ -297,7 +298,7 @@ fn wait_row(
     Ok(())
 }
 
-// UNITCLEAR.
+// UNITCLEAR: clears a unit, which empties the input queue of the console, and sets IORESULT.
 #[tactic(auto, unfolding(crate::specs::UnitRows::clear_row), using(pm_words::proofs::WatchLaws::stays))]
 fn clear_row(
     units: &mut Units,

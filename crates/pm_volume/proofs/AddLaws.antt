@@ -19,7 +19,7 @@ empty (x ∷ xs) h = absurd (omega arith)
 
 module _ (image name bytes : List ℕ) (kind date : ℕ) (g : Gap) (v : IsVolume image)
     (p : IsPlaced image name (blocks_for (length bytes)) g) (fit : FitsSlot (new_entry g name kind (length bytes) date)) where
-  -- The files are the old ones and the new one.
+  -- The new list of files is the old list with the new entry inserted.
   pub files-added : files_of (with_file image g.place (new_entry g name kind (length bytes) date) bytes)
       ≡ insert (files_of image) (g.place - 1) (new_entry g name kind (length bytes) date)
   files-added =
@@ -35,7 +35,7 @@ module _ (image name bytes : List ℕ) (kind date : ℕ) (g : Gap) (v : IsVolume
       rw (listed, count) (entries-with_slot d slot g.place whole size r.few r.first r.last
       ∙ ap (insert (files_of image) (g.place - 1)) (entry_of-slot_of e fit))
 
-  -- The file has the given bytes.
+  -- The new file has the bytes that were given.
   pub bytes-added : file_bytes (with_file image g.place (new_entry g name kind (length bytes) date) bytes) (new_entry g name kind (length bytes) date)
       ≡ Some bytes
   unfolding file_bytes

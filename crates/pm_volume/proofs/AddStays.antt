@@ -1,4 +1,4 @@
--- What adding a file keeps.
+-- What remains unchanged when a file is added.
 use Rattle.std.proofs.Common.{◌≡◌, ◌<◌, ◌≤◌, ◌⊎◌, ℕ, ◌+◌, ◌-◌, ◌*◌, ◌/◌, List, [], ◌∷◌, ◌∙◌, inl, inr, length, get_or, refl, arith}
 use Rattle.pm_volume.specs.Changes.{FitsSlot, blocks_for, new_entry, entry_slot, with_directory, with_file, with_slot}
 use Rattle.pm_volume.specs.Directory.{IsVolume, directory_of, file_count}
@@ -14,7 +14,7 @@ use Rattle.pm_volume.proofs.PlaceLaws.{IsPlaced, IsRoomFor, IsRoomFor-placed, ga
 use Rattle.pm_volume.proofs.SlotChanges.{length-with_slot, with_slot_outside}
 use Rattle.pm_volume.proofs.WrittenLaws.{length-directory, shifted}
 
--- The bytes that adding a file changes, except for the second copy.
+-- The bytes that adding a file changes, without those of the second copy of the directory.
 abbrev pub added_first : List ℕ → Gap → Entry → List Span
 added_first directory g e = count_span ∷ slots_span g.place (file_count directory + 2) ∷ blocks_span e ∷ []
 
@@ -60,7 +60,7 @@ module _ (image name bytes : List ℕ) (kind date : ℕ) (g : Gap) (v : IsVolume
             (shifted 1024 16 18 place from out.0) (shifted 1024 (26 * g.place) (26 * (file_count (directory_of image) + 2)) place from out.1.0));
       }
 
-  -- An offset in the blocks of a file is outside the gap.
+  -- If an offset is in the blocks of an existing file, then it is not in the blocks of the new file.
   apart : (e : Entry) (place : ℕ) → (e.end ≤ g.begin) ⊎ (g.end ≤ e.first) → 512 * e.first ≤ place → place < 512 * e.end
       → (place < 512 * g.begin) ⊎ (512 * g.begin + 512 * blocks_for (length bytes) ≤ place)
   apart e place (inl before) from to = inl (omega arith)

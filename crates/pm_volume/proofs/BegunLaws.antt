@@ -1,4 +1,4 @@
--- Directories in which files begin at another block.
+-- Laws of directories in which the block at which files begin is changed.
 use Rattle.byteorder.specs.Endian.{little_bytes}
 use Rattle.std.proofs.Common.{◌≡◌, ◌<◌, ◌≤◌, ◌⊎◌, ltb, false, true, ℕ, ◌+◌, ◌-◌, ◌/◌, List, [], ◌∷◌, ◌∙◌, ◌==◌, leb, ap, inl, inr, length, arith}
 use Rattle.std.proofs.lemmas.Bool.{and_parts, eqb-true, ltb-false, or_parts}
@@ -20,7 +20,7 @@ use Rattle.pm_volume.proofs.OrderLaws.{IsSound-later}
 use Rattle.pm_volume.proofs.SlotChanges.{entries_from-same}
 use Rattle.pm_volume.proofs.WrittenLaws.{get_written_above, get_written_outside, length-directory, length-written, shifted, word_in-above, word_in-written}
 
--- A directory in which files begin at block `past`.
+-- Facts about a directory in which files begin at block `past`.
 module _ (d : List ℕ) (past : ℕ) (whole : length d ≡ 2048) where
   room : 2 + length (little_bytes 2 past) ≤ length d
   room = omega (arith, whole)
@@ -85,14 +85,14 @@ module _ (image : List ℕ) (v : IsVolume image) (past : ℕ) (begins : (past �
       (λ place out from to. get_written_outside (directory_of image) 2 (little_bytes 2 past) (place - 1024) (omega (arith, length-directory image v.long))
       (shifted 1024 2 4 place from out.0))
 
--- The volume after a second copy is added or removed.
+-- Facts about the image `new` after a second copy is added to or removed from the volume `old`.
 pub record Recopied (old new : List ℕ) : Type 0 where
   pub volume : IsVolume new
   pub files : files_of new ≡ files_of old
   pub stay : FilesStay old new
   pub only : ChangesOnly (past_span ∷ second_span ∷ []) old new
 
--- Files of which none begins before block 10 are in order from there on.
+-- If files are in order, and none of them begins before block 10, then they are in order from block 10 on.
 pub order-free : (blocks from : ℕ) (es : List Entry) → AreInOrder blocks from es → list_any (λ (e : Entry). ltb e.first 10) es ≡ false → AreInOrder blocks 10 es
 unfolding AreInOrder
 order-free blocks from [] order free = tt
@@ -103,7 +103,7 @@ order-free blocks from (e ∷ es) order free =
 pub both_stay : (old m new : List ℕ) (es : List Entry) → All (FileStays old m) es → All (FileStays m new) es → All (FileStays old new) es
 both_stay old m new es left right = λ k e h. FileStays-both old m new _ (left k e h) (right k e h)
 
--- If a volume has a second copy, its files begin at block 10.
+-- If a volume has a second copy, then its files begin at block 10.
 pub second_said : (image : List ℕ) → IsVolume image → has_second image ≡ true → files_begin (directory_of image) ≡ 10
 unfolding has_second
 second_said image v said = eqb-true _ _ (and_parts (leb 5120 (length image)) (files_begin (directory_of image) == 10) said).1

@@ -1,4 +1,4 @@
--- Images whose second copy was overwritten with the first.
+-- Laws of images whose second copy of the directory was overwritten with the first.
 use Rattle.std.proofs.Common.{◌≡◌, ◌==◌, ◌<◌, ◌≤◌, ◌⊎◌, ◌&&◌, true, false, leb, ℕ, ◌+◌, ◌-◌, ◌*◌, ◌/◌, List, [], ◌∷◌, ◌∙◌, ap, sym, refl, inl, inr, length}
 use Rattle.std.proofs.Common.{get_or, arith}
 use Rattle.std.proofs.lemmas.Bool.Decides.{nat_tests}
@@ -18,7 +18,7 @@ use Rattle.pm_volume.proofs.StayLaws.{FileStays-from_outside, directory_byte, fi
 use Rattle.pm_volume.proofs.OrderLaws.{IsWithin}
 use Rattle.pm_volume.proofs.WrittenLaws.{get_written_above, get_written_below, get_written_in, length-directory, length-written, same_parts}
 
--- An image of at least ten blocks in which files begin at block 10.
+-- Facts about an image of at least ten blocks in which files begin at block 10.
 module _ (m : List ℕ) (long : 5120 ≤ length m) (ten : files_begin (directory_of m) ≡ 10) where
   size : length (directory_of m) ≡ 2048
   size = length-directory m (omega (arith, long))
@@ -34,7 +34,7 @@ module _ (m : List ℕ) (long : 5120 ≤ length m) (ten : files_begin (directory
   length-ten : length (mirrored m) ≡ length m
   length-ten = ap length mirrored-ten ∙ length-written m 3072 (directory_of m) (omega (arith, size, long))
 
-  -- A byte outside the second copy.
+  -- If an offset is outside the second copy, then `mirrored` does not change its byte.
   outside-ten : (place : ℕ) → (place < 3072) ⊎ (5120 ≤ place) → get_or (mirrored m) place 0 ≡ get_or m place 0
   outside-ten place (inl below) =
       ap (λ (xs : List ℕ). get_or xs place 0) mirrored-ten ∙ get_written_below m 3072 (directory_of m) place (omega (arith, size, long)) below
@@ -55,7 +55,7 @@ module _ (m : List ℕ) (long : 5120 ≤ length m) (ten : files_begin (directory
       ∙ ap (λ (i : ℕ). get_or (directory_of m) i 0) at)
       ∙ take_all 2048 (directory_of m) (omega (arith, size))
 
--- An image in which files begin at block 6.
+-- If files begin at block 6, then `mirrored` does not change the image.
 pub mirrored-six : (m : List ℕ) → files_begin (directory_of m) ≡ 6 → mirrored m ≡ m
 unfolding mirrored has_second
 mirrored-six m six =
@@ -75,7 +75,7 @@ module _ (m : List ℕ) (v : IsVolume m) where
   ten_long : files_begin (directory_of m) ≡ 10 → 5120 ≤ length m
   ten_long ten = omega (arith, room, ten)
 
-  -- Each fact in both cases.
+  -- The facts from here on hold if files begin at block 6, and also if they begin at block 10.
   pub length-mirrored : length (mirrored m) ≡ length m
   length-mirrored = cases v.has_directory.begins
     where
@@ -90,7 +90,7 @@ module _ (m : List ℕ) (v : IsVolume m) where
       cases (inl six) = ap directory_of (mirrored-six m six)
       cases (inr ten) = directory-ten m (ten_long ten) ten
 
-  -- A byte outside the second copy, or in the blocks of files.
+  -- If an offset is before the second copy, or in the blocks of files, then `mirrored` does not change its byte.
   pub mirrored_outside : (place : ℕ) → (place < 3072) ⊎ (512 * files_begin (directory_of m) ≤ place) → get_or (mirrored m) place 0 ≡ get_or m place 0
   mirrored_outside place side = cases v.has_directory.begins side
     where
@@ -110,7 +110,7 @@ module _ (m : List ℕ) (v : IsVolume m) where
   pub files-mirrored : files_of (mirrored m) ≡ files_of m
   files-mirrored = rw directory-mirrored refl
 
-  -- The file of such an entry has the same bytes.
+  -- If a file begins after the copies of the directory, then `mirrored` does not change its bytes.
   pub FileStays-mirrored : (e : Entry) → files_begin (directory_of m) ≤ e.first → e.first ≤ e.end → 512 * e.end ≤ length m
       → (e.first < e.end → e.last_bytes ≤ 512) → FileStays m (mirrored m) e
   FileStays-mirrored e after ordered within one_block =
@@ -131,7 +131,7 @@ module _ (m : List ℕ) (v : IsVolume m) where
 pub FileStays-both : (old m new : List ℕ) (e : Entry) → FileStays old m e → FileStays m new e → FileStays old new e
 FileStays-both old m new e left right = record { bytes = right.bytes ∙ left.bytes; blocks = right.blocks ∙ left.blocks }
 
--- A changed image whose second copy is overwritten with the first.
+-- Facts about a changed image `m` after its second copy is overwritten with its first.
 module _ (spans : List Span) (old m : List ℕ) (u : IsVolume old) (v : IsVolume m) (same : files_begin (directory_of m) ≡ files_begin (directory_of old)) where
   pub CopiesStay-mirrored : CopiesStay old (mirrored m)
   CopiesStay-mirrored = record {
@@ -164,7 +164,8 @@ module _ (spans : List Span) (old m : List ℕ) (u : IsVolume old) (v : IsVolume
       (FileStays-from_outside m (mirrored m) _ (length-mirrored m v) (omega (arith, w.within, u.has_directory.within, u.whole, size)) w.ordered w.one_block
       (λ place from to. mirrored_outside m v place (inr (omega (arith, w.after, from, same)))))
 
--- A change that keeps the word with the block at which files begin keeps this block.
+-- If a change does not write the word with the block at which files begin, then this block is the same after the
+-- change.
 pub begins-stay : (spans : List Span) (old m : List ℕ) → ChangesOnly spans old m → IsOutside 1026 spans → IsOutside 1027 spans
     → files_begin (directory_of m) ≡ files_begin (directory_of old)
 unfolding word_in
@@ -174,7 +175,8 @@ begins-stay spans old m c low high =
     λ place below e. directory_byte m place below ∙ e ∙ sym (directory_byte old place below) in
     rw (at 2 (omega arith) (c.rest 1026 low), at 3 (omega arith) (c.rest 1027 high)) refl
 
--- The volume after a change whose last step overwrites the second copy with the first.
+-- Facts about the image `new` after a change of the volume `old` whose last step overwrites the second copy with the
+-- first: it is a volume, and its list of files is `list`.
 pub record Changed (spans : List Span) (list : List Entry) (old new : List ℕ) : Type 0 where
   pub volume : IsVolume new
   pub files : files_of new ≡ list
@@ -193,7 +195,8 @@ Changed-mirrored spans list old m u v begins listed stay only = record {
   only = ChangesOnly-mirrored spans old m u v begins only;
 }
 
--- Files were moved, and then the second copy was overwritten with the first.
+-- If files were moved, and the second copy is then overwritten with the first, then the files have the same bytes as
+-- before the move.
 pub moved-mirrored : (old m : List ℕ) (es fs : List Entry) → All (FileStays m (mirrored m)) fs → AllZip (MovesFile old m) es fs
     → AllZip (MovesFile old (mirrored m)) es fs
 moved-mirrored old m [] [] stay zip = zip

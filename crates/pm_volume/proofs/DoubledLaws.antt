@@ -1,4 +1,4 @@
--- Adding a second copy.
+-- Laws of adding a second copy of the directory.
 use Rattle.std.proofs.Common.{◌≡◌, ◌<◌, ◌≤◌, ◌⊎◌, false, ℕ, ◌*◌, List, [], ◌∷◌, ◌∙◌, inl, inr, refl, arith, subst}
 use Rattle.std.specs.List.{All}
 use Rattle.pm_volume.specs.Copies.{HasCopies, mirrored}
@@ -11,7 +11,7 @@ use Rattle.pm_volume.specs.declared.copies.Copies.TheVariants.{Same}
 use Rattle.pm_volume.proofs.BegunLaws.{ChangesOnly-begun, IsVolume-begun, FilesStay-begun, Recopied, begins-image, files-image, both_stay, order-free}
 use Rattle.pm_volume.proofs.CopyLaws.{HasCopies-same, IsVolume-mirrored, FilesStay-own, files-mirrored, length-mirrored, mirrored_outside}
 
--- A volume to which a second copy can be added.
+-- Facts about a volume to which a second copy of the directory can be added.
 module _ (image : List ℕ) (v : IsVolume image) (blocks : 10 ≤ block_count (directory_of image)) (free : is_occupied image ≡ false) where
   m : List ℕ
   m = begun_at image 10

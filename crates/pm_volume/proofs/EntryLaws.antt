@@ -1,4 +1,4 @@
--- Reading an entry from its slot returns the entry.
+-- If an entry is written to a slot, then reading the slot returns the entry.
 use Rattle.byteorder.specs.Endian.{little_bytes}
 use Rattle.std.proofs.Math.Nat.{mod-eq_of_lt}
 use Rattle.std.proofs.Common.{◌≡◌, ◌≤◌, ℕ, ◌+◌, ◌-◌, ◌%◌, List, ◌∙◌, ap, refl, length, get_or, slice_range, arith}

@@ -1,4 +1,4 @@
--- A volume with one more file is a volume.
+-- If a file is added to a volume, then the result is a volume.
 use Rattle.std.proofs.Common.{◌≡◌, ◌<◌, ◌≤◌, ◌⊎◌, inl, inr, ℕ, ◌+◌, ◌-◌, ◌*◌, ◌/◌, List, ◌∙◌, ap, refl, length, replicate, get_or, arith}
 use Rattle.std.proofs.lemmas.List.{length-replicate, take_all}
 use Rattle.pm_volume.specs.Changes.{blocks_for, entry_slot, with_directory, with_file, with_slot}
@@ -41,7 +41,7 @@ module _ (image : List ℕ) (n : ℕ) (e : Entry) (bytes d : List ℕ) (long : 3
       ∙ length-written filed (512 * e.first + length bytes) zeros (omega (arith, length-filed, length-zeros, room))
       ∙ length-filed
 
-  -- The directory is the one that was written.
+  -- The directory of the new image is the directory `d` that was written.
   pub directory-with_file : directory_of (with_file image n e bytes) ≡ d
   unfolding filed listed
   directory-with_file =
@@ -61,7 +61,7 @@ module _ (image : List ℕ) (n : ℕ) (e : Entry) (bytes d : List ℕ) (long : 3
     has_directory = rw (directory-with_file, length-with_file) listing;
   }
 
-  -- A byte of the new file.
+  -- Byte `k` of the blocks of the new file is byte `k` of its contents.
   pub file_byte : (k : ℕ) → k < length bytes → get_or (with_file image n e bytes) (512 * e.first + k) 0 ≡ get_or bytes (0 + k) 0
   unfolding filed
   file_byte k below =
@@ -71,7 +71,7 @@ module _ (image : List ℕ) (n : ℕ) (e : Entry) (bytes d : List ℕ) (long : 3
       ∙ get_written_in listed (512 * e.first) bytes (512 * e.first + k) (omega (arith, length-listed, room)) (omega arith) (omega arith)
       ∙ ap (λ (i : ℕ). get_or bytes i 0) at
 
-  -- A byte outside the blocks of the new file.
+  -- A byte outside the blocks of the new file is the byte of the image before the contents were written.
   pub outside_file : (place : ℕ) → (place < 512 * e.first) ⊎ (512 * e.first + 512 * blocks_for (length bytes) ≤ place)
       → get_or (with_file image n e bytes) place 0 ≡ get_or (with_directory image d) place 0
   unfolding filed listed

@@ -1,4 +1,4 @@
--- The free blocks after files were moved together.
+-- The free blocks of a volume after its files are moved together.
 use Rattle.std.proofs.Common.{◌≡◌, ◌==◌, ◌≤◌, ◌<◌, ℕ, ◌+◌, ◌-◌, List, [], ◌∷◌, ◌∙◌, ap, sym, refl, inl, inr, arith}
 use Rattle.std.proofs.Math.Nat.{max-zero, zero-max}
 use Rattle.std.proofs.lemmas.Bool.{cases_Bool, eqb-true}
@@ -17,7 +17,7 @@ use Rattle.pm_volume.specs.declared.gap.Gap.{Gap}
 use Rattle.pm_volume.proofs.KrunchLaws.{gaps-krunched}
 use Rattle.pm_volume.proofs.PackedLaws.{order-packed}
 
--- The number of blocks of all files.
+-- The number of blocks of all files of the list together.
 taken : List Entry → ℕ
 taken [] = 0
 taken (e ∷ es) = (e.end - e.first) + taken es
@@ -29,7 +29,7 @@ taken-packed from (e ∷ es) =
     let to = new_place from e in
     omega (arith, taken-packed (to + (e.end - e.first)) es)
 
--- Each block is free or belongs to a file.
+-- The free blocks, the blocks of the files and the blocks below `from` are together all `blocks` blocks.
 free-taken : (blocks n from : ℕ) (es : List Entry) → AreInOrder blocks from es → from ≤ blocks
     → sum_by gap_size (gaps blocks n from es) + taken es + from ≡ blocks
 unfolding gaps taken AreInOrder
@@ -41,7 +41,8 @@ free-taken blocks n from (e ∷ es) order room =
     let rest = free-taken blocks (n + 1) e.end es order.2 order.1 in
     omega (arith, sum_by-cons gap_size here (gaps blocks (n + 1) e.end es), rest, order.0.after, order.0.ordered)
 
--- If there are no bad blocks, all gaps except the last are empty.
+-- If no file consists of bad blocks, then all gaps except the last are empty after the files are moved together. So the
+-- largest gap has all free blocks.
 one_gap : (a blocks n from : ℕ) (es : List Entry) → All (λ (e : Entry). e.kind ≢ 1) es
     → fold (λ most gap. max most (gap_size gap)) a (gaps blocks n from (packed from es))
     ≡ max a (sum_by gap_size (gaps blocks n from (packed from es)))

@@ -1,4 +1,4 @@
--- Directories with another header.
+-- Laws of directories whose header is changed.
 use Rattle.byteorder.specs.Endian.{little_bytes}
 use Rattle.std.proofs.Common.{◌≡◌, ◌<◌, ◌≤◌, ◌⊎◌, inl, ℕ, ◌+◌, ◌-◌, ◌*◌, ◌/◌, ◌%◌, List, [], ◌∙◌, ap, refl, length, replicate, get_or, arith}
 use Rattle.std.proofs.lemmas.List.{get_or-replicate, length-replicate}
@@ -16,7 +16,7 @@ use Rattle.pm_volume.proofs.WrittenLaws.{get_written_above, get_written_below, g
 use Rattle.pm_volume.proofs.WrittenLaws.{word_in-below, word_in-written}
 
 module _ (d : List ℕ) (i : ℕ) (ys : List ℕ) (room : i + length ys ≤ length d) where
-  -- The entries before and after the bytes that were written.
+  -- An entry before the written bytes is unchanged. The next law states the same for an entry after them.
   pub entry_in-before : (n : ℕ) → 26 * n + 26 ≤ i → entry_in (written d i ys) n ≡ entry_in d n
   entry_in-before n before =
       let same = length-written d i ys room in
@@ -38,7 +38,7 @@ module _ (d : List ℕ) (date : ℕ) (whole : length d ≡ 2048) where
   pub length-dated : length (with_word_in d 20 date) ≡ 2048
   length-dated = length-written d 20 (little_bytes 2 date) room ∙ whole
 
-  -- The files are the same.
+  -- If the last date is changed, the list of files is unchanged.
   pub files-dated : file_count d ≤ 77 → files_in (with_word_in d 20 date) ≡ files_in d
   files-dated few =
       let count : file_count (with_word_in d 20 date) ≡ file_count d = word_in-below d 20 (little_bytes 2 date) 16 room (omega arith) in
@@ -77,7 +77,7 @@ word_in-zeros n place below =
     let high = get_or-replicate {A = ℕ} n (place + 1) 0 0 (omega arith) in
     rw (low, high) refl
 
--- A directory without files.
+-- Facts about a directory without files.
 module _ (past : ℕ) (name : List ℕ) (blocks date : ℕ) (short : length name ≤ 7) where
   field : List ℕ
   field = name_field 7 name
@@ -181,7 +181,8 @@ module _ (past : ℕ) (name : List ℕ) (blocks date : ℕ) (short : length name
     in_order = rw files-new_directory tt;
   }
 
--- The images with a new date and with a new directory, before the second copy is overwritten with the first.
+-- The image with another last date, and the image with a new directory. In both, the second copy is not yet overwritten
+-- with the first.
 abbrev pub dated_first : List ℕ → ℕ → List ℕ
 dated_first image date = with_directory image (with_word_in (directory_of image) 20 date)
 
@@ -191,7 +192,7 @@ zeroed_first image name =
     with_directory image (new_directory (files_begin directory) name (block_count directory) (last_date_of directory))
 
 module _ (image : List ℕ) (v : IsVolume image) where
-  -- A volume with another date.
+  -- If the last date of a volume is changed, then the result is a volume.
   pub IsVolume-dated : (date : ℕ) → IsVolume (dated_first image date)
   IsVolume-dated date =
       let d = directory_of image in
@@ -204,7 +205,7 @@ module _ (image : List ℕ) (v : IsVolume image) where
       let whole = length-directory image v.long in
       ap files_in (directory-with image (with_word_in d 20 date) v.long (length-dated d date whole)) ∙ files-dated d date whole v.has_directory.few
 
-  -- A volume without its files.
+  -- Facts about a volume whose files were all removed.
   module _ (name : List ℕ) (some : 1 ≤ length name) (short : length name ≤ 7) where
     pub IsVolume-zeroed : block_count (directory_of image) < 65536 → IsVolume (zeroed_first image name)
     IsVolume-zeroed fits =
@@ -222,7 +223,7 @@ module _ (image : List ℕ) (v : IsVolume image) where
         (length-new_directory (files_begin d) name (block_count d) (last_date_of d) short))
         ∙ files-new_directory (files_begin d) name (block_count d) (last_date_of d) short
 
--- A new volume.
+-- Facts about a new volume.
 module _ (name : List ℕ) (blocks : ℕ) (some : 1 ≤ length name) (short : length name ≤ 7) (room : 6 ≤ blocks) where
   long : 3072 ≤ length (zeros (512 * blocks))
   long = omega (arith, length-zeros (512 * blocks))

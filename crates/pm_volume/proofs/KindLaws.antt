@@ -1,4 +1,4 @@
--- A directory in which a file has another kind.
+-- Laws of a directory in which the kind of a file is changed.
 use Rattle.std.proofs.Common.{◌≡◌, ◌≤◌, ℕ, ◌+◌, ◌-◌, ◌*◌, ◌/◌, ◌%◌, List, [], ◌∷◌, ◌++◌, ◌∙◌, ap, sym, refl, length, drop, get_or}
 use Rattle.std.proofs.Common.{slice_range, slice_set}
 use Rattle.std.proofs.Common.{arith, length-take, length-drop}

@@ -1,4 +1,4 @@
--- A volume whose files were moved together.
+-- Laws of a volume whose files were moved together.
 use Rattle.std.proofs.Common.{◌≡◌, ◌<◌, ◌≤◌, ℕ, ◌+◌, ◌-◌, ◌*◌, ◌/◌, List, [], ◌∷◌, ◌∙◌, ap, sym, refl, inl, inr, length, drop, get_or, slice_range, Some, arith}
 use Rattle.std.proofs.lemmas.Bool.{cases_lt, le-leb, lt-leb}
 use Rattle.std.proofs.lemmas.List.{get_or-drop, get_or-take}
@@ -25,7 +25,7 @@ use Rattle.pm_volume.proofs.WrittenLaws.{same_parts}
 part_byte : (xs : List ℕ) (begin end k : ℕ) → k < end - begin → get_or (slice_range xs begin end) k 0 ≡ get_or xs (begin + k) 0
 part_byte xs begin end k below = get_or-take (end - begin) (drop begin xs) k 0 below ∙ get_or-drop begin xs k 0
 
--- A file whose blocks were moved has the same bytes.
+-- If the blocks of a file were moved without change, then the moved file has the same bytes.
 MovesFile-from_blocks : (old new : List ℕ) (e : Entry) (to : ℕ) → blocks_of new (moved_entry e to) ≡ blocks_of old e → to ≤ e.first → e.first ≤ e.end
     → (e.first < e.end → e.last_bytes ≤ 512) → 512 * e.end ≤ length old → length new ≡ length old → MovesFile old new e (moved_entry e to)
 unfolding file_bytes
@@ -84,7 +84,7 @@ module _ (image : List ℕ) (v : IsVolume image) (fits : block_count (directory_
   size : length new ≡ length image
   size = moved.rest.size
 
-  -- The header is unchanged.
+  -- The bytes of the header are unchanged.
   header : (k : ℕ) → k < 26 → get_or (directory_of new) k 0 ≡ get_or (directory_of image) k 0
   header k below =
       directory_byte new k (omega arith)
@@ -135,7 +135,7 @@ module _ (image : List ℕ) (v : IsVolume image) (fits : block_count (directory_
   unfolding new
   volume = IsVolume-packed
 
-  -- The files were moved, and the second copy was overwritten with the first.
+  -- If `image` is a volume, then `krunched_image image` satisfies `Krunches`.
   pub Krunches-krunched : Krunches image (krunched_image image)
   unfolding new
   Krunches-krunched =
@@ -146,7 +146,7 @@ module _ (image : List ℕ) (v : IsVolume image) (fits : block_count (directory_
         rest = rw same (ChangesOnly-mirrored (packed_spans 1 (files_of new)) image new v volume begins only);
       }
 
-  -- The gaps after the files were moved.
+  -- The gaps after the files were moved are the gaps between their new entries.
   pub gaps-krunched : gaps_in (directory_of (krunched_image image))
       ≡ gaps (block_count (directory_of image)) 1 (files_begin (directory_of image)) (packed (files_begin (directory_of image)) (files_of image))
   unfolding new

@@ -1,4 +1,4 @@
--- The gap that is found is the lowest one that is large enough.
+-- The gap that is found for a new file is the lowest gap that is large enough.
 use Rattle.std.proofs.Common.{◌≡◌, ◌≤◌, ◌⊎◌, ℕ, ◌+◌, ◌-◌, false, eqb, leb, List, [], ◌∷◌, inl, inr, Some, None, arith, subst}
 use Rattle.std.proofs.lemmas.Bool.{cases_Bool, leb-false}
 use Rattle.std.proofs.lemmas.Bool.Decides.{nat_tests}
@@ -11,7 +11,7 @@ use Rattle.pm_volume.specs.declared.gap.Gap.{Gap}
 some-same : {A : Type 0} (x y : A) → Some x ≡ Some y → x ≡ y
 some-same x y h = cc
 
--- A gap that is too small for `need` blocks.
+-- If a gap does not serve a file of `need` blocks, then no `need` successive blocks are in this gap.
 too-small : (need count : ℕ) (g : Gap) → 1 ≤ need → serves need count g ≡ false → (begin : ℕ) → g.begin ≤ begin → begin + need ≤ g.end → ⊥
 too-small need count g some stops begin after within =
     let more : eqb need 0 ≡ false = grind (arith, nat_tests, some) in
@@ -19,7 +19,7 @@ too-small need count g some stops begin after within =
     let small = leb-false need (g.end - g.begin) room in
     omega (arith, small)
 
--- Before the first gap that is large enough, there are not enough free blocks in a row.
+-- If `need` successive blocks are free, then the gap that is found begins at or before the first of these blocks.
 pub lowest_gap : (need count blocks n from : ℕ) (es : List Entry) (g : Gap) → 1 ≤ need → find (serves need count) (gaps blocks n from es) ≡ Some g
     → (begin : ℕ) → from ≤ begin → begin + need ≤ blocks → All (λ (e : Entry). (e.end ≤ begin) ⊎ (begin + need ≤ e.first)) es → g.begin ≤ begin
 unfolding gaps
@@ -47,7 +47,7 @@ lowest_gap need count blocks n from (e ∷ es) g some found begin after within a
           ]
     ]
 
--- If no gap is large enough, there are nowhere enough free blocks in a row.
+-- If no gap is found, then no `need` successive blocks are free.
 pub no_gap : (need count blocks n from : ℕ) (es : List Entry) → 1 ≤ need → find (serves need count) (gaps blocks n from es) ≡ None
     → (begin : ℕ) → from ≤ begin → begin + need ≤ blocks → All (λ (e : Entry). (e.end ≤ begin) ⊎ (begin + need ≤ e.first)) es → ⊥
 unfolding gaps

@@ -1,4 +1,4 @@
--- The lengths of names and of their fields.
+-- The lengths of names and of the fields that store them.
 use Rattle.std.proofs.Common.{◌≡◌, ◌∙◌, ap, ◌&&◌, ◌≤◌, ℕ, ◌+◌, ◌-◌, true, leb, List, ◌∷◌, ◌++◌, length, map, take, replicate, arith, length-append}
 use Rattle.std.proofs.Math.Seq.{take-append-add}
 use Rattle.std.proofs.lemmas.Bool.{and_parts, leb-true}
@@ -7,7 +7,7 @@ use Rattle.std.specs.Char.{to_ascii_uppercase}
 use Rattle.std.specs.List.{list_all}
 use Rattle.pm_volume.specs.Names.{is_new_name_character, is_new_name, name_field}
 
--- The length of the field of a new name.
+-- If `name` has at most `most` characters, then its field has `most + 1` bytes.
 pub length-name_field : (most : ℕ) (name : List ℕ) → length name ≤ most → length (name_field most name) ≡ most + 1
 unfolding name_field
 length-name_field most name short =
@@ -16,7 +16,8 @@ length-name_field most name short =
     let whole : length (upper ++ zeros) ≡ length upper + length zeros = length-append upper zeros in
     omega (arith, length-map name to_ascii_uppercase, length-replicate {A = ℕ} (most - length name) 0)
 
--- The field of a volume's name is a prefix of the field of a file's name.
+-- If `name` has at most 7 characters, then the first 8 bytes of its field as a file's name are its field as a volume's
+-- name.
 pub cut-name_field : (name : List ℕ) → length name ≤ 7 → take 8 (name_field 15 name) ≡ name_field 7 name
 unfolding name_field
 cut-name_field name short =
@@ -29,7 +30,7 @@ cut-name_field name short =
     ∙ take-append-add upper zeros (7 - count)
     ∙ ap (λ (t : List ℕ). upper ++ t) (take-replicate {X = ℕ} (7 - count) (15 - count) 0 (omega (arith, short))))
 
--- The length of a new name.
+-- If `name` can be a new name, then it has 1 to `most` characters.
 pub length-new_name : (most : ℕ) (name : List ℕ) → is_new_name most name ≡ true → (1 ≤ length name) × (length name ≤ most)
 unfolding is_new_name
 length-new_name most name new =

@@ -1,4 +1,4 @@
--- Moving a file.
+-- Laws of moving one file.
 use Rattle.byteorder.specs.Endian.{little_bytes}
 use Rattle.std.proofs.Common.{◌≡◌, ◌<◌, ◌≤◌, ◌⊎◌, ℕ, ◌+◌, ◌-◌, ◌*◌, List, ◌∙◌, ap, sym, refl, inl, inr, length, drop, take, get_or, slice_range, arith}
 use Rattle.std.proofs.Common.{length-take, length-drop}
@@ -17,7 +17,7 @@ use Rattle.pm_volume.proofs.SlotChanges.{entries_from-same}
 use Rattle.pm_volume.proofs.WrittenLaws.{get_written_in, get_written_outside, length-directory, length-written, same_parts, shifted, word_in-above}
 use Rattle.pm_volume.proofs.WrittenLaws.{word_in-below, word_in-written}
 
--- A directory with other block numbers in a slot.
+-- Facts about a directory in which the block numbers of slot `n` are changed.
 module _ (d : List ℕ) (n first end : ℕ) (whole : length d ≡ 2048) (slot : n ≤ 77) where
   d1 : List ℕ
   d1 = with_word_in d (26 * n) first
@@ -36,7 +36,7 @@ module _ (d : List ℕ) (n first end : ℕ) (whole : length d ≡ 2048) (slot : 
   unfolding with_places d1
   length-with_places = length-written d1 (26 * n + 2) (little_bytes 2 end) r2 ∙ l1
 
-  -- A byte outside these numbers.
+  -- A byte outside the block numbers of slot `n` is unchanged.
   pub with_places_outside : (k : ℕ) → (k < 26 * n) ⊎ (26 * n + 4 ≤ k) → get_or (with_places d n first end) k 0 ≡ get_or d k 0
   unfolding with_places d1
   with_places_outside k (inl below) =
@@ -46,7 +46,7 @@ module _ (d : List ℕ) (n first end : ℕ) (whole : length d ≡ 2048) (slot : 
       get_written_outside d1 (26 * n + 2) (little_bytes 2 end) k r2 (inr (omega arith))
       ∙ get_written_outside d (26 * n) (little_bytes 2 first) k r1 (inr (omega arith))
 
-  -- The entries after the slot.
+  -- The entries after slot `n` are unchanged.
   pub entry-behind : (m : ℕ) → n < m → m ≤ 77 → entry_in (with_places d n first end) m ≡ entry_in d m
   unfolding with_places d1
   entry-behind m behind few =
@@ -102,7 +102,7 @@ module _ (d : List ℕ) (n first end : ℕ) (whole : length d ≡ 2048) (slot : 
       )
       refl
 
--- One file is moved down.
+-- Facts about an image in which the file of entry `e`, in slot `n`, is moved down to block `to`.
 module _ (image : List ℕ) (n : ℕ) (e : Entry) (to : ℕ) (long : 3072 ≤ length image) (slot : n ≤ 77) (past : 6 ≤ to) (down : to ≤ e.first)
     (ordered : e.first ≤ e.end) (within : 512 * e.end ≤ length image) where
   part : List ℕ
@@ -146,7 +146,7 @@ module _ (image : List ℕ) (n : ℕ) (e : Entry) (to : ℕ) (long : 3072 ≤ le
   unfolding with_moved copied part placed
   directory-moved = directory-with copied placed (omega (arith, length-copied, long)) length-placed
 
-  -- A byte outside the block numbers and the new blocks.
+  -- A byte outside the block numbers of slot `n` and outside the new blocks of the file is unchanged.
   pub moved_outside : (place : ℕ) → (place < 1024 + 26 * n) ⊎ (1024 + (26 * n + 4) ≤ place)
       → (place < 512 * to) ⊎ (512 * (to + (e.end - e.first)) ≤ place) → get_or (with_moved image n e to) place 0 ≡ get_or image place 0
   unfolding with_moved copied part placed
@@ -158,7 +158,7 @@ module _ (image : List ℕ) (n : ℕ) (e : Entry) (to : ℕ) (long : 3072 ≤ le
       ∙ ap (λ (xs : List ℕ). get_or xs (place - 1024) 0) (sym directory-copied))
       ∙ get_written_outside image (512 * to) part place room (rw end blocks)
 
-  -- A byte of the new blocks.
+  -- Byte `k` of the new blocks is byte `k` of the old blocks.
   pub moved_inside : (k : ℕ) → k < 512 * e.end - 512 * e.first → get_or (with_moved image n e to) (512 * to + k) 0 ≡ get_or image (512 * e.first + k) 0
   unfolding with_moved copied part placed
   moved_inside k below =
@@ -171,14 +171,14 @@ module _ (image : List ℕ) (n : ℕ) (e : Entry) (to : ℕ) (long : 3072 ≤ le
       block_byte : (xs : List ℕ) (begin count k : ℕ) → k < count → get_or (take count (drop begin xs)) k 0 ≡ get_or xs (begin + k) 0
       block_byte xs begin count k below = get_or-take count (drop begin xs) k 0 below ∙ get_or-drop begin xs k 0
 
-  -- The entries after the slot.
+  -- The entries after slot `n` are unchanged.
   pub entries-behind : (m left : ℕ) → n < m → m + left ≤ 78 →
       entries_from (directory_of (with_moved image n e to)) m left ≡ entries_from (directory_of image) m left
   entries-behind m left behind few =
       rw directory-moved (entries_from-same (with_places (directory_of image) n to (to + (e.end - e.first))) (directory_of image) left m m
       (λ k below. entry-behind (directory_of image) n to (to + (e.end - e.first)) (length-directory image long) slot (m + k) (omega arith) (omega arith)))
 
-  -- The entry of the file.
+  -- The entry in slot `n` is the entry `e` with the new block numbers.
   pub entry-moved : e ≡ entry_in (directory_of image) n → to < 65536 → to + (e.end - e.first) < 65536
       → entry_in (directory_of (with_moved image n e to)) n ≡ moved_entry e to
   entry-moved own fits fits' =

@@ -1,4 +1,4 @@
--- Moving files together, one after the other.
+-- Laws of moving files together, one file after the other.
 use Rattle.std.proofs.Common.{◌≡◌, ◌==◌, ◌<◌, ◌≤◌, ◌⊎◌, ℕ, zero, suc, ◌+◌, ◌-◌, ◌*◌, List, [], ◌∷◌, ◌∙◌, ap, sym, refl, inl, inr, length, get_or, arith}
 use Rattle.std.proofs.lemmas.Bool.{cases_Bool}
 use Rattle.std.specs.List.{AllZip}
@@ -14,7 +14,7 @@ use Rattle.pm_volume.proofs.SlotRemoval.{earlier}
 use Rattle.pm_volume.proofs.PackLaws.{entries-behind, entry-moved, length-moved, moved_inside, moved_outside}
 use Rattle.pm_volume.proofs.WrittenLaws.{length-directory, same_parts}
 
--- The new first block of a file is not before the end of the file before it.
+-- If a file begins at block `from` or later, then its new first block is `from` or later.
 pub new_place-after : (from : ℕ) (e : Entry) → from ≤ e.first → from ≤ new_place from e
 new_place-after from e after = elim (cases_Bool (e.kind == 1)) [
   | inl bad ↦ rw bad after
@@ -27,7 +27,7 @@ new_place-down from e after = elim (cases_Bool (e.kind == 1)) [
   | inr other ↦ rw other after
 ]
 
--- Files in order are in order after they are moved together.
+-- If the entries `es` are in block order, then they are in block order after the files are moved together.
 pub order-packed : (blocks from : ℕ) (es : List Entry) → AreInOrder blocks from es → AreInOrder blocks from (packed from es)
 unfolding AreInOrder packed
 order-packed blocks from [] order = tt
@@ -54,7 +54,7 @@ unfolding packed
 length-packed from [] = refl
 length-packed from (e ∷ es) = ap suc (length-packed (new_place from e + (e.end - e.first)) es)
 
--- The files from slot `n` on, in order: the one in slot `n` and the others.
+-- If the files from slot `n` on are in order, then the entry in slot `n` is valid, and the files after it are in order.
 pub order-more : (d : List ℕ) (blocks from n end : ℕ) → n < end → AreInOrder blocks from (entries_from d n (end - n))
     → IsSoundEntry from (entry_in d n) × ((entry_in d n).end ≤ blocks) × AreInOrder blocks (entry_in d n).end (entries_from d (n + 1) (end - (n + 1)))
 unfolding AreInOrder
@@ -62,7 +62,7 @@ order-more d blocks from n end below order =
     let more = entries_from-more d n end below in
     rw more at order
 
--- Moving the files from slot `n` on is moving the one in slot `n` and then the others.
+-- Moving the files from slot `n` on is the same as moving the file in slot `n` and then the files after it.
 pub packed_image-more : (image : List ℕ) (n from end : ℕ) → n < end → packed_image image n from (end - n)
     ≡ packed_image (with_moved image n (entry_in (directory_of image) n) (new_place from (entry_in (directory_of image) n))) (n + 1)
     (new_place from (entry_in (directory_of image) n) + ((entry_in (directory_of image) n).end - (entry_in (directory_of image) n).first)) (end - (n + 1))
@@ -77,8 +77,8 @@ packed_image-done image n from end over =
     let e : end - n ≡ 0 = omega arith in
     rw e
 
--- The file in slot `n`, if the files from there on are in order: its new block, and the files that are still to be
--- moved.
+-- Facts about the file in slot `n`, if the files from slot `n` on are in order: its new block, and the files after it
+-- that are not yet moved.
 module _ (image : List ℕ) (blocks n from end : ℕ) (long : 3072 ≤ length image) (room : 512 * blocks ≤ length image) (few : end ≤ 78) (below : n < end)
     (past : 6 ≤ from) (order : AreInOrder blocks from (entries_from (directory_of image) n (end - n))) where
   file : Entry
@@ -122,7 +122,8 @@ module _ (image : List ℕ) (blocks n from end : ℕ) (long : 3072 ≤ length im
       (n + 1) (end - (n + 1)) (omega arith) (omega arith) in
       rw same (earlier blocks (to + (f.end - f.first)) f.end _ (omega (arith, file-ordered)) sound.2)
 
--- An offset before the bytes that change.
+-- If the offset `place` is before block `from`, and not in the slots from `n` on, then moving the files `es` does not
+-- change the byte at `place`.
 pub spans-outside : (blocks place n from : ℕ) (es : List Entry) → AreInOrder blocks from es → n + length es ≤ 78
     → (place < 1024 + 26 * n) ⊎ (3072 ≤ place) → place < 512 * from → IsOutside place (packed_spans n (packed from es))
 unfolding AreInOrder packed packed_spans
@@ -148,11 +149,12 @@ spans-outside blocks place n from (e ∷ es) order few side below =
     next place n (inl low) = inl (omega arith)
     next place n (inr high) = inr high
 
--- The blocks of two files are equal.
+-- The blocks of the file `f` in the image `new` have the same bytes as the blocks of the file `e` in the image `old`.
 abbrev pub SameBlocks : List ℕ → List ℕ → Entry → Entry → Type 0
 SameBlocks old new e f = blocks_of new f ≡ blocks_of old e
 
--- Blocks that are equal to those of an image are equal to those of another one that has the same bytes there.
+-- If the files `es` have the same bytes in the images `image` and `image'`, and blocks of `new` equal their blocks in
+-- `image'`, then these blocks of `new` equal their blocks in `image`.
 zip-before : (image image' new : List ℕ) (blocks from : ℕ) (es fs : List Entry) → AreInOrder blocks from es
     → ((e : Entry) → from ≤ e.first → e.first ≤ e.end → e.end ≤ blocks → blocks_of image' e ≡ blocks_of image e)
     → AllZip (SameBlocks image' new) es fs → AllZip (SameBlocks image new) es fs
@@ -165,20 +167,21 @@ zip-before image image' new blocks from (e ∷ es) (f ∷ fs) order same zip = (
   zip-before image image' new blocks e.end es fs order.2 (λ x after. same x (omega (arith, order.0.after, order.0.ordered))) zip.1,
 )
 
--- The image after the files `es` from slot `n` on are moved: their entries `fs`, their blocks, and all other bytes.
+-- The image `new` is the image `old` after the files `es`, from slot `n` on, are moved. `fs` are their new entries.
+-- Their blocks have the same bytes, and no other byte changes.
 pub record Packs (n left : ℕ) (es fs : List Entry) (old new : List ℕ) : Type 0 where
   pub entries : entries_from (directory_of new) n left ≡ fs
   pub blocks : AllZip (SameBlocks old new) es fs
   pub rest : ChangesOnly (packed_spans n fs) old new
 
--- Two directories with the same bytes in a slot have the same entry there.
+-- If two directories have the same bytes in slot `n`, then they have the same entry in slot `n`.
 slot_same : (xs ys : List ℕ) (n : ℕ) → length xs ≡ 2048 → length ys ≡ 2048 → n ≤ 77
     → ((k : ℕ) → k < 26 → get_or xs (26 * n + k) 0 ≡ get_or ys (26 * n + k) 0) → entry_in xs n ≡ entry_in ys n
 slot_same xs ys n left right few same =
     let width : 26 * n + 26 - 26 * n ≡ 26 = omega arith in
     ap entry_of (rw width (same_parts xs ys (26 * n) (26 * n) 26 (omega arith) (omega arith) same))
 
--- The file in slot `n` is moved, and then those after it.
+-- Facts about an image in which the file in slot `n` is moved first, and then the files after it.
 module _ (image : List ℕ) (n left from blocks : ℕ) (es : List Entry) (new : List ℕ) (long : 3072 ≤ length image) (room : 512 * blocks ≤ length image)
     (fits : blocks < 65536) (few : n + suc left ≤ 78) (past : 6 ≤ from) (sound : IsSoundEntry from (entry_in (directory_of image) n))
     (within : (entry_in (directory_of image) n).end ≤ blocks) (order : AreInOrder blocks (entry_in (directory_of image) n).end es)
@@ -233,7 +236,7 @@ module _ (image : List ℕ) (n left from blocks : ℕ) (es : List Entry) (new : 
     whole : length new ≡ length image
     whole = ih.rest.size ∙ size
 
-    -- An offset whose byte later moves do not change.
+    -- If an offset is before the bytes that later moves change, then later moves do not change its byte.
     left_alone : (place : ℕ) → (place < 1024 + 26 * (n + 1)) ⊎ (3072 ≤ place) → place < 512 * end → get_or new place 0 ≡ get_or image' place 0
     left_alone place side below = ih.rest.rest place (spans-outside blocks place (n + 1) end es order' (omega (arith, few, count)) side below)
 
@@ -290,7 +293,7 @@ module _ (image : List ℕ) (n left from blocks : ℕ) (es : List Entry) (new : 
       };
     }
 
--- Moving all files from slot `n` on.
+-- If the files from slot `n` on are in order, then `packed_image` moves them together, as `Packs` states.
 pub packs : (left n from blocks : ℕ) (image : List ℕ) → 3072 ≤ length image → 512 * blocks ≤ length image → blocks < 65536 → n + left ≤ 78 → 6 ≤ from
     → AreInOrder blocks from (entries_from (directory_of image) n left)
     → Packs n left (entries_from (directory_of image) n left) (packed from (entries_from (directory_of image) n left)) image (packed_image image n from left)

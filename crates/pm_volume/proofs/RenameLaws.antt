@@ -1,4 +1,4 @@
--- A directory in which a file has another name.
+-- Laws of a directory in which the name of a file is changed.
 use Rattle.std.proofs.Common.{◌≡◌, ◌<◌, ◌≤◌, ℕ, ◌+◌, ◌-◌, ◌*◌, ◌/◌, List, [], ◌∷◌, ◌++◌, ◌∙◌, ap, sym, refl, length, drop, get_or, slice_range, slice_set}
 use Rattle.std.proofs.Common.{arith, length-take, length-drop}
 use Rattle.std.proofs.Math.Seq.{set-append_seam}
@@ -16,7 +16,7 @@ use Rattle.pm_volume.proofs.NameLaws.{length-name_field}
 use Rattle.pm_volume.proofs.SlotChanges.{entries_from-add, entries_from-same, first_entry, length-entries_from}
 use Rattle.pm_volume.proofs.WrittenLaws.{get_written_below, get_written_in, length-directory, length-written, same_parts, word_in-above, word_in-below}
 
--- A byte and a word of a slot.
+-- Byte `k` of slot `n` is byte `26 * n + k` of the directory. The next law states the same for a word.
 pub slot_byte : (d : List ℕ) (n k : ℕ) → k < 26 → get_or (slice_range d (26 * n) (26 * n + 26)) k 0 ≡ get_or d (26 * n + k) 0
 slot_byte d n k below =
     let size : 26 * n + 26 - 26 * n ≡ 26 = omega arith in
@@ -28,14 +28,15 @@ slot_word d n place below =
     let at : 26 * n + (place + 1) ≡ (26 * n + place) + 1 = omega arith in
     rw (slot_byte d n place (omega arith), slot_byte d n (place + 1) (omega arith), at) refl
 
--- Files in order are in order after one entry is replaced by another that is valid wherever the old one is.
+-- If files are in order, and one entry is replaced by an entry with the same end that is valid wherever the old entry
+-- is, then the files are in order.
 pub order-named : (blocks from : ℕ) (xs : List Entry) (e e' : Entry) (ys : List Entry) → ((f : ℕ) → IsSoundEntry f e → IsSoundEntry f e')
     → e'.end ≡ e.end → AreInOrder blocks from (xs ++ e ∷ ys) → AreInOrder blocks from (xs ++ e' ∷ ys)
 unfolding AreInOrder
 order-named blocks from [] e e' ys sound end order = (sound from order.0, omega (arith, end, order.1), rw end order.2)
 order-named blocks from (x ∷ xs) e e' ys sound end order = (order.0, order.1, order-named blocks x.end xs e e' ys sound end order.2)
 
--- The file in a slot, those before it and those after it.
+-- The list of files is the files before slot `n`, the file in slot `n`, and the files after it.
 pub files-split : (d : List ℕ) (n : ℕ) → 1 ≤ n → n ≤ file_count d
     → files_in d ≡ entries_from d 1 (n - 1) ++ entry_in d n ∷ entries_from d (n + 1) (file_count d - n)
 files-split d n from within =

@@ -1,4 +1,4 @@
--- Laws of the second copy of the directory.
+-- Proofs of the laws that the second copy of the directory saves the files of a volume.
 use Rattle.std.proofs.Common.{◌≡◌, ◌<◌, ◌≤◌, ◌⊎◌, ◌&&◌, ◌==◌, true, leb, ℕ, ◌+◌, ◌-◌, ◌/◌, ◌%◌, List, ◌∙◌, ap, refl, inl, inr, length, get_or, drop, Option}
 use Rattle.std.proofs.Common.{Some, None, Ok, arith, length-take, length-drop}
 use Rattle.std.proofs.lemmas.Bool.{and_parts, cases_lt, eqb-true, le-ltb, leb-true}
@@ -25,7 +25,7 @@ use Rattle.pm_volume.proofs.OrderLaws.{IsWithin, all_within}
 use Rattle.pm_volume.proofs.SingledLaws.{IsVolume-restored}
 use Rattle.pm_volume.proofs.WrittenLaws.{get_written_above, get_written_below, get_written_in, length-directory, length-written, same_parts}
 
--- A second copy that is valid can replace the first.
+-- If an image of whole blocks has a valid second copy, then the second copy can replace the first.
 IsFirstBad-from_good : (image : List ℕ) → length image % 512 ≡ 0 → is_second_good image ≡ true → IsFirstBad image
 unfolding is_second_good
 IsFirstBad-from_good image whole good =
@@ -39,7 +39,7 @@ IsFirstBad-from_good image whole good =
       begins = eqb-true _ _ front.1;
     }
 
--- With a valid second copy, the only possible fault is that of the first copy.
+-- If the second copy is valid, then the image has no fault or the fault `FirstCopyBad`.
 fault-first : (image : List ℕ) → IsFirstBad image → is_second_good image ≡ true
     → (image_fault image ≡ None) ⊎ ((number : ℕ) × (image_fault image ≡ Some (FirstCopyBad number)))
 unfolding image_fault
@@ -56,7 +56,7 @@ repaired-first : (image : List ℕ) (number : ℕ) → image_fault image ≡ Som
 unfolding repaired
 repaired-first image number e = rw e refl
 
--- The second copy written over the first.
+-- Facts about an image in which the second copy is copied over the first.
 module _ (image : List ℕ) (b : IsFirstBad image) where
   size : length (second_of image) ≡ 2048
   size = omega (arith, b.long, length-take 2048 (drop 3072 image), length-drop 3072 image)
@@ -100,7 +100,7 @@ pub good_images_stay : GoodImagesStay
 unfolding repaired
 good_images_stay image v = let none = none-from_volume image v in rw none refl
 
--- A volume with two equal copies, of which the first is overwritten.
+-- Facts about a volume with two equal copies of the directory, after `bytes` overwrite the first copy.
 module _ (image bytes : List ℕ) (v : IsVolume image) (copies : HasCopies image Same) (whole : length bytes ≡ 2048) where
   long : 5120 ≤ length image
   long = omega (arith, copies.0, v.has_directory.holds_directory, v.has_directory.within, v.whole)
@@ -122,7 +122,7 @@ module _ (image bytes : List ℕ) (v : IsVolume image) (copies : HasCopies image
       let ten : (files_begin (directory_of image) == 10) ≡ true = grind (arith, nat_tests, copies.0) in
       rw (bad-size, second-bad, none, far, ten) refl
 
--- Bytes that are overwritten and then restored.
+-- If bytes are overwritten, and then the old bytes are written back, then the list is as before.
 written-again : (xs ys d : List ℕ) (i n : ℕ) → length ys ≡ n → length d ≡ n → i + n ≤ length xs
     → ((k : ℕ) → k < n → get_or d k 0 ≡ get_or xs (i + k) 0) → written (written xs i ys) i d ≡ xs
 written-again xs ys d i n size size' room same =
@@ -139,7 +139,8 @@ written-again xs ys d i n size size' room same =
           ]
     ])
 
--- A volume with two equal copies, of which the first is overwritten.
+-- If the first of two equal copies is overwritten by `bytes`, and then the second is copied over it, then the image is
+-- as before.
 module _ (image bytes : List ℕ) (v : IsVolume image) (copies : HasCopies image Same) (whole : length bytes ≡ 2048) where
   back : restored (written image 1024 bytes) ≡ image
   unfolding restored

@@ -1,4 +1,4 @@
--- Each change of a volume, with the second copy overwritten with the first.
+-- For each change of a volume: facts about the image after its second copy is overwritten with the first.
 use Rattle.std.proofs.Common.{◌≡◌, ◌<◌, ◌≤◌, ℕ, ◌-◌, ◌%◌, List, [], ◌∷◌, ◌∙◌, ap, inl, length, slice_set, Some, arith}
 use Rattle.std.specs.List.{insert, remove}
 use Rattle.pm_volume.specs.Changes.{FitsSlot, blocks_for, new_entry, with_file, with_kind, with_name, without_file}

@@ -1,4 +1,4 @@
--- Removing a second copy, and writing it over the first.
+-- Laws of removing a second copy, and of copying it over the first.
 use Rattle.std.proofs.Common.{◌≡◌, ◌<◌, ◌≤◌, ◌⊎◌, false, true, ℕ, ◌+◌, List, [], ◌∷◌, ◌∙◌, inl, inr, refl, length, drop, get_or, arith, length-take}
 use Rattle.std.proofs.Common.{length-drop}
 use Rattle.std.proofs.lemmas.Bool.{cases_Bool}
@@ -22,7 +22,7 @@ use Rattle.pm_volume.proofs.OrderLaws.{IsWithin}
 use Rattle.pm_volume.proofs.SlotRemoval.{earlier}
 use Rattle.pm_volume.proofs.WrittenLaws.{get_written_above, get_written_below, length-written, same_parts}
 
--- A volume with a second copy, which is removed.
+-- Facts about a volume with a second copy, and about the image after the second copy is removed.
 module _ (image : List ℕ) (v : IsVolume image) (said : has_second image ≡ true) where
   ten : files_begin (directory_of image) ≡ 10
   ten = second_said image v said
@@ -102,7 +102,7 @@ module _ (image : List ℕ) (v : IsVolume image) (said : has_second image ≡ tr
   pub HasCopies-dropped : HasCopies (singled image) Single
   HasCopies-dropped = rw (same, directory) six
 
--- A volume without a second copy.
+-- Facts about a volume without a second copy.
 module _ (image : List ℕ) (v : IsVolume image) (none : has_second image ≡ false) where
   pub singled-none : singled image ≡ image
   unfolding singled
@@ -131,7 +131,7 @@ HasCopies-singled image v = elim (cases_Bool (has_second image)) [
   | inr none ↦ HasCopies-none image v none
 ]
 
--- If only the first copy is damaged, the image with the second copy written over it is a volume.
+-- If only the first copy is damaged, then the image in which the second copy is copied over it is a volume.
 pub IsVolume-restored : (image : List ℕ) → IsFirstBad image → IsVolume (restored image)
 unfolding restored
 IsVolume-restored image b =

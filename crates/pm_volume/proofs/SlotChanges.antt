@@ -1,4 +1,4 @@
--- The entries of a directory with one more slot.
+-- The entries of a directory into which one slot is inserted.
 use Rattle.byteorder.specs.Endian.{little_bytes}
 use Rattle.std.proofs.Common.{◌≡◌, ◌<◌, ◌≤◌, ◌⊎◌, ℕ, zero, suc, ◌+◌, ◌-◌, ◌*◌, List, ◌∷◌, ◌++◌, ◌∙◌, ap, sym, refl, length, take, drop, get_or, arith}
 use Rattle.std.proofs.Common.{length-append, length-take, length-drop, one-add}
@@ -11,7 +11,8 @@ use Rattle.pm_volume.specs.Entries.{AreInOrder, entry_of}
 use Rattle.pm_volume.specs.declared.entry.Entry.{Entry}
 use Rattle.pm_volume.proofs.WrittenLaws.{get_written_above, get_written_below, get_written_in, get_written_outside, length-written, same_parts, word_in-written}
 
--- The entries of one directory are those of another, shifted by a number of slots.
+-- If `left` successive entries of `d` and `d'` are equal, from slot `i` of `d` and slot `j` of `d'` on, then the two
+-- lists of entries are equal.
 pub entries_from-same : (d d' : List ℕ) (left i j : ℕ) → ((k : ℕ) → k < left → entry_in d (i + k) ≡ entry_in d' (j + k))
     → entries_from d i left ≡ entries_from d' j left
 unfolding entries_from
@@ -65,7 +66,7 @@ module _ (d slot : List ℕ) (n : ℕ) (whole : length d ≡ 2048) (size : lengt
           length-drop (26 * n) d,
         )
 
-    -- A byte by its offset.
+    -- A byte before the inserted slot, and after the number of files, is unchanged.
     get_with_slot_below : (k : ℕ) → 18 ≤ k → k < 26 * n → get_or (with_slot d n slot) k 0 ≡ get_or d k 0
     unfolding with_slot moved
     get_with_slot_below k after below =
@@ -98,7 +99,7 @@ module _ (d slot : List ℕ) (n : ℕ) (whole : length d ≡ 2048) (size : lengt
         ∙ get_or-drop (26 * n) d (((26 + k) - 26 * n) - 26) 0
         ∙ ap (λ (i : ℕ). get_or d i 0) at
 
-    -- a byte outside the number of files and the slots that move
+    -- A byte outside the number of files and outside the slots that move is unchanged.
     pub with_slot_outside : (k : ℕ) → (k < 16) ⊎ (18 ≤ k) → (k < 26 * n) ⊎ (26 * (file_count d + 2) ≤ k) → get_or (with_slot d n slot) k 0 ≡ get_or d k 0
     unfolding with_slot moved
     with_slot_outside k count slots =
@@ -139,7 +140,7 @@ module _ (d slot : List ℕ) (n : ℕ) (whole : length d ≡ 2048) (size : lengt
         (λ k small. let place : 26 * (m + 1) + k ≡ 26 + (26 * m + k) = omega arith in
         rw place (get_with_slot_above (26 * m + k) (omega arith) (omega arith)))))
 
-    -- The entries with the new one inserted.
+    -- The new list of entries is the old list with the new entry inserted.
     pub entries-with_slot : entries_from (with_slot d n slot) 1 (file_count d + 1)
         ≡ insert (entries_from d 1 (file_count d)) (n - 1) (entry_of slot)
     entries-with_slot =
@@ -166,7 +167,7 @@ module _ (d slot : List ℕ) (n : ℕ) (whole : length d ≡ 2048) (size : lengt
         ∙ rw (front, one, here, back, old, take_at (entries_from d 1 a) (entries_from d n b) a long, drop_at (entries_from d 1 a) (entries_from d n b) a long)
         refl
 
-    -- the words of the header
+    -- The bytes of the header before the number of files are unchanged.
     header_byte : (k : ℕ) → k < 16 → get_or (with_slot d n slot) k 0 ≡ get_or d k 0
     unfolding with_slot moved
     header_byte k below =
@@ -187,7 +188,7 @@ module _ (d slot : List ℕ) (n : ℕ) (whole : length d ≡ 2048) (size : lengt
         let same = length-written d (26 * n) moved room in
         word_in-written (written d (26 * n) moved) 16 (file_count d + 1) (omega (arith, same, whole)) (omega (arith, free))
 
-    -- A directory with one more file, in order, is a directory.
+    -- If the files with the new one are in order, then the directory with the inserted slot is valid.
     pub IsDirectory-with_slot : (blocks : ℕ) → IsDirectory d blocks
         → AreInOrder (block_count d) (files_begin d) (insert (files_in d) (n - 1) (entry_of slot))
         → IsDirectory (with_slot d n slot) blocks
@@ -208,5 +209,5 @@ module _ (d slot : List ℕ) (n : ℕ) (whole : length d ≡ 2048) (size : lengt
           in_order = rw (total, begins, files) order;
         }
 
--- The number of entries.
+-- The law that computes the length of a list of entries.
 pub ruleset entry_counts = (length-entries_from)

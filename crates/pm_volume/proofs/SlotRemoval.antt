@@ -1,4 +1,4 @@
--- The entries of a directory with one slot less.
+-- The entries of a directory from which one slot is removed.
 use Rattle.byteorder.specs.Endian.{little_bytes}
 use Rattle.std.proofs.Common.{◌≡◌, ◌<◌, ◌≤◌, ◌⊎◌, ℕ, zero, suc, ◌+◌, ◌-◌, ◌*◌, ◌/◌, List, [], ◌∷◌, ◌++◌, ◌∙◌, ap, sym, refl, length, drop, get_or, arith}
 use Rattle.std.proofs.Common.{length-append, length-take, length-drop}
@@ -22,7 +22,7 @@ unfolding AreInOrder
 earlier blocks from later [] h order = tt
 earlier blocks from later (x ∷ xs) h order = (IsSound-later later from x (omega (arith, order.0.after)) order.0, order.1, order.2)
 
--- Files in order are in order after one is removed.
+-- If files are in order, then they are in order after one of them is removed.
 order-remove : (blocks from k : ℕ) (es : List Entry) → AreInOrder blocks from es → AreInOrder blocks from (remove es k)
 unfolding AreInOrder
 order-remove blocks from zero [] order = tt
@@ -65,7 +65,7 @@ module _ (d : List ℕ) (n : ℕ) (whole : length d ≡ 2048) (few : file_count 
   length-without_slot =
       length-written (written d (26 * n) moved) 16 (little_bytes 2 (file_count d - 1)) (omega (arith, length-area)) ∙ length-area
 
-  -- a byte outside the number of files and the slots that move
+  -- A byte outside the number of files and outside the slots that move is unchanged.
   pub without_slot_outside : (k : ℕ) → (k < 16) ⊎ (18 ≤ k) → (k < 26 * n) ⊎ (26 * (file_count d + 1) ≤ k) → get_or (without_slot d n) k 0 ≡ get_or d k 0
   unfolding without_slot moved
   without_slot_outside k count slots =
@@ -124,7 +124,7 @@ module _ (d : List ℕ) (n : ℕ) (whole : length d ≡ 2048) (few : file_count 
       (λ k small. let place : 26 * (m + 1) + k ≡ 26 + (26 * m + k) = omega arith in
       rw place (moved_byte (26 * m + k) (omega arith) (omega arith)))))
 
-  -- the files without the one in the slot
+  -- The new list of files is the old list without the file in slot `n`.
   pub files-without_slot : files_in (without_slot d n) ≡ remove (files_in d) (n - 1)
   files-without_slot =
       let count = file_count d in

@@ -1,4 +1,4 @@
--- The gaps of a directory, one after the other.
+-- A sum or maximum over the gaps of a directory, computed one gap after the other.
 use Rattle.std.proofs.Common.{◌≡◌, ◌<◌, ◌≤◌, ℕ, ◌+◌, ◌-◌, List, arith}
 use Rattle.std.specs.List.{fold}
 use Rattle.pm_volume.specs.Changes.{gaps}
@@ -7,7 +7,7 @@ use Rattle.pm_volume.specs.declared.gap.Gap.{Gap}
 use Rattle.pm_volume.proofs.DirectoryLaws.{entries_from-more}
 
 module _ (f : ℕ → Gap → ℕ) (a : ℕ) (directory : List ℕ) (blocks n from end : ℕ) where
-  -- The gap before the next entry counts, and then those after it.
+  -- The value over all gaps is the value over the gap before the next entry and then over the gaps after that entry.
   pub fold-next : n < end
       → fold f a (gaps blocks n from (entries_from directory n (end - n)))
       ≡ fold f (f a (record { place = n; begin = from; end = (entry_in directory n).first }))
@@ -15,7 +15,7 @@ module _ (f : ℕ → Gap → ℕ) (a : ℕ) (directory : List ℕ) (blocks n fr
   unfolding gaps
   fold-next below = rw (entries_from-more directory n end below)
 
-  -- the gap after the last entry counts
+  -- If no entry is left, the only gap left is the gap after the last entry.
   pub fold-last : end ≤ n
       → fold f a (gaps blocks n from (entries_from directory n (end - n))) ≡ f a (record { place = n; begin = from; end = blocks })
   unfolding gaps entries_from

@@ -1,4 +1,4 @@
--- What a change keeps.
+-- What remains unchanged when a volume is changed.
 use Rattle.byteorder.specs.Endian.{little_bytes}
 use Rattle.std.proofs.Common.{◌≡◌, ◌<◌, ◌≤◌, ◌⊎◌, ℕ, ◌+◌, ◌-◌, ◌*◌, ◌/◌, List, [], ◌∷◌, ◌∙◌, ap, refl, inl, inr, length, drop, get_or, arith, Some}
 use Rattle.std.proofs.lemmas.Bool.{cases_lt, le-leb, lt-leb}
@@ -23,17 +23,18 @@ use Rattle.pm_volume.proofs.SlotRemoval.{length-without_slot, without_slot_outsi
 use Rattle.pm_volume.proofs.WrittenLaws.{get_written_above, get_written_below, get_written_in, get_written_outside, length-directory, length-written}
 use Rattle.pm_volume.proofs.WrittenLaws.{same_parts, shifted}
 
--- a byte of the directory
+-- Byte `k` of the directory is byte `1024 + k` of the image.
 pub directory_byte : (image : List ℕ) (k : ℕ) → k < 2048 → get_or (directory_of image) k 0 ≡ get_or image (1024 + k) 0
 directory_byte image k below = get_or-take 2048 (drop 1024 image) k 0 below ∙ get_or-drop 1024 image k 0
 
--- A byte outside the directory, in an image with another directory.
+-- If the directory is replaced, then each byte outside the directory is unchanged.
 pub with_directory_outside : (image d : List ℕ) (place : ℕ) → 3072 ≤ length image → length d ≡ 2048 → (place < 1024) ⊎ (3072 ≤ place)
     → get_or (with_directory image d) place 0 ≡ get_or image place 0
 with_directory_outside image d place long size (inl below) = get_written_below image 1024 d place (omega arith) below
 with_directory_outside image d place long size (inr above) = get_written_above image 1024 d place (omega arith) (omega arith)
 
--- An image with another directory has the same byte wherever the directories have.
+-- If the directory is replaced by `d`, then the byte at `place` is unchanged if `d` has the same byte there as the old
+-- directory, or if `place` is outside the directory.
 pub with_directory_same : (image d : List ℕ) (place : ℕ) → 3072 ≤ length image → length d ≡ 2048
     → (1024 ≤ place → place < 3072 → get_or d (place - 1024) 0 ≡ get_or (directory_of image) (place - 1024) 0)
     → get_or (with_directory image d) place 0 ≡ get_or image place 0
@@ -52,7 +53,7 @@ with_directory_same image d place long size same = elim (cases_lt place 1024) [
 pub length-with_directory : (image d : List ℕ) → 3072 ≤ length image → length d ≡ 2048 → length (with_directory image d) ≡ length image
 length-with_directory image d long size = length-written image 1024 d (omega arith)
 
--- A file keeps its bytes if no byte of its blocks changes.
+-- If no byte of the blocks of a file changes, then the file has the same bytes.
 pub FileStays-from_outside : (old new : List ℕ) (e : Entry) → length new ≡ length old → 512 * e.end ≤ length old
     → e.first ≤ e.end → (e.first < e.end → e.last_bytes ≤ 512)
     → ((place : ℕ) → 512 * e.first ≤ place → place < 512 * e.end → get_or new place 0 ≡ get_or old place 0)
@@ -73,11 +74,11 @@ FileStays-from_outside old new e size within ordered one_block same = record {
       (λ k below. same (512 * e.first + k) (omega arith) (omega arith));
 }
 
--- The blocks of the files of a volume are within the volume.
+-- The blocks of each file of a volume are within the volume, and after the copies of the directory.
 pub files_within : (image : List ℕ) → IsVolume image → All (IsWithin (files_begin (directory_of image)) (block_count (directory_of image))) (files_of image)
 files_within image v = all_within (block_count (directory_of image)) (files_begin (directory_of image)) (files_of image) v.has_directory.in_order
 
--- All files keep their bytes if only the directory changes.
+-- If only the directory of a volume changes, then all files have the same bytes.
 pub FilesStay-with_directory : (image d : List ℕ) → IsVolume image → length d ≡ 2048 → FilesStay image (with_directory image d)
 FilesStay-with_directory image d v size =
     All-weaker (IsWithin (files_begin (directory_of image)) (block_count (directory_of image))) (FileStays image (with_directory image d))
@@ -88,7 +89,8 @@ FilesStay-with_directory image d v size =
     (inr (omega (arith, w.after, past_directory (directory_of image) (length image / 512) v.has_directory)))))
     (files_of image) (files_within image v)
 
--- The bytes that another directory changes.
+-- If the directory is replaced by `d`, and `d` differs from the old directory only in `spans`, then the image changes
+-- only in `spans`.
 pub ChangesOnly-with_directory : (image d : List ℕ) (spans : List Span) → 3072 ≤ length image → length d ≡ 2048
     → ((place : ℕ) → IsOutside place spans → 1024 ≤ place → place < 3072 → get_or d (place - 1024) 0 ≡ get_or (directory_of image) (place - 1024) 0)
     → ChangesOnly spans image (with_directory image d)
@@ -97,12 +99,12 @@ ChangesOnly-with_directory image d spans long size same = record {
   rest = λ place out. with_directory_same image d place long size (same place out);
 }
 
--- The bytes that removing a file changes, except for the second copy.
+-- The bytes that removing a file changes, without those of the second copy of the directory.
 abbrev pub removed_first : List ℕ → ℕ → List Span
 removed_first directory n = count_span ∷ slots_span n (file_count directory + 1) ∷ []
 
 module _ (image : List ℕ) (v : IsVolume image) where
-  -- a date
+  -- A new last date changes only the word of the last date.
   pub ChangesOnly-dated : (date : ℕ) → ChangesOnly (date_span ∷ []) image (dated_first image date)
   ChangesOnly-dated date =
       let d = directory_of image in
@@ -110,7 +112,7 @@ module _ (image : List ℕ) (v : IsVolume image) where
       ChangesOnly-with_directory image (with_word_in d 20 date) (date_span ∷ []) v.long (length-dated d date whole)
       (λ place out from to. get_written_outside d 20 (little_bytes 2 date) (place - 1024) (omega arith) (shifted 1024 20 22 place from out.0))
 
-  -- a new directory
+  -- A new directory without files changes only the bytes of the directory.
   pub ChangesOnly-zeroed : (name : List ℕ) → length name ≤ 7 → ChangesOnly (directory_span ∷ []) image (zeroed_first image name)
   ChangesOnly-zeroed name short =
       let d = directory_of image in
@@ -123,7 +125,7 @@ module _ (image : List ℕ) (v : IsVolume image) where
       nowhere place from to (inr above) = absurd (omega arith)
 
   module _ (n : ℕ) (from : 1 ≤ n) (to : n ≤ file_count (directory_of image)) where
-    -- another name
+    -- Facts about the change of a file's name.
     module _ (name : List ℕ) (short : length name ≤ 15) where
       length-with_name : length (written (directory_of image) (26 * n + 6) (name_field 15 name)) ≡ 2048
       length-with_name = length-named (directory_of image) name n (length-directory image v.long) short from (omega (arith, v.has_directory.few))
@@ -142,7 +144,7 @@ module _ (image : List ℕ) (v : IsVolume image) where
       pub FilesStay-named : FilesStay image (with_name image n name)
       FilesStay-named = FilesStay-with_directory image (written (directory_of image) (26 * n + 6) (name_field 15 name)) v length-with_name
 
-    -- another kind
+    -- Facts about the change of a file's kind.
     module _ (kind : ℕ) where
       length-with_kind : length (written (directory_of image) (26 * n + 4) (kind_byte (get_or (directory_of image) (26 * n + 4) 0) kind ∷ [])) ≡ 2048
       length-with_kind = length-kinded (directory_of image) n kind (length-directory image v.long) from (omega (arith, v.has_directory.few))
@@ -161,7 +163,7 @@ module _ (image : List ℕ) (v : IsVolume image) where
           FilesStay-with_directory image (written (directory_of image) (26 * n + 4) (kind_byte (get_or (directory_of image) (26 * n + 4) 0) kind ∷ [])) v
           length-with_kind
 
-    -- a removed file
+    -- Removing a file changes only the bytes of `removed_first`.
     pub ChangesOnly-removed : ChangesOnly (removed_first (directory_of image) n) image (without_file image n)
     ChangesOnly-removed =
         let d = directory_of image in

@@ -1,4 +1,4 @@
--- Bytes written in a list.
+-- Laws of bytes that are written to a list (`written`).
 use Rattle.byteorder.specs.Endian.{little_bytes}
 use Rattle.std.proofs.Math.Nat.{mod-eq_of_lt}
 use Rattle.std.proofs.Common.{◌≡◌, ◌<◌, ◌≤◌, ◌⊎◌, inl, inr, ℕ, ◌+◌, ◌-◌, ◌*◌, ◌/◌, ◌%◌, List, [], ◌∷◌, ◌++◌, ◌∙◌, ap, sym, refl, length, map, set, take, drop}
@@ -22,7 +22,7 @@ length-written xs i ys fits =
           (i + length ys) xs,
     )
 
--- An item before those that were written.
+-- An item before the written items is unchanged.
 pub get_written_below : (xs : List ℕ) (i : ℕ) (ys : List ℕ) (k : ℕ) → i + length ys ≤ length xs → k < i
     → get_or (written xs i ys) k 0 ≡ get_or xs k 0
 unfolding written
@@ -30,7 +30,7 @@ get_written_below xs i ys k fits below =
     let front : length (take i xs) ≡ i = length-take-le i xs (omega arith) in
     get_or_append_left (take i xs) (ys ++ drop (i + length ys) xs) 0 k (omega arith) ∙ get_or-take i xs k 0 below
 
--- An item among those that were written.
+-- An item among the written items is the item of `ys` that was written there.
 pub get_written_in : (xs : List ℕ) (i : ℕ) (ys : List ℕ) (k : ℕ) → i + length ys ≤ length xs → i ≤ k → k < i + length ys
     → get_or (written xs i ys) k 0 ≡ get_or ys (k - i) 0
 unfolding written
@@ -39,7 +39,7 @@ get_written_in xs i ys k fits from below =
     get_or-append_right (take i xs) (ys ++ drop (i + length ys) xs) i k 0 front from
     ∙ get_or_append_left ys (drop (i + length ys) xs) 0 (k - i) (omega arith)
 
--- An item after those that were written.
+-- An item after the written items is unchanged.
 pub get_written_above : (xs : List ℕ) (i : ℕ) (ys : List ℕ) (k : ℕ) → i + length ys ≤ length xs → i + length ys ≤ k
     → get_or (written xs i ys) k 0 ≡ get_or xs k 0
 unfolding written
@@ -51,18 +51,19 @@ get_written_above xs i ys k fits from =
     ∙ get_or-drop (i + length ys) xs ((k - i) - length ys) 0
     ∙ ap (λ (n : ℕ). get_or xs n 0) place
 
--- An item outside those that were written.
+-- An item before or after the written items is unchanged.
 pub get_written_outside : (xs : List ℕ) (i : ℕ) (ys : List ℕ) (k : ℕ) → i + length ys ≤ length xs → (k < i) ⊎ (i + length ys ≤ k)
     → get_or (written xs i ys) k 0 ≡ get_or xs k 0
 get_written_outside xs i ys k fits (inl below) = get_written_below xs i ys k fits below
 get_written_outside xs i ys k fits (inr above) = get_written_above xs i ys k fits above
 
--- An offset outside a part, relative to another offset.
+-- If an offset is outside a range of a list, then it is outside this range also when all offsets are counted from
+-- `from`.
 pub shifted : (from a b place : ℕ) → from ≤ place → (place < from + a) ⊎ (from + b ≤ place) → (place - from < a) ⊎ (b ≤ place - from)
 shifted from a b place after (inl below) = inl (omega arith)
 shifted from a b place after (inr above) = inr (omega arith)
 
--- Two parts of lists that are equal item by item.
+-- If two ranges of `n` items are equal item by item, then they are equal as lists.
 pub same_parts : (xs ys : List ℕ) (a b n : ℕ) → a + n ≤ length xs → b + n ≤ length ys
     → ((k : ℕ) → k < n → get_or xs (a + k) 0 ≡ get_or ys (b + k) 0) → take n (drop a xs) ≡ take n (drop b ys)
 same_parts xs ys a b n left right same =
@@ -81,7 +82,7 @@ two_bytes w fits =
     let high : w / 256 % 256 ≡ w / 256 = mod-eq_of_lt (omega arith) in
     rw high (omega arith)
 
--- a word that was written
+-- If a word is written at an offset, then reading the word at this offset returns the written word.
 pub word_in-written : (xs : List ℕ) (i w : ℕ) → i + 2 ≤ length xs → w < 65536 → word_in (written xs i (little_bytes 2 w)) i ≡ w
 unfolding word_in
 word_in-written xs i w room fits =
@@ -91,7 +92,8 @@ word_in-written xs i w room fits =
     let first : (i + 1) - i ≡ 1 = omega arith in
     rw (low, high, zeroth, first) (two_bytes w fits)
 
--- A word before the bytes that were written, and one after them.
+-- The law `word_in-below`: a word before the written bytes is unchanged. The next law states the same for a word after
+-- them.
 pub word_in-below : (xs : List ℕ) (i : ℕ) (ys : List ℕ) (place : ℕ) → i + length ys ≤ length xs → place + 2 ≤ i
     → word_in (written xs i ys) place ≡ word_in xs place
 unfolding word_in
@@ -107,7 +109,8 @@ word_in-above xs i ys place fits above =
 pub length-directory : (image : List ℕ) → 3072 ≤ length image → length (directory_of image) ≡ 2048
 length-directory image long = omega (arith, length-take 2048 (drop 1024 image), length-drop 1024 image)
 
--- One more character of a name, in upper case.
+-- If `i` characters of a name were written to a field in upper case, and one more is written, then `i + 1` characters
+-- were written.
 pub raised_more : (name field : List ℕ) (i : ℕ) → i < length name → i < length field
     → set (map to_ascii_uppercase (take i name) ++ drop i field) i (to_ascii_uppercase (get_or name i 0))
     ≡ map to_ascii_uppercase (take (i + 1) name) ++ drop (i + 1) field
@@ -119,7 +122,8 @@ raised_more name field i below room =
     set-append_right front (drop i field) i i c long (omega arith)
     ∙ rw (none, drop_more field i 0 room, map_more to_ascii_uppercase name i 0 below) (sym (append_assoc front (c ∷ []) (drop (i + 1) field)))
 
--- A part that is copied to another offset, item by item.
+-- If `ys` has the `n` items of `xs` from `from` on at `to`, and all other items equal those of `xs`, then `ys` is `xs`
+-- with these `n` items written at `to`.
 pub copied_part : (xs ys : List ℕ) (from to n : ℕ) → length ys ≡ length xs → from + n ≤ length xs → to + n ≤ length xs
     → ((k : ℕ) → to ≤ k → k < to + n → get_or ys k 0 ≡ get_or xs (from + (k - to)) 0)
     → ((k : ℕ) → k < to → get_or ys k 0 ≡ get_or xs k 0) → ((k : ℕ) → to + n ≤ k → get_or ys k 0 ≡ get_or xs k 0)

@@ -1,4 +1,4 @@
--- The numbers of the faults.
+-- The numbers of the faults of volumes.
 use Rattle.std.specs.Prelude.{ℕ, Option, Some, None}
 use Rattle.pm_volume.specs.declared.fault.VolumeFault.{VolumeFault}
 use Rattle.pm_volume.specs.declared.fault.VolumeFault.TheVariants.{NotBlocks, TooShort, BadHeader, BadEntry}
@@ -6,7 +6,7 @@ use Rattle.pm_volume.specs.declared.fault.VolumeFault.TheVariants.{TooManyFiles,
 use Rattle.pm_volume.specs.declared.fault.VolumeFault.TheVariants.{Duplicate, BadName, NoFile, NoMemory, FirstCopyBad}
 use Rattle.pm_volume.specs.declared.fault.VolumeFault.TheVariants.{Occupied}
 
--- the number of a fault
+-- The number of a fault, as the program prints it.
 abbrev pub number_of : VolumeFault → ℕ
 number_of NotBlocks = 1
 number_of TooShort = 2
@@ -23,7 +23,8 @@ number_of NoMemory = 12
 number_of (FirstCopyBad n) = 13
 number_of Occupied = 14
 
--- the number of its own that a fault has: an entry's, or the fault of the first copy
+-- The second number of a fault that has one: the number of the damaged entry, or the number of the fault of the first
+-- copy.
 abbrev pub detail_of : VolumeFault → Option ℕ
 detail_of NotBlocks = None
 detail_of TooShort = None

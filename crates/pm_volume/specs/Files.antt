@@ -1,4 +1,4 @@
--- The files of an image: their blocks and bytes.
+-- The files of an image: their entries and their bytes.
 use Rattle.std.specs.Prelude.{Bool, nat_le, ℕ, ◌+◌, ◌-◌, ◌*◌, List, [], length, slice_range, Option, Some, None}
 use Rattle.std.specs.Prelude.{if◌then◌else◌}
 use Rattle.std.specs.List.{find}
@@ -7,20 +7,20 @@ use Rattle.pm_volume.specs.Names.{characters_of, is_same_name}
 use Rattle.pm_volume.specs.declared.entry.Entry.{Entry}
 use Rattle.pm_bytes.specs.declared.blocks.TheConstants.{BLOCK}
 
--- The entries of the files of an image, in block order.
+-- The entries of the files of `image`, in the order of their slots.
 abbrev pub files_of : List ℕ → List Entry
 files_of image = files_in (directory_of image)
 
--- Whether an entry has this name.
+-- Is true if the entry `e` has the name `name`. Case is ignored.
 abbrev pub is_named : List ℕ → Entry → Bool
 is_named name e = is_same_name (characters_of e.name) name
 
--- The entry of the first file with this name.
+-- The entry of the first file with the name `name`, or `None`.
 abbrev pub file_named : List ℕ → List ℕ → Option Entry
 file_named image name = find (is_named name) (files_of image)
 
--- The bytes of a file: its blocks, of which the last is cut. `None` if these bytes are not all in the image. A file
--- without blocks is empty.
+-- The bytes of the file of entry `e`: its blocks, but only the first `last_bytes` bytes of the last block. A file
+-- without blocks has no bytes. The result is `None` if the bytes are not all in `image`.
 unfoldable pub file_bytes : List ℕ → Entry → Option (List ℕ)
 file_bytes image e =
     let end = BLOCK * (e.end - 1) + e.last_bytes in

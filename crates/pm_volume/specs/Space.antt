@@ -1,4 +1,4 @@
--- The name and the free space of a volume.
+-- The name of a volume, its gaps, and its free space.
 use Rattle.std.specs.Prelude.{ℕ, ◌+◌, ◌-◌, List, max, slice_index, slice_range}
 use Rattle.std.specs.List.{fold, sum_by}
 use Rattle.pm_volume.specs.Changes.{gaps}
@@ -6,24 +6,24 @@ use Rattle.pm_volume.specs.Directory.{block_count, directory_of, files_begin, fi
 use Rattle.pm_volume.specs.declared.gap.Gap.{Gap}
 use Rattle.pm_volume.specs.declared.fields.TheConstants.{HEADER_NAME}
 
--- The characters of the volume's name.
+-- The characters of the name of the volume in `image`.
 abbrev pub volume_name : List ℕ → List ℕ
 volume_name image =
     slice_range (directory_of image) (HEADER_NAME + 1) (HEADER_NAME + 1 + slice_index (directory_of image) HEADER_NAME)
 
--- The number of blocks of a gap.
+-- The number of blocks of `gap`.
 abbrev pub gap_size : Gap → ℕ
 gap_size gap = gap.end - gap.begin
 
--- All gaps of a directory, the lowest first.
+-- All gaps of the volume with the directory `directory`, the lowest first.
 abbrev pub gaps_in : List ℕ → List Gap
 gaps_in directory = gaps (block_count directory) 1 (files_begin directory) (files_in directory)
 
--- The number of blocks of all gaps.
+-- The number of free blocks: the sum of the sizes of all gaps.
 abbrev pub free_in : List ℕ → ℕ
 free_in directory = sum_by gap_size (gaps_in directory)
 
--- The number of blocks of the largest gap, 0 if no block is free.
+-- The number of blocks of the largest gap. It is 0 if no block is free.
 abbrev pub largest_in : List ℕ → ℕ
 largest_in directory = fold (λ most gap. max most (gap_size gap)) 0 (gaps_in directory)
 

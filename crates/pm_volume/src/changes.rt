@@ -1,4 +1,4 @@
-//! Changes of an image: files added, removed and renamed, and new headers.
+//! Changes of an image: adding, removing and renaming files, and writing the header.
 
 ghost use Rattle.std.specs.Prelude.{◌≡◌, ◌+◌, ◌<◌, ◌≤◌, ◌*◌, length};
 ghost use Rattle.pm_volume.specs.Changes.{FitsSlot, blocks_for, new_entry, with_directory, with_file, with_kind};
@@ -23,7 +23,7 @@ use crate::gap::Gap;
 use crate::slots::{insert_slot, remove_slot};
 use pm_bytes::{BLOCK, blocks_for, clear, clear_all, set_bytes, set_word};
 
-// Returns the entry of a new file of `size` bytes in a gap.
+// Returns the entry of a new file of `size` bytes, which is put into `gap`.
 pub(crate) fn new_entry(gap: Gap, name: &str, kind: u8, size: usize, date: u16) -> Entry
     requires named { length name.now ≤ LONGEST_NAME }
     requires room { gap.begin + blocks_for size ≤ gap.end }
@@ -41,7 +41,8 @@ pub(crate) fn new_entry(gap: Gap, name: &str, kind: u8, size: usize, date: u16) 
     }
 }
 
-// Writes the entry of a file in slot `n`, its bytes, and zeros up to the end of its last block.
+// Adds a file to `image`: inserts `entry` as slot `n` of the directory, and writes `bytes` to the blocks of `entry`.
+// The rest of the last block is set to zero. A second copy of the directory is updated.
 #[tactic(auto, unfolding(crate::specs::Changes::with_file))]
 pub(crate) fn put_file(image: &mut [u8], n: u16, entry: &Entry, bytes: &[u8])
     requires whole { DIRECTORY_END ≤ length image.old }
@@ -61,7 +62,8 @@ pub(crate) fn put_file(image: &mut [u8], n: u16, entry: &Entry, bytes: &[u8])
     mirror(image);
 }
 
-// Removes the entry of the file in `slot`. Its blocks keep their bytes.
+// Removes the entry in `slot` from the directory of `image`. The blocks of the file keep their bytes. A second copy of
+// the directory is updated.
 pub(crate) fn take_file(image: &mut [u8], slot: u16)
     requires whole { DIRECTORY_END ≤ length image.old }
     requires few { file_count (directory_of image.old) ≤ MOST_FILES }
@@ -73,7 +75,7 @@ pub(crate) fn take_file(image: &mut [u8], slot: u16)
     mirror(image);
 }
 
-// Renames the file in `slot`.
+// Sets the name of the file in `slot` to `name`. A second copy of the directory is updated.
 pub(crate) fn name_file(image: &mut [u8], slot: u16, name: &[u8])
     requires whole { DIRECTORY_END ≤ length image.old }
     requires short { length name.now ≤ LONGEST_NAME }
@@ -87,7 +89,7 @@ pub(crate) fn name_file(image: &mut [u8], slot: u16, name: &[u8])
     mirror(image);
 }
 
-// Sets the kind of the file in `slot`.
+// Sets the kind of the file in `slot` to the low four bits of `kind`. A second copy of the directory is updated.
 pub(crate) fn type_file(image: &mut [u8], slot: u16, kind: u8)
     requires whole { DIRECTORY_END ≤ length image.old }
     requires from { 1 ≤ slot }
@@ -101,7 +103,7 @@ pub(crate) fn type_file(image: &mut [u8], slot: u16, kind: u8)
     mirror(image);
 }
 
-// Sets the last date of the volume.
+// Sets the last date of the volume to `date`. A second copy of the directory is updated.
 pub(crate) fn date_volume(image: &mut [u8], date: u16)
     requires whole { DIRECTORY_END ≤ length image.old }
     ensures image { image.new
@@ -111,7 +113,8 @@ pub(crate) fn date_volume(image: &mut [u8], date: u16)
     mirror(image);
 }
 
-// Writes a directory without files.
+// Writes a directory without files, with the values `past`, `name`, `blocks` and `date`. Files begin at block `past`.
+// If `image` then has a second copy of the directory, this copy is overwritten too.
 pub(crate) fn renew_directory(image: &mut [u8], past: u16, name: &[u8], blocks: u16, date: u16)
     requires whole { DIRECTORY_END ≤ length image.old }
     requires short { length name.now ≤ LONGEST_VOLUME_NAME }
@@ -127,7 +130,7 @@ pub(crate) fn renew_directory(image: &mut [u8], past: u16, name: &[u8], blocks: 
     mirror(image);
 }
 
-// Sets the block at which files begin.
+// Writes `past` to the header as the block at which files begin.
 fn begin_at(image: &mut [u8], past: u16)
     requires whole { DIRECTORY_END ≤ length image.old }
     ensures begun { image.new ≡ begun_at image.old past }
@@ -139,7 +142,7 @@ fn begin_at(image: &mut [u8], past: u16)
     );
 }
 
-// Writes a second copy of the directory.
+// Sets the block at which files begin to 10, and copies the directory to blocks 6 to 9 if `image` has these blocks.
 pub(crate) fn add_second(image: &mut [u8])
     requires whole { DIRECTORY_END ≤ length image.old }
     ensures image { image.new ≡ mirrored (begun_at image.old PAST_SECOND) }
@@ -148,7 +151,8 @@ pub(crate) fn add_second(image: &mut [u8])
     mirror(image);
 }
 
-// Removes the second copy, if there is one, and sets its blocks to zero.
+// If `image` has a second copy of the directory, sets the blocks of that copy to zero, and the block at which files
+// begin to 6.
 #[tactic(auto, unfolding(crate::specs::Made::singled))]
 pub(crate) fn drop_second(image: &mut [u8])
     requires whole { DIRECTORY_END ≤ length image.old }

@@ -1,4 +1,4 @@
-//! The second copy of a directory.
+//! The second copy of a directory: checking it, and copying one copy over the other.
 
 ghost use Rattle.std.specs.Prelude.{◌≡◌, ◌↔◌, IsTrue, ◌+◌, ◌≤◌, length, slice_range};
 ghost use Rattle.std.specs.Bool.{OnTrue};
@@ -13,7 +13,8 @@ use crate::fields::{
 };
 use pm_bytes::{BLOCK, word};
 
-/// Whether a volume has one or two copies of its directory. Each copy has four blocks.
+/// The number of copies of its directory that a volume has, and whether two copies are equal. Each copy has four
+/// blocks.
 #[derive(Clone, Copy, Debug, PartialEq, Eq)]
 pub enum Copies {
     /// One copy, in blocks 2 to 5. Files begin at block 6.
@@ -24,7 +25,7 @@ pub enum Copies {
     Differs,
 }
 
-// Whether an image has a second copy.
+// Is true if `image` has a second copy of its directory: files begin at block 10, and `image` has at least 10 blocks.
 #[tactic(auto, unfolding(crate::specs::Copies::has_second))]
 pub(crate) fn has_second(image: &[u8]) -> bool
     requires whole { DIRECTORY_END ≤ length image.now }
@@ -35,7 +36,7 @@ pub(crate) fn has_second(image: &[u8]) -> bool
         && word(&image[DIRECTORY..DIRECTORY_END], HEADER_FILES_BEGIN) == PAST_SECOND
 }
 
-// Whether an image has a second copy that is valid.
+// Is true if `image` has a second copy of its directory, and this copy is valid.
 #[tactic(auto, unfolding(crate::specs::Directory::is_second_good))]
 pub(crate) fn is_second_good(image: &[u8]) -> bool
     ensures good { result ≡ is_second_good image.now }
@@ -48,14 +49,14 @@ pub(crate) fn is_second_good(image: &[u8]) -> bool
         && fault_of_directory(second, image.len() / BLOCK).is_none()
 }
 
-// Whether two copies have the same bytes.
+// Is true if the copies `left` and `right` have the same bytes.
 pub(crate) fn are_same(left: &[u8], right: &[u8]) -> bool
     ensures same { IsTrue result ↔ (left.now ≡ right.now) }
 {
     left == right
 }
 
-// Copies the four blocks at byte `from` of the image to byte `to`.
+// Copies the 2,048 bytes at offset `from` of `image` to offset `to`.
 fn copy_directory(image: &mut [u8], from: usize, to: usize)
     requires source { from + DIRECTORY_SIZE ≤ length image.old }
     requires target { to + DIRECTORY_SIZE ≤ length image.old }
@@ -64,7 +65,7 @@ fn copy_directory(image: &mut [u8], from: usize, to: usize)
     image.copy_within(from..from + DIRECTORY_SIZE, to);
 }
 
-// Overwrites the second copy, if there is one, with the first.
+// Overwrites the second copy of the directory with the first, if `image` has a second copy.
 #[tactic(auto, unfolding(crate::specs::Copies::mirrored))]
 pub(crate) fn mirror(image: &mut [u8])
     requires whole { DIRECTORY_END ≤ length image.old }
@@ -75,7 +76,7 @@ pub(crate) fn mirror(image: &mut [u8])
     }
 }
 
-// Overwrites the first copy with the second.
+// Overwrites the first copy of the directory with the second.
 #[tactic(auto, unfolding(crate::specs::Copies::restored))]
 pub(crate) fn restore(image: &mut [u8])
     requires whole { SECOND_END ≤ length image.old }

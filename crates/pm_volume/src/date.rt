@@ -15,7 +15,7 @@ pub struct Date {
 }
 
 impl Date {
-    /// Returns the year, month and day that a word contains, valid or not.
+    /// Returns the year, month and day that `word` contains. They need not be a valid date.
     pub fn of(word: u16) -> Date
         ensures date { result ≡ date_of word }
     {
@@ -26,7 +26,8 @@ impl Date {
         }
     }
 
-    /// Returns the word of the date, or `None` unless the year is 0 to 127, the month 1 to 12 and the day 1 to 31.
+    /// Returns the date as a word. Returns `None` unless the year is 0 to 127, the month is 1 to 12 and the day is 1 to
+    /// 31.
     pub fn word(self) -> Option<u16>
         ensures word { result ≡ (if is_date self.year self.month self.day
             then Some (date_word self.year self.month self.day) else None) }

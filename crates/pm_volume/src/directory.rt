@@ -19,7 +19,7 @@ use crate::fields::{
 use pm_bytes::{clear_all, set_bytes, set_word, word};
 use std::marker::Model;
 
-/// Returns the entry in slot `n` of a directory, valid or not.
+/// Returns the entry in slot `n` of `directory`. The entry may be invalid.
 pub fn entry_at(directory: &[u8], n: u16) -> Entry
     requires whole { length directory.now ≡ DIRECTORY_SIZE }
     requires slot { n ≤ MOST_FILES }
@@ -29,7 +29,7 @@ pub fn entry_at(directory: &[u8], n: u16) -> Entry
     Entry::read(&directory[at..at + SLOT])
 }
 
-// Whether the header is valid.
+// Is true if the header of `directory` is valid.
 fn is_header(directory: &[u8]) -> bool
     requires whole { length directory.now ≡ DIRECTORY_SIZE }
     ensures header { result ≡ is_header directory.now }
@@ -42,7 +42,7 @@ fn is_header(directory: &[u8]) -> bool
         && past <= word(directory, HEADER_BLOCKS)
 }
 
-// Returns the first fault of a directory in an image of `blocks` blocks.
+// Returns the first fault of `directory`, as the directory of an image of `blocks` blocks.
 #[tactic(auto, unfolding(crate::specs::Directory::directory_fault))]
 pub(crate) fn fault_of_directory(directory: &[u8], blocks: usize) -> Option<VolumeFault>
     requires whole { length directory.now ≡ DIRECTORY_SIZE }
@@ -60,7 +60,7 @@ pub(crate) fn fault_of_directory(directory: &[u8], blocks: usize) -> Option<Volu
     fault_of_entries(directory)
 }
 
-// Returns the first fault of the entries of the files.
+// Returns the first fault of the entries of `directory`.
 #[tactic(auto, using(crate::proofs::DirectoryLaws::fault_steps))]
 fn fault_of_entries(directory: &[u8]) -> Option<VolumeFault>
     requires whole { length directory.now ≡ DIRECTORY_SIZE }
@@ -83,7 +83,7 @@ fn fault_of_entries(directory: &[u8]) -> Option<VolumeFault>
     None
 }
 
-// Returns the slot of the first file with this name.
+// Returns the slot of the first file with the name `name`. Case is ignored.
 #[tactic(auto, using(crate::proofs::GapLaws::slot_steps))]
 pub(crate) fn slot_named(directory: &[u8], name: &str) -> Option<u16>
     requires whole { length directory.now ≡ DIRECTORY_SIZE }
@@ -99,7 +99,7 @@ pub(crate) fn slot_named(directory: &[u8], name: &str) -> Option<u16>
     None
 }
 
-// Returns slot `n` if it contains a file.
+// Returns `n` if slot `n` contains a file, and `None` otherwise.
 pub(crate) fn slot_numbered(directory: &[u8], n: u16) -> Option<u16>
     requires whole { length directory.now ≡ DIRECTORY_SIZE }
     ensures slot { result ≡ slot_numbered directory.now n }
@@ -112,7 +112,7 @@ pub(crate) fn slot_numbered(directory: &[u8], n: u16) -> Option<u16>
     }
 }
 
-// Whether a file in a slot other than `slot` has this name.
+// Is true if a file in a slot other than `slot` has the name `name`. Case is ignored.
 pub(crate) fn is_named_beside(directory: &[u8], slot: u16, name: &str) -> bool
     requires whole { length directory.now ≡ DIRECTORY_SIZE }
     requires few { file_count directory.now ≤ MOST_FILES }
@@ -124,7 +124,7 @@ pub(crate) fn is_named_beside(directory: &[u8], slot: u16, name: &str) -> bool
         || has_name(directory, slot + 1, word(directory, HEADER_FILES) + 1, name)
 }
 
-// Whether a file in the slots from `from` up to, but not including, `to` has this name.
+// Is true if a file in the slots from `from` up to, but not including, `to` has the name `name`.
 #[tactic(auto, using(crate::proofs::GapLaws::any_steps))]
 fn has_name(directory: &[u8], from: u16, to: u16, name: &str) -> bool
     requires whole { length directory.now ≡ DIRECTORY_SIZE }
@@ -139,7 +139,8 @@ fn has_name(directory: &[u8], from: u16, to: u16, name: &str) -> bool
     false
 }
 
-// Writes a directory without files.
+// Overwrites `directory` with a directory without files. Files begin at block `past`, the volume has the name `name`,
+// `blocks` blocks and the last date `date`. All other bytes are zero.
 pub(crate) fn write_directory(directory: &mut [u8], past: u16, name: &[u8], blocks: u16, date: u16)
     requires whole { length directory.old ≡ DIRECTORY_SIZE }
     requires short { length name.now ≤ LONGEST_VOLUME_NAME }
@@ -153,7 +154,8 @@ pub(crate) fn write_directory(directory: &mut [u8], past: u16, name: &[u8], bloc
     set_word(directory, HEADER_DATE, date);
 }
 
-/// An iterator over the entries of a volume, in block order. Contracts see it as the list of the entries that are left.
+/// An iterator over the entries of a volume, in block order. Contracts describe it as the list of the entries that it
+/// has not yet returned.
 #[derive(Drop)]
 pub struct Entries<'a> {
     directory: &'a [u8],
@@ -175,7 +177,7 @@ impl<'a> Model for Entries<'a> {
 }
 
 impl<'a> Entries<'a> {
-    // Returns the entries of the files of a directory.
+    // Returns an iterator over the entries of `directory`.
     #[tactic(auto, using(crate::proofs::SlotChanges::entry_counts))]
     pub(crate) fn new(directory: &'a [u8]) -> Entries<'a>
         requires whole { length directory.now ≡ DIRECTORY_SIZE }

@@ -10,7 +10,7 @@ ghost use Rattle.pm_bytes.specs.declared.blocks.TheConstants.{BLOCK};
 use pm_bytes::{BLOCK, set_bytes};
 use std::marker::Model;
 
-/// A disk: an image of whole blocks of 512 bytes. Contracts see it as the list of its bytes.
+/// A disk: an image of whole blocks of 512 bytes. Contracts describe a disk as the list of its bytes.
 #[derive(Drop)]
 pub struct Disk {
     pub(crate) bytes: Vec<u8>,
@@ -53,8 +53,8 @@ impl Disk {
         block_in(&self.bytes, n)
     }
 
-    /// Overwrites the bytes from offset `place` on. Returns whether they are within the image; otherwise nothing
-    /// changes.
+    /// Overwrites the bytes of the image from offset `place` on with `bytes`. Returns true if all of them fit into the
+    /// image. Otherwise, returns false and changes nothing.
     pub fn write(&mut self, place: usize, bytes: &[u8]) -> bool
         ensures inside { IsTrue result ↔ IsInImage self.old place (length bytes.now) }
         ensures written { OnTrue result (self.new ≡ written self.old place bytes.now) }
@@ -76,7 +76,7 @@ impl Disk {
     }
 }
 
-// Returns block `n` of an image.
+// Returns the 512 bytes of block `n` of `image`, or `None` if the block is after the end of `image`.
 #[tactic(auto, unfolding(crate::specs::Disks::block_of))]
 pub(crate) fn block_in(image: &[u8], n: u16) -> Option<&[u8]>
     ensures bytes { option_map (λ bytes. bytes.now) result ≡ block_of image.now n }

@@ -1,4 +1,4 @@
-//! The entries of a directory, and names.
+//! The entries of a directory, and the names of files and volumes.
 
 ghost use Rattle.std.specs.Prelude.{◌≡◌, ◌≤◌, ◌++◌, drop, length};
 ghost use Rattle.std.specs.Str.{str_to_ascii_uppercase};
@@ -12,12 +12,12 @@ use crate::fields::{
 };
 use pm_bytes::{BLOCK, set_bytes, set_word, word};
 
-/// The entry of a file in the directory.
+/// The entry of a file: the contents of its directory slot.
 #[derive(Clone, Copy)]
 pub struct Entry {
     /// The name as stored in the directory: a byte with its length, then up to 15 characters.
     pub name: [u8; 16],
-    /// The kind, one of the constants in `kinds`. 9 to 15 have no meaning.
+    /// The kind, 0 to 15. The module `kinds` names 0 to 8; kinds 9 to 15 have no meaning.
     pub kind: u8,
     /// The first block of the file.
     pub first: u16,
@@ -32,7 +32,7 @@ pub struct Entry {
 impl Entry {
     ghost use Rattle.pm_volume.specs.Changes.{entry_slot};
 
-    // Returns the entry that the 26 bytes of a directory slot contain.
+    // Returns the entry that the 26 bytes `slot` of a directory contain.
     #[tactic(auto, unfolding(crate::specs::Entries::entry_of))]
     pub(crate) fn read(slot: &[u8]) -> Entry
         requires size { length slot.now ≡ SLOT }
@@ -50,7 +50,7 @@ impl Entry {
         }
     }
 
-    // Returns the 26 bytes of the slot of the entry.
+    // Returns the entry as the 26 bytes of a directory slot.
     #[tactic(auto, unfolding(crate::specs::Changes::entry_slot))]
     pub(crate) fn slot(&self) -> [u8; 26]
         ensures fields { result ≡ entry_slot self.now }
@@ -66,7 +66,7 @@ impl Entry {
         slot
     }
 
-    // Whether the entry is valid after files that end before block `from`.
+    // Is true if the entry is valid as the next entry after files that end before block `from`.
     #[tactic(auto, unfolding(crate::specs::Entries::is_sound_entry))]
     pub(crate) fn is_sound(&self, from: u16) -> bool
         ensures sound { result ≡ is_sound_entry from self.now }
@@ -77,7 +77,7 @@ impl Entry {
             && (self.first == self.end || matches!(self.last_bytes, 1..=512))
     }
 
-    /// Returns the characters of the name. Their number is that of the length byte, at most 15.
+    /// Returns the characters of the name. Their number is the length byte of `name`, but at most 15.
     #[tactic(auto, unfolding(crate::specs::Names::characters_of))]
     pub fn characters(&self) -> &[u8]
         ensures characters { result.now ≡ characters_of self.now.name }
@@ -86,7 +86,7 @@ impl Entry {
         &self.name[1..1 + length]
     }
 
-    // Whether the entry has this name. Case is ignored.
+    // Is true if the entry has the name `name`. Case is ignored.
     pub(crate) fn is_named(&self, name: &str) -> bool
         ensures named { result ≡ is_same_name (characters_of self.now.name) name.now }
     {
@@ -94,7 +94,7 @@ impl Entry {
     }
 }
 
-/// Whether two names are equal. Case is ignored.
+/// Is true if the names `left` and `right` are equal. Case is ignored.
 #[tactic(auto, unfolding(crate::specs::Names::is_same_name))]
 pub fn is_same_name(left: &[u8], right: &[u8]) -> bool
     ensures same { result ≡ is_same_name left.now right.now }
@@ -106,7 +106,7 @@ pub fn is_same_name(left: &[u8], right: &[u8]) -> bool
             .all(|(a, b)| a.to_ascii_uppercase() == b.to_ascii_uppercase())
 }
 
-// Whether a string can be a new name of up to `most` characters.
+// Is true if `name` can be given to a file or volume: it has 1 to `most` characters from 33 to 126, and no `:`.
 #[tactic(auto, unfolding(crate::specs::Names::is_new_name))]
 pub(crate) fn is_new_name(most: usize, name: &[u8]) -> bool
     ensures accepted { result ≡ is_new_name most name.now }
@@ -116,7 +116,8 @@ pub(crate) fn is_new_name(most: usize, name: &[u8]) -> bool
         && name.iter().all(|c| 33 <= *c && *c <= 126 && *c != b':')
 }
 
-// Returns a new name as it is stored, in upper case. A volume's name uses the first eight bytes.
+// Returns `name` as a directory stores it: a byte with the length, the characters in upper case, and zeros. The field
+// of a volume's name is the first eight bytes of the result.
 #[tactic(auto, unfolding(crate::specs::Names::name_field))]
 pub(crate) fn name_field(name: &[u8]) -> [u8; 16]
     requires short { length name.now ≤ LONGEST_NAME }
@@ -128,7 +129,7 @@ pub(crate) fn name_field(name: &[u8]) -> [u8; 16]
     field
 }
 
-// Writes the characters of a name, in upper case, at the start of a field.
+// Writes the characters of `name`, in upper case, to the start of `field`.
 fn raise_into(field: &mut [u8], name: &[u8])
     requires room { length name.now ≤ length field.old }
     ensures raised { field.new ≡ str_to_ascii_uppercase name.now ++ drop (length name.now) field.old }

@@ -5,7 +5,7 @@ ghost use Rattle.pm_volume.specs.Faults.{detail_of, number_of};
 
 use thiserror::Error;
 
-/// Why an image is not a volume, or why a change of a volume is refused.
+/// The reason why an image is not a volume, or why a change of a volume is refused.
 #[derive(Clone, Copy, Debug, PartialEq, Eq, Error)]
 pub enum VolumeFault {
     /// 1: the length of the image is not a multiple of 512 bytes.
@@ -14,19 +14,23 @@ pub enum VolumeFault {
     /// 2: the image has fewer than 6 blocks, too few for a directory.
     #[error("the image is too short for a directory")]
     TooShort,
-    /// 3: the volume's name does not have 1 to 7 characters, the files begin neither at block 6
-    /// nor at block 10, or the volume has fewer blocks than that.
+    /// 3: the header of the directory is damaged in one of these ways:
+    /// - The volume's name does not have 1 to 7 characters.
+    /// - Files begin neither at block 6 nor at block 10.
+    /// - The volume has fewer blocks than the number of the block at which files begin.
     #[error("the header of the directory is damaged")]
     BadHeader,
-    /// 4: the name of this entry does not have 1 to 15 characters, its first block is below the end
-    /// of the previous entry, its end is below its first block, or its last block does not have 1
-    /// to 512 bytes.
+    /// 4: the entry with this number is damaged in one of these ways:
+    /// - Its name does not have 1 to 15 characters.
+    /// - Its first block is below the end of the previous entry.
+    /// - Its end is below its first block.
+    /// - Its last block does not have 1 to 512 bytes.
     #[error("entry {0} of the directory is damaged")]
     BadEntry(u16),
-    /// 5: the directory states more than 77 files.
+    /// 5: the directory states that it has more than 77 files.
     #[error("the header of the directory states more than 77 files")]
     TooManyFiles,
-    /// 6: the volume extends past the end of the image, or a file past the end of the volume.
+    /// 6: the volume extends past the end of the image, or a file extends past the end of the volume.
     #[error("the volume extends past the end of the image, or a file past the end of the volume")]
     PastEnd,
     /// 7: no free area has enough blocks.
@@ -44,11 +48,10 @@ pub enum VolumeFault {
     /// 11: no file has that name.
     #[error("no file of that name")]
     NoFile,
-    /// 12: memory was refused.
+    /// 12: the host has no memory for the image.
     #[error("out of memory")]
     NoMemory,
-    /// 13: the first copy of the directory has the fault of this number, 3 to 6, and the second
-    /// copy is good.
+    /// 13: the first copy of the directory has the fault with this number, from 3 to 6, and the second copy is valid.
     #[error("the first copy of the directory is damaged, the second is good")]
     FirstCopyBad(u8),
     /// 14: a file begins below block 10, in the blocks of the second copy of the directory.
@@ -57,7 +60,7 @@ pub enum VolumeFault {
 }
 
 impl VolumeFault {
-    /// The fault's number, as the program prints it.
+    /// Returns the fault's number, as the program prints it.
     pub fn number(self) -> u8
         ensures value { result ≡ number_of self }
     {
@@ -79,8 +82,8 @@ impl VolumeFault {
         }
     }
 
-    /// The number of its own that the fault has: of `BadEntry` the entry, counted from 1, of
-    /// `FirstCopyBad` the number of the first copy's fault.
+    /// Returns the second number of a fault that has one: for `BadEntry` the number of the entry, counted from 1, and
+    /// for `FirstCopyBad` the number of the fault of the first copy.
     pub fn detail(self) -> Option<u16>
         ensures named { result ≡ detail_of self }
     {

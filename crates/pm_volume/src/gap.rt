@@ -1,4 +1,4 @@
-//! The gaps between files.
+//! The gaps of free blocks between files, and the search for a gap for a new file.
 
 ghost use Rattle.std.specs.Prelude.{◌≡◌, ◌+◌, ◌≤◌, length};
 ghost use Rattle.pm_volume.specs.Directory.{file_count};
@@ -8,7 +8,8 @@ use crate::directory::entry_at;
 use crate::fields::{HEADER_BLOCKS, HEADER_FILES, HEADER_FILES_BEGIN};
 use pm_bytes::word;
 
-/// A gap of free blocks, from `begin` up to, but not including, `end`. A file in it gets slot `place`.
+/// A gap: the free blocks from `begin` up to, but not including, `end`. A file that is added in this gap gets directory
+/// slot `place`.
 #[derive(Clone, Copy)]
 pub(crate) struct Gap {
     pub(crate) place: u16,
@@ -19,7 +20,8 @@ pub(crate) struct Gap {
 impl Gap {
     ghost use Rattle.pm_volume.specs.Changes.{gap_for, serves};
 
-    // Whether a new file of `need` blocks is put into this gap, in a directory with `count` files.
+    // Is true if a new file of `need` blocks may be put into this gap, in a directory with `count` files. A file
+    // without blocks may only be put into the gap after all files.
     fn serves(&self, need: usize, count: u16) -> bool
         ensures enough { result ≡ serves need count self.now }
     {
@@ -29,7 +31,7 @@ impl Gap {
         need <= usize::from(self.end.saturating_sub(self.begin))
     }
 
-    // Returns the lowest gap for a file of `need` blocks.
+    // Returns the lowest gap of `directory` for a new file of `need` blocks, or `None` if no gap is large enough.
     #[tactic(auto, using(crate::proofs::GapLaws::gap_steps))]
     pub(crate) fn lowest(directory: &[u8], need: usize) -> Option<Gap>
         requires whole { length directory.now ≡ DIRECTORY_SIZE }

@@ -1,4 +1,4 @@
-//! Moving files together.
+//! Moving files together, so that the free blocks are after the files.
 
 ghost use Rattle.std.specs.Prelude.{◌≡◌, ◌+◌, ◌-◌, ◌<◌, ◌≤◌, ◌*◌, length, slice_range};
 ghost use Rattle.pm_volume.specs.Changes.{with_directory};
@@ -16,7 +16,7 @@ use crate::fields::{
 use crate::kinds::BAD_BLOCKS;
 use pm_bytes::{BLOCK, set_word, word};
 
-// Moves each file to the end of the one before it.
+// Moves each file of the volume `image` down to the end of the file before it. Bad blocks are not moved.
 pub(crate) fn pack_files(image: &mut Vec<u8>)
     requires volume { IsVolume image.old.items }
     ensures packed { image.new.items ≡ packed_image image.old.items 1
@@ -32,8 +32,8 @@ pub(crate) fn pack_files(image: &mut Vec<u8>)
     }
 }
 
-// Moves the file in slot `n` to block `from`, where the one before it ends. Bad blocks are not moved. Returns the block
-// after the file.
+// Moves the file in slot `n` down to block `from`, where the file before it ends. Bad blocks are not moved. Returns the
+// block after the file at its new position.
 fn pack_file(image: &mut Vec<u8>, n: u16, from: u16) -> u16
     requires whole { DIRECTORY_END ≤ length image.old.items }
     requires slot { n ≤ MOST_FILES }
@@ -60,7 +60,8 @@ fn pack_file(image: &mut Vec<u8>, n: u16, from: u16) -> u16
     end
 }
 
-// Returns the new first block of a file, if the one before it ends before block `from`.
+// Returns the new first block of the file of `entry`, if the file before it now ends before block `from`. This is
+// `from`, except for bad blocks, which are not moved.
 fn new_place(entry: &Entry, from: u16) -> u16
     ensures place { result ≡ new_place from entry.now }
 {
@@ -71,7 +72,7 @@ fn new_place(entry: &Entry, from: u16) -> u16
     }
 }
 
-// Moves the bytes from `begin` up to `end` to offset `to`. All are read before the first is written.
+// Copies the bytes from offset `begin` up to, but not including, offset `end` to offset `to`. The ranges may overlap.
 fn move_part(bytes: &mut Vec<u8>, begin: usize, end: usize, to: usize)
     requires order { begin ≤ end }
     requires source { end ≤ length bytes.old.items }
@@ -81,7 +82,7 @@ fn move_part(bytes: &mut Vec<u8>, begin: usize, end: usize, to: usize)
     bytes.copy_within(begin..end, to);
 }
 
-// Writes the block numbers of the file in slot `n`.
+// Writes the block numbers `first` and `end` to slot `n` of the directory.
 fn place_file(image: &mut [u8], n: u16, first: u16, end: u16)
     requires whole { DIRECTORY_END ≤ length image.old }
     requires slot { n ≤ MOST_FILES }

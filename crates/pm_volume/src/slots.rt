@@ -1,4 +1,4 @@
-//! Inserting and removing slots of a directory.
+//! Inserting a slot into a directory, and removing a slot from it.
 
 ghost use Rattle.std.specs.Prelude.{◌≡◌, ◌+◌, ◌-◌, ◌++◌, ◌<◌, ◌≤◌, drop, length, replicate, take};
 ghost use Rattle.pm_volume.specs.Changes.{with_slot, without_slot};
@@ -8,7 +8,7 @@ ghost use Rattle.pm_volume.specs.declared.fields.TheConstants.{DIRECTORY_SIZE, M
 use crate::fields::{HEADER_FILES, SLOT};
 use pm_bytes::{set_word, word};
 
-// Inserts a slot at `n`. The slots from `n` on move up by one.
+// Inserts `slot` as slot `n` of `directory`, and adds 1 to its number of files. The slots from `n` on move up by one.
 pub(crate) fn insert_slot(directory: &mut [u8], n: u16, slot: &[u8])
     requires whole { length directory.old ≡ DIRECTORY_SIZE }
     requires size { length slot.now ≡ SLOT }
@@ -24,7 +24,7 @@ pub(crate) fn insert_slot(directory: &mut [u8], n: u16, slot: &[u8])
     set_word(directory, HEADER_FILES, count + 1);
 }
 
-// Removes slot `n`. The slots after it move down by one.
+// Removes slot `n` of `directory`, and subtracts 1 from its number of files. The slots after `n` move down by one.
 pub(crate) fn remove_slot(directory: &mut [u8], n: u16)
     requires whole { length directory.old ≡ DIRECTORY_SIZE }
     requires few { file_count directory.old ≤ MOST_FILES }
@@ -39,7 +39,8 @@ pub(crate) fn remove_slot(directory: &mut [u8], n: u16)
     set_word(directory, HEADER_FILES, count - 1);
 }
 
-// Moves all bytes up by the length of a slot and writes the slot before them. The last bytes are lost.
+// Moves the bytes of `area` up by the length of `slot`, and writes `slot` at the start. The same number of bytes at the
+// end of `area` is lost.
 fn push_front(area: &mut [u8], slot: &[u8])
     requires room { length slot.now ≤ length area.old }
     ensures moved { area.new ≡ slot.now ++ take (length area.old - length slot.now) area.old }
@@ -48,7 +49,7 @@ fn push_front(area: &mut [u8], slot: &[u8])
     area[..slot.len()].copy_from_slice(slot);
 }
 
-// Moves all bytes down by `size`, over the first ones. The last ones become zero.
+// Removes the first `size` bytes of `area`: the bytes after them move down, and the last `size` bytes become zero.
 fn pop_front(area: &mut [u8], size: usize)
     requires room { size ≤ length area.old }
     ensures moved { area.new ≡ drop size area.old ++ replicate size 0 }

@@ -1,4 +1,4 @@
-//! The free space of a volume.
+//! Computing the free space of a volume from its directory.
 ghost use Rattle.std.specs.Prelude.{◌≡◌, ◌≤◌, ◌+◌, max, length};
 ghost use Rattle.pm_volume.specs.Directory.{file_count};
 ghost use Rattle.pm_volume.specs.Space.{free_in, largest_in};
@@ -11,14 +11,14 @@ use pm_bytes::word;
 /// The free space of a volume.
 #[derive(Clone, Copy)]
 pub struct Space {
-    /// The number of blocks of all gaps.
+    /// The number of blocks of all gaps together.
     pub free: u32,
     /// The number of blocks of the largest gap, 0 if no block is free.
     pub largest: u16,
 }
 
 impl Space {
-    // Returns the space with one more gap of `size` blocks.
+    // Returns this space with an additional gap of `size` blocks.
     fn with(self, size: u16) -> Space
         requires room { self.free ≤ 4294901760 }
         ensures free { result.free ≡ self.free + size }
@@ -31,7 +31,7 @@ impl Space {
     }
 }
 
-// Returns the free space of a directory.
+// Returns the free space of the volume whose directory is `directory`.
 #[tactic(auto, using(crate::proofs::SpaceLaws::space_steps))]
 pub(crate) fn space_of(directory: &[u8]) -> Space
     requires whole { length directory.now ≡ DIRECTORY_SIZE }

@@ -30,7 +30,7 @@ use pm_bytes::{BLOCK, blocks_for, word};
 use std::alloc::Global;
 use std::marker::Model;
 
-/// A volume: an image whose directory is valid. Contracts see it as the bytes of the image.
+/// A volume: an image whose directory is valid. Contracts describe a volume as the list of the bytes of the image.
 #[derive(Drop)]
 pub struct Volume {
     bytes: Vec<u8>,
@@ -66,18 +66,18 @@ impl Volume {
     ghost use Rattle.pm_volume.specs.Words.{word_in};
     ghost use Rattle.pm_volume.specs.Space.{free_blocks, largest_gap};
 
-    /// Opens an image as a volume.
+    /// Opens the image `bytes` as a volume.
     ///
-    /// If blocks 6 to 9 are a second copy of the directory, the first copy counts as long as it has no fault, even if
-    /// the second differs.
+    /// If the image has a second copy of the directory, in blocks 6 to 9, the first copy is used as long as it has no
+    /// fault. This holds even if the two copies differ.
     ///
     /// # Errors
     ///
-    /// The image is returned unchanged, with its first fault. Checked in this order:
+    /// The image is returned unchanged, with its first fault. The faults are checked in this order:
     /// - `NotBlocks`, `TooShort`, `BadHeader`;
-    /// - `PastEnd` of the volume;
+    /// - `PastEnd`: the volume extends past the end of the image;
     /// - `TooManyFiles`;
-    /// - for each entry: `BadEntry`, then `PastEnd` of the file.
+    /// - for each entry: `BadEntry`, then `PastEnd`: the file extends past the end of the volume.
     ///
     /// From `BadHeader` on, the fault is `FirstCopyBad` instead if blocks 6 to 9 are a valid second copy.
     pub fn open(bytes: Vec<u8>) -> Result<Volume, (VolumeFault, Vec<u8>)>
@@ -93,14 +93,14 @@ impl Volume {
         }
     }
 
-    /// Opens an image as a volume, and repairs the first copy of its directory.
+    /// Opens the image `bytes` as a volume, and repairs the first copy of its directory.
     ///
     /// If `open` returns `FirstCopyBad`, the first copy is overwritten with the second one. Otherwise the result is
     /// that of `open`.
     ///
     /// # Errors
     ///
-    /// The image is returned unchanged, with the fault of `open`. It is never `FirstCopyBad`.
+    /// The image is returned unchanged, with the fault that `open` returns. This fault is never `FirstCopyBad`.
     #[tactic(auto, unfolding(crate::specs::Copies::repaired))]
     pub fn repair(bytes: Vec<u8>) -> Result<Volume, (VolumeFault, Vec<u8>)>
         ensures repaired { IfOk result (λ v. repaired bytes.items ≡ Ok v) }
@@ -119,15 +119,15 @@ impl Volume {
         }
     }
 
-    /// Creates a volume of `blocks` blocks without files, whose last date is 0. Except for the header, all bytes are
-    /// zero.
+    /// Creates a volume with the name `name`, `blocks` blocks and no files. Its last date is 0. Except for the header,
+    /// all bytes are zero.
     ///
     /// # Errors
     ///
     /// Checked in this order:
     /// - `BadName`: `name` is not a name of 1 to 7 characters.
-    /// - `BadHeader`: there are fewer than 6 blocks.
-    /// - `NoMemory`: memory was refused.
+    /// - `BadHeader`: `blocks` is less than 6.
+    /// - `NoMemory`: the host has no memory for the image.
     #[tactic(auto, unfolding(crate::specs::Headers::blank_fault))]
     pub fn blank(alloc: Global, name: &str, blocks: u16) -> Result<Volume, VolumeFault>
         ensures made { IfOk result (λ v. v ≡ blank_image name.now blocks) }
@@ -184,7 +184,7 @@ impl Volume {
         word(self.directory(), HEADER_DATE)
     }
 
-    /// Whether the volume has a second copy of its directory, and whether that has the same bytes.
+    /// Returns whether the volume has a second copy of its directory, and whether the two copies have the same bytes.
     pub fn duplicate(&self) -> Copies
         ensures copies { HasCopies self.now result }
     {
@@ -199,7 +199,7 @@ impl Volume {
         }
     }
 
-    /// Returns the number of free blocks, and that of the largest gap.
+    /// Returns the number of free blocks, and the number of blocks of the largest gap.
     #[tactic(auto, unfolding(crate::specs::Space::free_blocks, crate::specs::Space::largest_gap))]
     pub fn space(&self) -> Space
         ensures free { result.free ≡ free_blocks self.now }
@@ -216,15 +216,15 @@ impl Volume {
         Entries::new(self.directory())
     }
 
-    /// Returns the entry of the first file with this name. Case is ignored.
+    /// Returns the entry of the first file with the name `name`. Case is ignored.
     pub fn find(&self, name: &str) -> Option<Entry>
         ensures first { result ≡ file_named self.now name.now }
     {
         self.entries().find(|entry| entry.is_named(name))
     }
 
-    /// Returns the bytes of a file: its blocks, of which the last is cut to its number of bytes. They are empty if the
-    /// file has no blocks.
+    /// Returns the bytes of the file of `entry`: the bytes of its blocks, but only the first `last_bytes` bytes of its
+    /// last block. The result is empty if the file has no blocks.
     ///
     /// Returns `None` if these bytes are not all in the image, which is possible for an entry of another volume.
     #[tactic(auto, unfolding(crate::specs::Files::file_bytes))]
@@ -247,17 +247,18 @@ impl Volume {
         block_in(&self.bytes, n)
     }
 
-    /// Adds a file in the lowest gap that is large enough. The rest of its last block is set to zero. A file without
-    /// bytes uses no block and is put after all others.
+    /// Adds a file with the contents `bytes` in the lowest gap that is large enough, and returns its entry. The rest of
+    /// the last block of the file is set to zero. If `bytes` is empty, the file uses no block and is put after all
+    /// other files.
     ///
-    /// The name is stored in upper case, and of `kind` only the low four bits.
+    /// The name is stored in upper case. Only the low four bits of `kind` are stored.
     ///
     /// # Errors
     ///
     /// Nothing changes. Checked in this order:
     /// - `BadName`: `name` does not have 1 to 15 characters from 33 to 126, or contains `:`.
-    /// - `Duplicate`: a file has this name. Case is ignored.
-    /// - `DirectoryFull`: there are 77 files.
+    /// - `Duplicate`: a file already has the name `name`. Case is ignored.
+    /// - `DirectoryFull`: the directory has 77 files.
     /// - `NoRoom`: no gap is large enough.
     pub fn add(
         &mut self,
@@ -285,8 +286,8 @@ impl Volume {
         Ok(entry)
     }
 
-    /// Removes the first file with this name. Case is ignored. Its blocks keep their bytes. The directory slot that
-    /// becomes free is set to zero.
+    /// Removes the first file with the name `name`. Case is ignored. The blocks of the file keep their bytes. The
+    /// directory slot that becomes free is set to zero.
     ///
     /// # Errors
     ///
@@ -307,7 +308,7 @@ impl Volume {
         self.remove_at(first)
     }
 
-    /// Removes the file in a slot of the directory, as `remove` does. Slots are numbered from 1, in the order of
+    /// Removes the file in directory slot `slot`, as `remove` does. Slots are numbered from 1, in the order of
     /// `entries`. Files of the same name in other slots are unchanged.
     ///
     /// # Errors
@@ -329,14 +330,15 @@ impl Volume {
         self.remove_at(there)
     }
 
-    /// Renames the first file with the name `old`. Only the 16 bytes of its name change.
+    /// Renames the first file with the name `old` to `new`. Only the 16 bytes of its name field change, in each copy of
+    /// the directory.
     ///
     /// # Errors
     ///
     /// Nothing changes. Checked in this order:
     /// - `NoFile`: no file has the name `old`.
     /// - `BadName`: `new` is not a valid name.
-    /// - `Duplicate`: another file has the name `new`. The file's own name is allowed.
+    /// - `Duplicate`: another file has the name `new`. A new name that equals the old one is allowed.
     pub fn rename(&mut self, old: &str, new: &str) -> Result<(), VolumeFault>
         ensures renamed { OnOk result
             (RenamesFile self.old self.new (slot_named (directory_of self.old) old.now) new.now) }
@@ -354,12 +356,12 @@ impl Volume {
         self.rename_at(first, new)
     }
 
-    /// Renames the file in a slot of the directory, as `rename` does. Slots are numbered from 1, in the order of
+    /// Renames the file in directory slot `slot` to `new`, as `rename` does. Slots are numbered from 1, in the order of
     /// `entries`. Files of the same name in other slots are unchanged.
     ///
     /// # Errors
     ///
-    /// Those of `rename`, where `NoFile` means that the slot has no file. Nothing changes.
+    /// The errors of `rename`, where `NoFile` means that `slot` has no file. Nothing changes.
     pub fn rename_slot(&mut self, slot: u16, new: &str) -> Result<(), VolumeFault>
         ensures renamed { OnOk result
             (RenamesFile self.old self.new (slot_numbered (directory_of self.old) slot) new.now) }
@@ -377,8 +379,8 @@ impl Volume {
         self.rename_at(there, new)
     }
 
-    /// Sets the kind of the first file with this name to the low four bits of `kind`. Case is ignored. Nothing else
-    /// changes.
+    /// Sets the kind of the first file with the name `name` to the low four bits of `kind`. Case is ignored. Nothing
+    /// else changes.
     ///
     /// # Errors
     ///
@@ -398,8 +400,8 @@ impl Volume {
         self.set_kind_at(first, kind)
     }
 
-    /// Sets the kind of the file in a slot of the directory, as `set_kind` does. Slots are numbered from 1, in the
-    /// order of `entries`. Files of the same name in other slots are unchanged.
+    /// Sets the kind of the file in directory slot `slot`, as `set_kind` does. Slots are numbered from 1, in the order
+    /// of `entries`. Files of the same name in other slots are unchanged.
     ///
     /// # Errors
     ///
@@ -420,11 +422,11 @@ impl Volume {
         self.set_kind_at(there, kind)
     }
 
-    /// Moves the files together: in the order of the directory, each is moved down to the end of the one before it, and
-    /// the first to the block at which files begin.
+    /// Moves the files together. In the order of the directory, each file is moved down to the end of the file before
+    /// it. The first file is moved to the block at which files begin.
     ///
-    /// Bad blocks (kind 1) are not moved. In an entry only the block numbers change. Blocks that become free keep their
-    /// bytes.
+    /// Bad blocks (kind 1) are not moved. In each entry, only the block numbers change. Blocks that become free keep
+    /// their bytes.
     pub fn krunch(&mut self)
         ensures krunched { Krunches self.old self.new }
         ensures exact { self.new ≡ krunched_image self.old }
@@ -435,7 +437,7 @@ impl Volume {
         mirror(&mut self.bytes);
     }
 
-    /// Sets the last date of the volume, as a word. Nothing else changes.
+    /// Sets the last date of the volume to the word `date`. Nothing else changes.
     pub fn set_date(&mut self, date: u16)
         ensures dated { self.new ≡ dated_image self.old date }
         ensures volume { IsVolume self.new }
@@ -446,8 +448,8 @@ impl Volume {
         date_volume(&mut self.bytes, date);
     }
 
-    /// Removes all files: writes a new directory with this name, and the old number of blocks and last date. All blocks
-    /// after the directory keep their bytes.
+    /// Removes all files: writes a new directory with the volume name `name`. The number of blocks, the last date and
+    /// the block at which files begin are unchanged. All blocks after the directory keep their bytes.
     ///
     /// # Errors
     ///
@@ -477,8 +479,8 @@ impl Volume {
         Ok(())
     }
 
-    /// Writes a second copy of the directory to blocks 6 to 9, so that files begin at block 10. If there is a second
-    /// copy, it is overwritten with the first.
+    /// Writes a second copy of the directory to blocks 6 to 9, so that files begin at block 10. If the volume already
+    /// has a second copy, the first copy overwrites it.
     ///
     /// # Errors
     ///
@@ -506,7 +508,7 @@ impl Volume {
         Ok(())
     }
 
-    /// Removes the second copy of the directory: files begin at block 6, and the blocks of the copy are set to zero. A
+    /// Removes the second copy of the directory: sets its blocks to zero, and the block at which files begin to 6. A
     /// volume without a second copy is unchanged.
     pub fn drop_duplicate(&mut self)
         ensures singled { self.new ≡ singled self.old }
@@ -519,14 +521,14 @@ impl Volume {
         drop_second(&mut self.bytes);
     }
 
-    // Whether a file begins before block 10.
+    // Is true if a file begins before block 10.
     fn is_occupied(&self) -> bool
         ensures occupied { result ≡ is_occupied self.now }
     {
         self.entries().any(|entry| entry.first < PAST_SECOND)
     }
 
-    /// Converts the volume to a disk. Anything can be written to a disk, also to its directory.
+    /// Converts the volume to a disk. Any bytes can be written to a disk, also to its directory.
     pub fn into_disk(self) -> Disk
         ensures image { result ≡ self }
         ensures volume { IsVolume result }
@@ -535,7 +537,8 @@ impl Volume {
         Disk { bytes }
     }
 
-    // Returns the gap for a new file of `need` blocks, or the fault if there is none.
+    // Returns the gap for a new file with the name `name` and `need` blocks, or the fault for which the file cannot be
+    // added.
     #[tactic(auto, unfolding(crate::specs::Changes::place_for))]
     fn place(&self, name: &str, need: usize) -> Result<Gap, VolumeFault>
         ensures volume { IsVolume self.now }
@@ -555,7 +558,7 @@ impl Volume {
         Gap::lowest(directory, need).ok_or(VolumeFault::NoRoom)
     }
 
-    // Removes the file in `slot`. `None` is the fault `NoFile`.
+    // Removes the file in `slot`. If `slot` is `None`, returns the fault `NoFile`.
     fn remove_at(&mut self, slot: Option<u16>) -> Result<(), VolumeFault>
         requires within { IfSome slot (λ slot. (1 ≤ slot) × (slot ≤ file_count (directory_of self.old))) }
         ensures removed { OnOk result (RemovesFile self.old self.new slot) }
@@ -575,7 +578,7 @@ impl Volume {
         Ok(())
     }
 
-    // Renames the file in `slot`. `None` is the fault `NoFile`.
+    // Renames the file in `slot` to `new`. If `slot` is `None`, returns the fault `NoFile`.
     fn rename_at(&mut self, slot: Option<u16>, new: &str) -> Result<(), VolumeFault>
         requires within { IfSome slot (λ slot. (1 ≤ slot) × (slot ≤ file_count (directory_of self.old))) }
         ensures renamed { OnOk result (RenamesFile self.old self.new slot new.now) }
@@ -592,7 +595,7 @@ impl Volume {
         Ok(())
     }
 
-    // Returns the slot of the file to be renamed, or the fault.
+    // Returns the slot of the file to be renamed to `new`, or the fault for which the file cannot be renamed.
     #[tactic(auto, unfolding(crate::specs::Changes::slot_to_rename))]
     fn slot_to_rename(&self, slot: Option<u16>, new: &str) -> Result<u16, VolumeFault>
         requires within { IfSome slot (λ slot. (1 ≤ slot) × (slot ≤ file_count (directory_of self.now))) }
@@ -614,7 +617,8 @@ impl Volume {
         Ok(slot)
     }
 
-    // Sets the kind of the file in `slot`. `None` is the fault `NoFile`.
+    // Sets the kind of the file in `slot` to the low four bits of `kind`. If `slot` is `None`, returns the fault
+    // `NoFile`.
     fn set_kind_at(&mut self, slot: Option<u16>, kind: u8) -> Result<(), VolumeFault>
         requires within { IfSome slot (λ slot. (1 ≤ slot) × (slot ≤ file_count (directory_of self.old))) }
         ensures set { OnOk result (SetsKind self.old self.new slot kind) }
@@ -634,7 +638,7 @@ impl Volume {
         Ok(())
     }
 
-    // Returns the 2,048 bytes of the directory.
+    // Returns the 2,048 bytes of the first copy of the directory.
     fn directory(&self) -> &[u8]
         ensures volume { IsVolume self.now }
         ensures bytes { result.now ≡ directory_of self.now }
@@ -644,7 +648,7 @@ impl Volume {
     }
 }
 
-// Returns the first fault of an image.
+// Returns the first fault of `image`, or `None` if `image` is a volume.
 #[tactic(auto, unfolding(crate::specs::Directory::image_fault))]
 fn fault_of_image(image: &[u8]) -> Option<VolumeFault>
     ensures first { result ≡ image_fault image.now }

@@ -2,7 +2,8 @@ use Rattle.std.proofs.Common.{◌≡◌, ◌++◌, drop, take}
 use Rattle.pm_check.specs.Believing.{placed}
 use Rattle.pm_check.proofs.believing.place.Given as goal
 
--- the new file does not belong before any of the files so far
+-- If the new file is inserted into the remaining files, and the files so far are put before them, the result is that of
+-- inserting it into all files.
 abbrev pub invariant-loop-i : goal.invariant-loop-i
 invariant-loop-i l = record {
   same : l.taken.items ≡ l.fn.taken.items;

@@ -2,8 +2,9 @@ use Rattle.std.proofs.Common.{◌≡◌, ◌≤◌, ◌-◌, ◌+◌, ◌++◌, 
 use Rattle.pm_check.specs.Believing.{left_from, taken_from}
 use Rattle.pm_check.proofs.believing.taken_and_left.Given as goal
 
--- the files so far, with those in the remaining slots inserted, are all files; each slot has at most one; the entries
--- left out so far, followed by those in the remaining slots, are all entries left out
+-- If the valid entries in the remaining slots are inserted into the list so far, the result is the list of all files.
+-- Each slot has at most one file. The invalid entries so far and those in the remaining slots are together all invalid
+-- entries.
 abbrev pub invariant-loop-n : goal.invariant-loop-n
 invariant-loop-n l = record {
   rest : taken_from l.directory l.lowest l.blocks l.n (78 - l.n) l.taken.items ≡ taken_from l.directory l.lowest l.blocks 1 77 [];

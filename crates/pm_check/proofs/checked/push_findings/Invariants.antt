@@ -3,6 +3,6 @@ use Rattle.std.specs.List.{flat_map}
 use Rattle.pm_check.specs.Checked.{finding_line}
 use Rattle.pm_check.proofs.checked.push_findings.Given as goal
 
--- the text has the lines of the faults so far
+-- The lines of the findings so far have been appended to the text.
 abbrev pub invariant-loop-finding : goal.invariant-loop-finding
 invariant-loop-finding l = string_bytes l.text ≡ string_bytes l.fn.text ++ flat_map finding_line (take l.finding-index l.findings)

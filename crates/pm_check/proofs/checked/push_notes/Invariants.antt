@@ -3,6 +3,6 @@ use Rattle.std.specs.List.{flat_map}
 use Rattle.pm_check.specs.Checked.{note_line}
 use Rattle.pm_check.proofs.checked.push_notes.Given as goal
 
--- the text has the lines of the notes so far
+-- The lines of the notes so far have been appended to the text.
 abbrev pub invariant-loop-note : goal.invariant-loop-note
 invariant-loop-note l = string_bytes l.text ≡ string_bytes l.fn.text ++ flat_map note_line (take l.note-index l.notes)

@@ -4,7 +4,7 @@ use Rattle.pm_check.specs.Contents.{contents_of, contents_taken}
 use Rattle.pm_check.specs.Saving.{saved_from}
 use Rattle.pm_check.proofs.saving.save_all.Given as goal
 
--- the files so far, followed by the remaining files, are the whole
+-- Adding the remaining files to the result so far gives the result for all files.
 abbrev pub invariant-loop-file : goal.invariant-loop-file
 invariant-loop-file l = record {
   rest : saved_from l.image l.taken l.count (drop l.file-index l.taken)

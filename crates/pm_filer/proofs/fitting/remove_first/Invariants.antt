@@ -3,7 +3,7 @@ use Rattle.pm_volume.specs.Directory.{IsVolume}
 use Rattle.pm_filer.specs.Fitting.{without_first}
 use Rattle.pm_filer.proofs.fitting.remove_first.Given as goal
 
--- removing the remaining files gives the whole result
+-- Removing the remaining matching files gives the result for all files.
 abbrev pub invariant-slots : goal.invariant-slots
 invariant-slots l = (without_first l.pattern l.before l.volume ≡ without_first l.pattern l.count l.fn.volume)
     × (IsVolume l.fn.volume → IsVolume l.volume)

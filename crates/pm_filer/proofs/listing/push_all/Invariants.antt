@@ -4,7 +4,7 @@ use Rattle.pm_volume.specs.Files.{files_of}
 use Rattle.pm_filer.specs.Listing.{full_lines}
 use Rattle.pm_filer.proofs.listing.push_all.Given as goal
 
--- the text so far, followed by the lines of the remaining files, is the whole
+-- The text so far and the lines of the remaining files are together the complete text.
 abbrev pub invariant-files : goal.invariant-files
 invariant-files l =
     (string_bytes l.text ++ full_lines l.slot l.begin l.entries (block_count (directory_of l.volume))

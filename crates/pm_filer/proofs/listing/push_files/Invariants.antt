@@ -4,7 +4,7 @@ use Rattle.pm_volume.specs.Files.{files_of}
 use Rattle.pm_filer.specs.Listing.{file_line}
 use Rattle.pm_filer.proofs.listing.push_files.Given as goal
 
--- the text so far, followed by the lines of the remaining files, is the whole
+-- The text so far and the lines of the remaining files are together the complete text.
 abbrev pub invariant-files : goal.invariant-files
 invariant-files l = string_bytes l.text ++ flat_map file_line l.entries ≡ string_bytes l.fn.text ++ flat_map file_line (files_of l.volume)
 

@@ -4,8 +4,8 @@ use Rattle.pm_filer.specs.Fitting.{fitting_files, is_fitting}
 use Rattle.pm_filer.specs.Listing.{file_line}
 use Rattle.pm_filer.proofs.listing.push_fitting.Given as goal
 
--- the text so far, followed by the lines of the remaining matching files, is the whole; the same is true of their
--- number
+-- The text so far and the lines of the remaining matching files are together the complete text. The same holds for the
+-- number of matching files.
 abbrev pub invariant-files : goal.invariant-files
 invariant-files l =
     (string_bytes l.text ++ flat_map file_line (filter (is_fitting l.pattern) l.entries)

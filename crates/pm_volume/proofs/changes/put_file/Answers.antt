@@ -8,7 +8,7 @@ use Rattle.pm_volume.proofs.SlotLaws.{listed}
 use Rattle.pm_volume.proofs.WrittenLaws.{length-directory}
 use Rattle.pm_volume.proofs.changes.put_file.Goals as goal
 
--- The three writes, one after the other.
+-- The directory, the bytes of the file and the zeros are written one after the other.
 filed : (image d bytes part last : List ℕ) (begin n m : ℕ) → last ≡ written (written part begin bytes) (begin + length bytes) (replicate n 0)
     → part ≡ written image 1024 d → n ≡ m → last ≡ written (written (written image 1024 d) begin bytes) (begin + length bytes) (replicate m 0)
 filed image d bytes part last begin n m wrote same count = wrote ∙ rw (same, count) refl

@@ -9,7 +9,7 @@ use Rattle.pm_volume.proofs.SlotLaws.{written_back}
 use Rattle.pm_volume.proofs.packing.pack_file.Goals as goal
 use Rattle.pm_volume.proofs.packing.pack_file.Goals.{After-move_part}
 
--- The image with the blocks of the file moved.
+-- After `move_part`, the image is the old image in which the bytes of the file are copied to its new blocks.
 copied : (c : After-move_part) → c.move_part.new.bytes.items
     ≡ written c.args.image.now.items (512 * new_place c.args.from (entry_in (directory_of c.args.image.now.items) c.args.n))
     (blocks_of c.args.image.now.items (entry_in (directory_of c.args.image.now.items) c.args.n))

@@ -3,7 +3,7 @@ use Rattle.pm_volume.specs.Directory.{IsVolume, block_count, directory_of, file_
 use Rattle.pm_volume.proofs.PackedLaws.{file-after, file-ordered, file-within, next-order, next-past, next-size, packed_image-done, packed_image-more}
 use Rattle.pm_volume.proofs.packing.pack_files.Goals as goal
 
--- Bounds that are true in each iteration.
+-- Bounds that hold in each iteration of the loop.
 record Sizes (image : List ℕ) (blocks end : ℕ) : Type 0 where
   long : 3072 ≤ length image
   room : 512 * blocks ≤ length image

@@ -4,8 +4,8 @@ use Rattle.pm_volume.specs.Entries.{AreInOrder}
 use Rattle.pm_volume.specs.Packing.{packed_image}
 use Rattle.pm_volume.proofs.packing.pack_files.Given as goal
 
--- Moving the files from here on gives the same image as moving all. The files from here on are in order after those
--- that were moved.
+-- Moving the files from slot `n` on gives the image in which all files are moved. The files from slot `n` on are in
+-- order after the files that were already moved.
 abbrev pub invariant-loop-n : goal.invariant-loop-n
 invariant-loop-n l =
     let old = l.fn.image.items in

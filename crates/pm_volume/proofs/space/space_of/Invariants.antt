@@ -5,7 +5,7 @@ use Rattle.pm_volume.specs.Directory.{block_count, entries_from}
 use Rattle.pm_volume.specs.Space.{free_in, gap_size, largest_in}
 use Rattle.pm_volume.proofs.space.space_of.Given as goal
 
--- The gaps so far, with those from here on, are all gaps.
+-- The space of the gaps that were counted, together with the gaps from slot `n` on, is the space of all gaps.
 abbrev pub invariant-loop-n : goal.invariant-loop-n
 invariant-loop-n l = record {
   free : fold (λ sum gap. sum + gap_size gap) l.space.free (gaps (block_count l.directory) l.n l.from (entries_from l.directory l.n (l.n-end - l.n)))

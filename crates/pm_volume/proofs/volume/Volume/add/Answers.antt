@@ -9,7 +9,7 @@ use Rattle.pm_volume.proofs.volume.Volume.add.Goals as goal
 use Rattle.pm_volume.proofs.volume.Volume.add.Goals.{After-put_file, In_ok-gap}
 use Rattle.pm_volume.proofs.SlotLaws.{written_back}
 
--- The gap for the file.
+-- The gap that the call found is the gap that `place_for` defines.
 found : (c : In_ok-gap) → place_for c.args.self.now c.args.name.now (blocks_for (length c.args.bytes.now)) ≡ Ok c.in_ok-gap.gap
 found c =
     let was : c.place.result ≡ Ok c.in_ok-gap.gap = c.in_ok-gap.was in
@@ -47,7 +47,7 @@ put_file-requires-clause-room c =
     let r = room (goal.at.put_file-requires-clause-room c).In_ok-gap in
     rw (same, c.new_entry-entry.ensures.entry) (omega (arith, r.fits, r.within))
 
--- The image after the call.
+-- After the call, the image is the old image with the new file, in each copy of the directory.
 image_after : (c : After-put_file) → take c.self.inside.bytes.len (c.put_file.new.image ++ drop (length c.put_file.new.image) c.self.inside.bytes.items)
     ≡ mirrored (with_file c.args.self.now c.in_ok-gap.gap.place c.new_entry-entry.result c.args.bytes.now)
 image_after c =

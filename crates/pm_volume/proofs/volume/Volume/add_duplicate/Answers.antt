@@ -7,7 +7,7 @@ use Rattle.pm_volume.proofs.SlotLaws.{written_back}
 use Rattle.pm_volume.proofs.volume.Volume.add_duplicate.Goals as goal
 use Rattle.pm_volume.proofs.volume.Volume.add_duplicate.Goals.{After-add_second}
 
--- The image after the call.
+-- After the call, files begin at block 10, and the directory is copied to blocks 6 to 9.
 image_after : (c : After-add_second) → take c.self.inside.bytes.len (c.add_second.new.image ++ drop (length c.add_second.new.image) c.self.inside.bytes.items)
     ≡ mirrored (begun_at c.args.self.now 10)
 image_after c =

@@ -15,12 +15,12 @@ name_length c =
     let new : is_new_name 7 c.args.name.now ≡ true = search (rules, tests) in
     length-new_name 7 c.args.name.now new
 
--- The bytes before the directory is written.
+-- Before the directory is written, all bytes are zero.
 made : (c : After-as_bytes-2) → c.in-Ok.bytes.items ≡ zeros (512 * c.args.blocks)
 unfolding zeros
 made c = rw c.from.ensures at (c.in-Ok.ensures.items_if_clones_equal (λ y same. same))
 
--- The image after the call.
+-- After the call, the image is `blank_image` for the given name and number of blocks.
 image_after : (c : After-renew_directory) → c.in-Ok.bytes.items ≡ zeros (512 * c.args.blocks)
     → files_begin (directory_of (blank_image c.args.name.now c.args.blocks)) ≡ 6
     → take c.in-Ok.bytes.len (c.renew_directory.new.image ++ drop (length c.renew_directory.new.image) c.in-Ok.bytes.items)

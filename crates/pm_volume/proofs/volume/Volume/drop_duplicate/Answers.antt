@@ -6,7 +6,7 @@ use Rattle.pm_volume.proofs.SlotLaws.{written_back}
 use Rattle.pm_volume.proofs.volume.Volume.drop_duplicate.Goals as goal
 use Rattle.pm_volume.proofs.volume.Volume.drop_duplicate.Goals.{After-drop_second}
 
--- The image after the call.
+-- After the call, the image is `singled` of the old image.
 image_after : (c : After-drop_second) →
     take c.self.inside.bytes.len (c.drop_second.new.image ++ drop (length c.drop_second.new.image) c.self.inside.bytes.items)
     ≡ singled c.args.self.now

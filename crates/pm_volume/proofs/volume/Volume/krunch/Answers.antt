@@ -13,7 +13,7 @@ volume c = subst IsVolume c.self.view_is c.self.invariant
 fits : (c : After-pack_files) → block_count (directory_of c.args.self.now) < 65536
 fits c = subst (λ (image : List ℕ). block_count (directory_of image) < 65536) c.self.view_is c.pack_files.ensures.blocks
 
--- The image with its files moved.
+-- After `pack_files`, the image is the old image in which the files are moved together.
 packed : (c : After-pack_files) → c.pack_files.new.image.items
     ≡ packed_image c.args.self.now 1 (files_begin (directory_of c.args.self.now)) (file_count (directory_of c.args.self.now))
 packed c =
@@ -26,7 +26,7 @@ mirror-requires c =
     let same = c.deref_mut.ensures.value ∙ packed w in
     record { whole = rw same (IsVolume-packed c.args.self.now (volume w) (fits w)).long }
 
--- The image after the call.
+-- After the call, the image is `krunched_image` of the old image.
 image_after : (c : After-mirror)
     → c.pack_files.new.image.items ≡ packed_image c.args.self.now 1 (files_begin (directory_of c.args.self.now)) (file_count (directory_of c.args.self.now))
     → take c.pack_files.new.image.len (c.mirror.new.image ++ drop (length c.mirror.new.image) c.pack_files.new.image.items)

@@ -7,14 +7,14 @@ use Rattle.pm_volume.proofs.SlotLaws.{written_back}
 use Rattle.pm_volume.proofs.volume.Volume.remove_at.Goals as goal
 use Rattle.pm_volume.proofs.volume.Volume.remove_at.Goals.{After-take_file}
 
--- The slot contains a file.
+-- The slot that is removed contains a file.
 within : (c : After-take_file) → (1 ≤ c.in-Some.slot) × (c.in-Some.slot ≤ file_count (directory_of c.args.self.now))
 within c = rw c.in-Some.is at c.requires.within
 
 volume : (c : After-take_file) → IsVolume c.args.self.now
 volume c = subst IsVolume c.self.view_is c.self.invariant
 
--- The image after the call.
+-- After the call, the image is the old image without the file, in each copy of the directory.
 image_after : (c : After-take_file) → take c.self.inside.bytes.len (c.take_file.new.image ++ drop (length c.take_file.new.image) c.self.inside.bytes.items)
     ≡ mirrored (without_file c.args.self.now c.in-Some.slot)
 image_after c =

@@ -6,7 +6,7 @@ use Rattle.pm_volume.proofs.SlotLaws.{written_back}
 use Rattle.pm_volume.proofs.volume.Volume.rename_at.Goals as goal
 use Rattle.pm_volume.proofs.volume.Volume.rename_at.Goals.{After-name_file}
 
--- The image after the call.
+-- After the call, the image is the old image with the new name, in each copy of the directory.
 image_after : (c : After-name_file) → take c.self.inside.bytes.len (c.name_file.new.image ++ drop (length c.name_file.new.image) c.self.inside.bytes.items)
     ≡ mirrored (with_name c.args.self.now c.in_ok-slot.slot c.args.new.now)
 image_after c =

@@ -19,7 +19,7 @@ restore-requires c =
     let same = c.deref_mut.ensures.value in
     record { whole = rw same (bad (goal.at.restore-requires c).In-Some-FirstCopyBad).long }
 
--- The image after the call.
+-- After the call, the second copy of the directory is copied over the first (`restored`).
 image_after : (c : After-restore) →
     take c.args.bytes.len (c.restore.new.image ++ drop (length c.restore.new.image) c.args.bytes.items) ≡ restored c.args.bytes.items
 image_after c =

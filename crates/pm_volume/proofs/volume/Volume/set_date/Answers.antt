@@ -6,7 +6,7 @@ use Rattle.pm_volume.proofs.SlotLaws.{written_back}
 use Rattle.pm_volume.proofs.volume.Volume.set_date.Goals as goal
 use Rattle.pm_volume.proofs.volume.Volume.set_date.Goals.{After-date_volume}
 
--- The image after the call.
+-- After the call, the image is `dated_image` of the old image.
 image_after : (c : After-date_volume) →
     take c.self.inside.bytes.len (c.date_volume.new.image ++ drop (length c.date_volume.new.image) c.self.inside.bytes.items)
     ≡ dated_image c.args.self.now c.args.date

@@ -7,14 +7,14 @@ use Rattle.pm_volume.proofs.SlotLaws.{written_back}
 use Rattle.pm_volume.proofs.volume.Volume.set_kind_at.Goals as goal
 use Rattle.pm_volume.proofs.volume.Volume.set_kind_at.Goals.{After-type_file}
 
--- The slot contains a file.
+-- The slot whose kind is set contains a file.
 within : (c : After-type_file) → (1 ≤ c.in-Some.slot) × (c.in-Some.slot ≤ file_count (directory_of c.args.self.now))
 within c = rw c.in-Some.is at c.requires.within
 
 volume : (c : After-type_file) → IsVolume c.args.self.now
 volume c = subst IsVolume c.self.view_is c.self.invariant
 
--- The image after the call.
+-- After the call, the image is the old image with the new kind, in each copy of the directory.
 image_after : (c : After-type_file) → take c.self.inside.bytes.len (c.type_file.new.image ++ drop (length c.type_file.new.image) c.self.inside.bytes.items)
     ≡ mirrored (with_kind c.args.self.now c.in-Some.slot c.args.kind)
 image_after c =

@@ -13,7 +13,7 @@ name_length c =
     let new : is_new_name 7 c.args.name.now ≡ true = search (rules, tests) in
     length-new_name 7 c.args.name.now new
 
--- The image after the call.
+-- After the call, the image is `zeroed_image` of the old image.
 image_after : (c : After-renew_directory) →
     take c.self.inside.bytes.len (c.renew_directory.new.image ++ drop (length c.renew_directory.new.image) c.self.inside.bytes.items)
     ≡ zeroed_image c.args.self.now c.args.name.now

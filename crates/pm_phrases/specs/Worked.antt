@@ -9,29 +9,30 @@ use Rattle.pm_phrases.specs.declared.around.Missing.{Missing}
 use Rattle.pm_phrases.specs.Phrases.{phrase_of}
 use Rattle.pm_phrases.specs.Shown.{Shown}
 
--- An instruction with two operands. `long` states whether its number is in two bytes although one suffices.
+-- An instruction with the opcode `op` and the operands `a` and `b`. `long` states whether its number is in two bytes
+-- although one suffices.
 abbrev pub spelled : Bool → ℕ → ℕ → ℕ → Item ℕ
 spelled long op a b = Plain record { op = op; a = a; b = b; c = 0; long = long; start = 0; count = 0; len = 0 } []
 
 abbrev pub coded : ℕ → ℕ → ℕ → Item ℕ
 coded op a b = spelled false op a b
 
--- In a procedure with three words of parameters.
+-- A procedure with three words of parameters.
 abbrev pub three_parameters : Around
 three_parameters = record { parameters = 3 }
 
 abbrev pub words_missing : ℕ → Missing
 words_missing n = record { below = share.Words 0; top = share.Words n }
 
--- With all of its operands.
+-- The text of `item` with all of its operands, in a procedure with three words of parameters.
 abbrev pub on : Item ℕ → List Shown → Shown
 on item operands = phrase_of three_parameters item true (words_missing 0) operands
 
--- With `n` words missing.
+-- The text of `item` if `n` words of its input are missing.
 abbrev pub lacking : ℕ → Item ℕ → List Shown → Shown
 lacking n item operands = phrase_of three_parameters item true (words_missing n) operands
 
--- With an input that is not known.
+-- The text of `item` if its input is not known.
 abbrev pub unknown : Item ℕ → Shown
 unknown item = phrase_of three_parameters item false (words_missing 0) []
 
@@ -65,8 +66,8 @@ less a b = on (coded 201 0 0) (a ∷ b ∷ [])
 abbrev pub at_least : Shown → Shown → Shown
 at_least a b = on (coded 196 0 0) (a ∷ b ∷ [])
 
--- Variables and their encodings: SLDL, LLA, LDA, LOD and STL; LDO 5 instead of SLDO 5; LDO with a number in two bytes
--- instead of one.
+-- States the texts of variables and their encodings. The instructions are SLDL, LLA, LDA, LOD and STL; LDO 5 instead of
+-- SLDO 5; LDO with a number in two bytes instead of one.
 pub record WorkedVariables : Type 0 where
   pub parameter : (local 3).text ≡ codes "param3"
   pub beyond : (local 4).text ≡ codes "local4"
@@ -85,7 +86,7 @@ pub record WorkedVariables : Type 0 where
   pub in_two_bytes : (on (spelled true 169 20 0) []).text ≡ codes "global20!"
   pub both : (on (spelled true 169 5 0) []).text ≡ codes "global5!!"
 
--- Operators, and where parentheses are needed.
+-- States the texts of operators, and where parentheses are needed.
 pub record WorkedOperators : Type 0 where
   pub from_left : (subtract (subtract (constant 6) (local 2)) (local 1)).text ≡ codes "6 - param2 - param1"
   pub from_right : (subtract (constant 6) (subtract (local 2) (local 1))).text ≡ codes "6 - (param2 - param1)"
@@ -167,7 +168,7 @@ pub record WorkedAddresses : Type 0 where
   pub words : (on (coded 189 4 0) (address 3 ∷ on (coded 188 4 0) (address 9 ∷ []) ∷ [])).text
       ≡ codes "global3 :=[4] load[4] global9"
 
--- Stand-ins for what is missing precede the operands.
+-- States texts with stand-ins such as `POP`. They represent missing operands, and precede the other operands.
 pub record WorkedMissing : Type 0 where
   pub one : (lacking 1 (coded 130 0 0) (local 1 ∷ [])).text ≡ codes "POP + param1"
   pub two : (lacking 2 (coded 154 0 0) []).text ≡ codes "{STO}(POP*2)"
@@ -212,13 +213,13 @@ pub record WorkedJumps : Type 0 where
       ≡ codes "CASE param1 OF -1: L00010; 0: L00020; 1: L00010 ELSE L00090"
   pub by_no_value : (on (Case 5 2 (Through 0) []) (local 1 ∷ [])).text ≡ codes "CASE param1 OF {5, 2} ELSE ^0"
 
--- Items that have no text of their own.
+-- States the texts of items that have no special text.
 pub record WorkedOthers : Type 0 where
   pub byte : (on (OneByte 210) []).text ≡ codes "{.BYTE 210}"
   pub other_segment : (on (coded 157 1 2) []).text ≡ codes "{LDE 1, 2}"
   pub real : (on (coded 131 0 0) (local 1 ∷ local 2 ∷ [])).text ≡ codes "{ADR}(param1, param2)"
 
--- An instruction that names bytes.
+-- The text of the instruction `op` to which `bytes` belong.
 abbrev pub naming : ℕ → List ℕ → Shown
 naming op bytes =
     on (Plain record { op = op; a = 0; b = 0; c = 0; long = false; start = 0; count = 0; len = 0 } bytes) []
@@ -339,7 +340,7 @@ letter = on (coded 190 0 0) (character (address 44) (local 4) ∷ [])
 abbrev pub equal : Shown → Shown → Shown
 equal a b = on (coded 195 0 0) (a ∷ b ∷ [])
 
--- A number next to a byte.
+-- States the texts of numbers next to a byte, which are shown as characters if they are printable.
 pub record WorkedCharacters : Type 0 where
   pub compared : (equal letter (constant 65)).text ≡ codes "global44.char[local4] = CHR'A'"
   pub in_front : (equal (constant 65) letter).text ≡ codes "CHR'A' = global44.char[local4]"
@@ -368,7 +369,8 @@ with_one words n = on (coded 156 0 0) (words ∷ n ∷ single (local 1) ∷ [])
 abbrev pub in_code : List ℕ → Shown
 in_code bytes = naming 179 bytes
 
--- Constant sets: bits 1 and 8 of the word 258, and bit 0 of the word before it, which is number 16.
+-- States the texts of constant sets, for example bits 1 and 8 of the word 258. Bit 0 of the word before that word is
+-- number 16.
 pub record WorkedConstants : Type 0 where
   pub two_words : (member (in_code (1 ∷ 0 ∷ 2 ∷ 1 ∷ [])) (constant 2)).text ≡ codes "param1 IN [1, 8, 16]"
   pub over_words : (member (in_code (1 ∷ 0 ∷ 1 ∷ 128 ∷ [])) (constant 2)).text ≡ codes "param1 IN [0, 15..16]"

@@ -20,7 +20,8 @@ pub record Session : Type 0 where
   pub passes : ℕ
   pub shows_console : Bool
 
--- The debugger as contracts see it: its machine with its capacity for input and output, and the other parts unchanged.
+-- The debugger as contracts describe it. The machine has the capacities of its input and output. The other parts are as
+-- in the code.
 pub record Debugged : Type 0 where
   pub machine : Whole
   pub breaks : List Breakpoint
@@ -39,7 +40,8 @@ session_of d = record {
   shows_console = d.shows_console;
 }
 
--- The last run cannot be continued. Either it has no rest and nothing changes, or memory is out.
+-- States why the continuation of the last run was refused. Either the run cannot be continued and nothing has changed,
+-- or the continuation was out of memory.
 abbrev pub StopsShort : DebugRefusal → ℕ → Debugged → Debugged → Type 0
 StopsShort NothingLeft limit d e = (gone_on d.breaks d.left limit d.machine.state ≡ None) × (e ≡ d)
 StopsShort NoMemory limit d e = GaveUpOn d.breaks d.left limit d.machine e.machine

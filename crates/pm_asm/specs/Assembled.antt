@@ -48,8 +48,8 @@ pub record Assembles (text file shown : List ℕ) : Type 0 where
 abbrev pub SpellsNothing : List ℕ → Type 0
 SpellsNothing text = (ss : List Segment) → Spells text ss → AreShort ss → ⊥
 
--- States that assembling a text results in a code file and a listing if and only if two conditions hold: the text
--- spells a program that has this code file and this listing, and no segment of the program is too long.
+-- States when assembling a text results in a given code file and listing. It does so if and only if the text spells a
+-- program that has both, and no segment of this program is too long.
 abbrev pub AssembledIsSpelled : Type 0
 AssembledIsSpelled = (text file shown : List ℕ) → (assembled text ≡ Ok (file, shown)) ↔ Assembles text file shown
 

@@ -17,7 +17,7 @@ use Rattle.pm_source.specs.Line.Line.{Blank, Wrong, Strange, Says}
 use Rattle.pm_source.specs.Source.{Name}
 use Rattle.pm_source.specs.Words.{is_name}
 
--- A hint for a line with a fault.
+-- A hint for a line with a fault. Each constructor states what the text of the hint describes.
 pub data Hint : Type 0 where
   -- The characters that are allowed in source text.
   Characters : Hint
@@ -37,8 +37,8 @@ pub data Hint : Type 0 where
   Ended : Hint
   -- A procedure with an odd number of bytes: the number of the procedure, and its number of bytes.
   Odd : ℕ → ℕ → Hint
-  -- A procedure with the wrong number of `.JUMP` lines: the number of the procedure, the number of its `.JUMP` lines,
-  -- and the number of entries that its code uses.
+  -- A procedure with the wrong number of `.JUMP` lines. The fields are the number of the procedure, the number of its
+  -- `.JUMP` lines, and the number of entries that its code uses.
   Counted : ℕ → ℕ → ℕ → Hint
   -- Every label that is used must be defined.
   Named : Hint

@@ -14,8 +14,11 @@ use Rattle.pm_source.specs.Words.{is_blank}
 
 -- A position is the number of characters before it.
 
--- Is true if the character `c` is in the set. The sets are: all characters except space and tab; those that end a word,
--- which are space, tab and the beginning of a comment; those that are not allowed in source text.
+-- Is true if the character `c` is in the given set. Three sets exist:
+--
+-- - `Solid`: all characters except space and tab,
+-- - `WordEnd`: the characters that end a word, which are space, tab, and the beginning of a comment,
+-- - `Strange`: the characters that are not allowed in source text.
 abbrev pub stops : Stop → ℕ → Bool
 stops stop.Solid c = not (is_blank c)
 stops stop.WordEnd c = is_blank c || (c == 59)

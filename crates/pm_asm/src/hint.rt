@@ -17,7 +17,7 @@ use pm_reader::Counts;
 use pm_source::AsmFault;
 use std::alloc::{AllocError, Global};
 
-/// A hint for a line with a fault.
+/// A hint for a line with a fault. Each variant states what the text of the hint describes.
 #[derive(Clone, Copy)]
 pub enum Hint {
     /// The characters that are allowed in source text.
@@ -38,8 +38,8 @@ pub enum Hint {
     Ended,
     /// A procedure with an odd number of bytes.
     Odd { procedure: usize, bytes: usize },
-    /// A procedure with the wrong number of `.JUMP` lines: the number of the procedure, the number of its `.JUMP`
-    /// lines, and the number of entries that its code uses.
+    /// A procedure with the wrong number of `.JUMP` lines. The fields are the number of the procedure, the number of
+    /// its `.JUMP` lines, and the number of entries that its code uses.
     Counted(usize, usize, usize),
     /// Every label that is used must be defined.
     Named,

@@ -1,4 +1,4 @@
--- The offsets of the procedures of a segment and of its dictionary.
+-- Lemmas about the offsets of the procedures of a segment and of its dictionary.
 use Rattle.std.proofs.Common.{◌≡◌, ◌<◌, ◌≤◌, ℕ, ◌+◌, ◌-◌, ◌*◌, List, [], ◌∷◌, ◌++◌, length, map, reverse, refl, sym, ap, ◌∙◌, subst, arith, length-append}
 use Rattle.std.specs.List.{AllByRecursion}
 use Rattle.std.proofs.lemmas.List.{length-reverse, map-append, reverse-append}

@@ -1,4 +1,4 @@
--- Lists in a loop, and results that are Ok.
+-- Lemmas about the elements of a list in a loop, and about results that are `Ok`.
 use Rattle.std.proofs.Common.{◌≡◌, ◌+◌, ◌-◌, ◌<◌, ℕ, List, [], ◌∷◌, ◌∙◌, drop, length, get_or, ap, sym, arith, reverse, take}
 use Rattle.std.specs.Prelude.{Result, Ok, Err, IfOk, OnOk}
 use Rattle.std.proofs.lemmas.List.{drop_more, reverse-append, take_more}

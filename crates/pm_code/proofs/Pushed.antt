@@ -28,7 +28,8 @@ pub item_good : (before after : List ℕ) (item : Item ℕ) (rest : List (Item �
     → AreItems (length before) (item ∷ rest) → AreItems (length after) rest
 item_good before after item rest e h = subst (λ n. AreItems n rest) (sym (item_long before after item e)) h.1
 
--- If `jtab_of p` is 8 more than the length of `before`, then the attribute bytes of `p` consist of these six values.
+-- If `jtab_of p` is 8 more than the length of `before`, then the values that `push_attributes` appends after `before`
+-- are the attribute bytes of `p`.
 pub attributes_pushed : (before : List ℕ) (number : ℕ) (p : Procedure) → jtab_of p ≡ length before + 8
     → spelled_word p.locals ++ (spelled_word p.parameters ++ (back_to (length before + 4) p.exit
     ++ (back_to (length before + 6) p.start ++ number ∷ p.level ∷ []))) ≡ attribute_bytes number p

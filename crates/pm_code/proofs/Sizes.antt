@@ -1,4 +1,4 @@
--- The sizes of items in bytes.
+-- Lemmas about the sizes of items in bytes.
 use Rattle.std.proofs.Common.{◌≡◌, ◌<◌, ℕ, ◌+◌, ◌*◌, List, [], ◌∷◌, ◌++◌, length, refl, sym, ap, ◌∙◌, arith, length-append, append_assoc}
 use Rattle.pm_opcode.specs.Spelling.{spelled_word, pad_byte, flip, is_odd}
 use Rattle.pm_code.specs.Item.{Item, item_bytes, size, table_words, table_place, jump_byte, jump_opcode}

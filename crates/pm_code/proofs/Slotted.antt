@@ -1,4 +1,4 @@
--- The segments of a program by their slots.
+-- Lemmas about the segments of a program by their slots.
 use Rattle.std.proofs.Common.{◌≡◌, ◌≤◌, ℕ, ◌+◌, true, List, [], ◌∷◌, ◌++◌, length, map, refl, sym, ap}
 use Rattle.std.proofs.Common.{subst, ◌∙◌, arith, append_assoc, length-append, append-nil, Option, Some, inl, inr}
 use Rattle.std.specs.Prelude.{zero, suc, ◌==◌, nat_le, sum}

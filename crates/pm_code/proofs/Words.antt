@@ -1,4 +1,4 @@
--- Words that are written one after the other.
+-- Lemmas about words that are written one after the other.
 use Rattle.std.proofs.Common.{◌≡◌, ◌<◌, ◌≤◌, ℕ, zero, suc, ◌+◌, ◌-◌, ◌*◌, ◌/◌, ◌%◌, List, [], ◌∷◌, ◌++◌, length, map, drop}
 use Rattle.std.proofs.Common.{get_or, refl, sym, ap, ◌∙◌, arith, add-one, append-nil, append_assoc, drop-cons, length-drop}
 use Rattle.std.specs.Prelude.{codes}

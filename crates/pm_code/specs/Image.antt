@@ -11,7 +11,7 @@ abbrev pub bytes_of_segment : Option Segment → List ℕ
 bytes_of_segment None = []
 bytes_of_segment (Some s) = segment_bytes s
 
--- The name of a segment padded with spaces to 8 characters, or 8 spaces if there is no segment.
+-- The name of a segment padded with spaces to 8 characters, or 8 spaces if no segment is given.
 abbrev pub name_of_segment : Option Segment → List ℕ
 name_of_segment None = replicate 8 32
 name_of_segment (Some s) = s.name ++ replicate (8 - length s.name) 32

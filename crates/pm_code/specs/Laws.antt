@@ -7,7 +7,7 @@ use Rattle.pm_code.specs.Program.{AreInstructions, FitSlots, IsProgram, Procedur
 use Rattle.pm_code.specs.Program.{segment_numbered}
 use Rattle.pm_code.specs.Image.{file_of}
 
--- The name of a slot, or no characters if there is no slot.
+-- The name of a slot, or no characters if no slot is given.
 abbrev pub name_of : Option Slot → List ℕ
 name_of None = []
 name_of (Some slot) = slot.name

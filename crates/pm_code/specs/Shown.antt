@@ -30,7 +30,7 @@ front_text (Jump op target) = mnemonic_of op
 front_text (Case low high otherwise places) = mnemonic_of case_opcode
 front_text (OneByte b) = codes ".BYTE"
 
--- the text of each operand of an item
+-- The text of each operand of an item.
 abbrev pub item_operands : Item ℕ → List (List ℕ)
 item_operands (Plain i named) = operand_texts (form_of i.op) i named
 item_operands (Jump op target) = target_text target ∷ []
@@ -38,7 +38,7 @@ item_operands (Case low high otherwise places) =
     signed_text low ∷ signed_text high ∷ target_text otherwise ∷ map label_text places
 item_operands (OneByte b) = decimal b ∷ []
 
--- The text of an item.
+-- The text of `item`: its first word and its operands.
 unfoldable pub shown_item : Item ℕ → List ℕ
 shown_item item = front_text item ++ operands_text (item_operands item)
 
@@ -70,8 +70,11 @@ level_text level = if nat_lt level 128 then decimal level else 45 ∷ decimal (2
 abbrev pub entry_line : ℕ → List ℕ
 entry_line place = codes ".JUMP" ++ words_text (label_text place ∷ [])
 
--- The lines of procedure `p`, which has the number `number`: its number, level and sizes; its code with the labels that
--- a jump or an entry uses; the entries of its jump table from entry 0.
+-- The lines of procedure `p`, which has the number `number`. They show:
+--
+-- - its number, level and sizes,
+-- - its code with the labels that a jump or an entry uses,
+-- - the entries of its jump table, from entry 0.
 abbrev pub procedure_lines : ℕ → Procedure → List (List ℕ)
 procedure_lines number p =
     (codes ".PROC" ++ words_text (decimal number ∷ level_text p.level ∷ decimal p.parameters ∷ decimal p.locals ∷ []))
@@ -97,6 +100,6 @@ abbrev pub joined : List (List ℕ) → List ℕ
 joined [] = []
 joined (line ∷ lines) = line ++ (10 ∷ joined lines)
 
--- The text of a program.
+-- The text of the program `ss`: the lines of its segments.
 unfoldable pub program_text : List Segment → List ℕ
 program_text ss = joined (segments_lines ss)

@@ -61,8 +61,8 @@ fn push_table(out: &mut Vec<u8>, places: &[usize]) -> Result<(), AllocError>
     Ok(())
 }
 
-/// Appends a case jump: its opcode, its padding, its two `bounds`, the short jump to `otherwise` (the target for values
-/// out of bounds), and the table of the targets `places`.
+/// Appends a case jump: its opcode, its padding, its two `bounds`, a short jump and a table. The short jump leads to
+/// `otherwise`, the target for values out of bounds. The table has the targets `places`.
 fn push_case(
     out: &mut Vec<u8>,
     bounds: (u16, u16),

@@ -5,7 +5,7 @@ use pm_opcode::Instr;
 /// The target of a jump. `P` is an offset in the segment, or a label of a source text.
 #[derive(Clone, Copy, Drop)]
 pub enum Target<P> {
-    /// A position in the segment.
+    /// The position `P` itself.
     To(P),
     /// The position to which the jump table entry with this number leads.
     Through(u8),

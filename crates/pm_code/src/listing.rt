@@ -1,5 +1,5 @@
-//! The listing of a program. Each function `list_..` appends two things: the bytes of its argument to `bytes`, which
-//! are the bytes of the segment up to here, and the lines of its argument to `text`.
+//! The listing of a program. Each function `list_..` appends two things. It appends the bytes of its argument to
+//! `bytes`, the bytes of the segment from offset 0. It appends the lines of its argument to `text`.
 
 ghost use Rattle.std.specs.Prelude.{◌≡◌, ◌<◌, ◌≤◌, ◌+◌, ◌*◌, ◌++◌, ◌∷◌, [], List, ℕ, Some, codes};
 ghost use Rattle.std.specs.Prelude.{length, map, reverse, string_bytes, IfOk, OnOk};
@@ -31,7 +31,7 @@ struct Place {
     procedure: u8,
 }
 
-/// The number of a segment, shown in two digits.
+/// The number of a segment, shown in at least two digits.
 #[derive(Clone, Copy)]
 struct SegmentNumber(u8);
 

@@ -3,7 +3,7 @@
 
 use crate::item::Item;
 
-/// A procedure.
+/// A procedure of a program.
 #[derive(Drop)]
 pub struct Procedure {
     /// The level at which the procedure is nested: a byte in two's complement.
@@ -25,9 +25,9 @@ pub struct Procedure {
 /// A segment. Its procedures are numbered from 1.
 #[derive(Drop)]
 pub struct Segment {
-    /// The number, below 16.
+    /// The number of the segment, below 16.
     pub number: u8,
-    /// The name, 1 to 8 bytes.
+    /// The name of the segment, 1 to 8 bytes.
     pub name: Vec<u8>,
     /// The procedures. The first one has number 1.
     pub procedures: Vec<Procedure>,

@@ -58,7 +58,7 @@ abbrev pub can_be_asked : Option Condition → Bool
 can_be_asked None = true
 can_be_asked (Some c) = is_even c.address
 
--- The breakpoint `b` if it has the same spot as `c`, and otherwise `c`.
+-- The breakpoint `b` if `b` has the same spot as `c`, and otherwise `c`.
 abbrev pub instead : Breakpoint → Breakpoint → Breakpoint
 instead b c = if is_same b.spot c.spot then b else c
 

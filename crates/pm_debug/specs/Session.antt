@@ -1,8 +1,9 @@
 -- A debugger has these parts:
 --
 -- - its machine,
--- - its breakpoints and watched addresses, in the order in which they were set,
--- - the rest of its last run, and the number of its passes,
+-- - its breakpoints and the addresses of its watched words, in the order in which they were set,
+-- - the rest of its last run, if its limit or a breakpoint stopped the run,
+-- - the number of passes: how many breakpoints its runs may still pass over,
 -- - whether a session shows what its commands add to the console.
 use Rattle.std.specs.Prelude.{◌≡◌, ℕ, Bool, List, None}
 use Rattle.pm_machine.specs.State.{State, Whole}

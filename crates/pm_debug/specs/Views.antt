@@ -31,9 +31,9 @@ abbrev pub before_frames : ℕ → Option (List ℕ) → Option (List ℕ)
 before_frames a (Some frames) = Some (a ∷ frames)
 before_frames a None = None
 
--- The addresses of at most as many frames as the number after `distance`, the first of which is `a`. The word at offset
--- `distance` of a frame is the address of the next frame. The system's frame, 65,492, is the last. The result is `None`
--- if a frame at an odd address is followed by another one.
+-- The addresses of frames, the first of which is `a`. The number before `a` is the maximum number of frames. The word
+-- at offset `distance` of a frame is the address of the next frame. The system's frame, 65,492, is the last. The result
+-- is `None` if the next frame after a frame at an odd address is needed.
 unfoldable pub chain : List ℕ → ℕ → ℕ → ℕ → Option (List ℕ)
 chain m distance zero a = Some []
 chain m distance (suc n) a =

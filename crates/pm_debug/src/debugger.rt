@@ -41,7 +41,7 @@ use std::marker::Model;
 ///
 /// - the machine,
 /// - the breakpoints and the addresses of the watched words, which stop runs,
-/// - the rest of the last run, if the run can be continued,
+/// - the rest of the last run, if its limit or a breakpoint stopped it,
 /// - the number of passes: how many breakpoints runs may still pass over,
 /// - whether a session shows what its commands add to the console.
 ///

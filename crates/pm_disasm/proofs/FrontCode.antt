@@ -1,4 +1,4 @@
--- The instruction at an offset of code.
+-- Lemmas about the instruction at an offset of code.
 use Rattle.std.proofs.Common.{◌≡◌, ◌<◌, ◌≤◌, ℕ, ◌+◌, ◌-◌, Bool, true, false, cond, List, ◌++◌, length, take, drop, replicate}
 use Rattle.std.proofs.Common.{Ok, Err, Some, None, refl, sym, ap, ◌∙◌, arith, inl, inr, length-append, length-drop, drop-drop}
 use Rattle.std.proofs.Math.Seq.{drop-append_seam}
@@ -82,8 +82,8 @@ named_again bytes at i b = elim (cases_Bool (names_bytes (form_of i.op))) [
   | inr n ↦ rw n refl
 ]
 
--- If instruction `i` was decoded at offset `at`, then it is the instruction at the beginning of the bytes from `at` on,
--- provided that its padding is zero.
+-- If instruction `i` was decoded at offset `at` and its padding is zero, then `i` is the instruction at the beginning
+-- of the bytes from `at` on. If its padding is not zero, then the result is `None`.
 pub front_read : (bytes : List ℕ) (at : ℕ) (i : Instr) → reading bytes at ≡ Ok i → IsSpelledAt bytes at i → front at (drop at bytes)
     ≡ cond (has_zero_padding (form_of i.op) (is_odd at) (drop at bytes))
     (Some (record { size = i.len; item = item_of (form_of i.op) i (named_by i bytes) (at + i.len) })) None

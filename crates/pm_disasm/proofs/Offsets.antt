@@ -48,7 +48,7 @@ cut_again at m bytes f r e small =
     ∙ ap (front at) (sym r.whole)
     ∙ e
 
--- The instruction in the first `m` bytes is the one in all bytes if it has at most `m` bytes, else there is none.
+-- The instruction in the first `m` bytes is the one in all bytes if it has at most `m` bytes, else it is `None`.
 pub front_cut : (at m : ℕ) (bytes : List ℕ) → AllByRecursion IsByte bytes → front at (take m bytes) ≡ up_to m (front at bytes)
 front_cut at m bytes h = both (front at (take m bytes)) (front at bytes) refl refl
   where

@@ -41,7 +41,7 @@ places_read segment a t r allowed before after w h b e place =
     ∙ ap (λ v. v || is_among entries place) (b place ∙ ap (λ items. is_among (named_places items) place) (items_read segment a t r allowed w h))
     ∙ sym (among-append (named_places (procedure_with segment a allowed t).items) entries place)
 
--- If the header, the code, the entries and the end were appended, then the text of the whole procedure was appended.
+-- The text of a whole procedure is the header, the lines of its code, the lines of its entries, and `.END`.
 pub procedure_joined : (segment : List ℕ) (a : Attributes) (t number : ℕ) (r : Reading) (allowed : Bool) (named : PlaceSet) (header : List ℕ)
     → IsTable segment a → IsReading segment a t r
     → IsSetOf named (named_places (procedure_with segment a allowed t).items ++ (procedure_with segment a allowed t).entries)

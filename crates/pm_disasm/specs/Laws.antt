@@ -65,7 +65,8 @@ OwnCountFits = (segment : List ℕ) (number : ℕ) (p : Procedure) → StandsIn 
     → (procedure_with segment (attributes_of number p) true (length p.entries) ≡ p)
     × (fits segment (attributes_of number p) (length p.entries) ≡ true)
 
--- States that no smaller number of entries fits such a procedure.
+-- States that a number of entries below a procedure's own number does not fit, if all items of the procedure are
+-- instructions.
 abbrev pub SmallerCountFails : Type 0
 SmallerCountFails =
     (segment : List ℕ) (number : ℕ) (p : Procedure) (t : ℕ) → StandsIn segment number p → AreInstructions p.items

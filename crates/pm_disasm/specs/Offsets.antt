@@ -31,8 +31,8 @@ pub record TellFronts (fronts : List (Option Front)) (bytes : List ℕ) : Type 0
   pub each : (at : ℕ) → at < length bytes → up_to (length bytes - at) (option_map front_seen (get_or fronts at None))
       ≡ split.front at (drop at bytes)
 
--- Is true if `next` replaces the search in `forced`: an offset of `forced` is strictly between `at` and any `end` if
--- and only if `next` is before `end`.
+-- Is true if `next` summarizes the offsets `forced` after `at`. For any `end`, an offset of `forced` is strictly
+-- between `at` and `end` if and only if `next` is before `end`.
 abbrev pub IsNextCut : List ℕ → ℕ → ℕ → Type 0
 IsNextCut forced at next =
     (end : ℕ) → end < 2 ^ 64 → list_any (λ place. nat_lt at place && nat_lt place end) forced ≡ nat_lt next end

@@ -34,7 +34,7 @@ tables_lines segment p (suc count) =
     table_lines_or segment p (attributes_in segment p) ++ tables_lines segment (p + 1) count
 
 -- Removes the spaces at the beginning of a name that is in reverse order. So a name in a code file loses the spaces at
--- its end. Bytes that are not allowed are shown as question marks, and an empty name as one question mark.
+-- its end. The definitions that follow show an empty name, and each byte that is not allowed, as a question mark.
 abbrev pub cut : List ℕ → List ℕ
 cut [] = []
 cut (c ∷ cs) = if c == 32 then cut cs else c ∷ cs

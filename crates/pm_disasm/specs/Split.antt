@@ -21,8 +21,10 @@ use Rattle.pm_code.specs.Item.Item.{Plain, Jump, Case, OneByte}
 use Rattle.pm_code.specs.Item.Target.{To, Through}
 use Rattle.pm_code.specs.Program.{Procedure, entries_needed, is_among, item_places}
 
--- An instruction at the beginning of bytes: its size in bytes, and its item. It has no item in two cases: a jump of the
--- instruction leads neither forward nor through an entry; or the instruction is an XJP whose third word is not a UJP.
+-- An instruction at the beginning of bytes: its size in bytes, and its item. It has no item in two cases:
+--
+-- - A jump of the instruction leads neither forward nor through an entry.
+-- - The instruction is an XJP whose third word is not a UJP.
 pub record Front : Type 0 where
   pub size : ℕ
   pub item : Option (Item ℕ)

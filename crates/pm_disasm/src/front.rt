@@ -19,8 +19,10 @@ use pm_opcode::{Form, Instr, decode, form_at};
 pub(crate) struct Front<'a> {
     /// The size of the instruction, in bytes.
     pub size: usize,
-    /// The instruction as an item. `None` in two cases: a jump of the instruction leads neither forward nor through a
-    /// jump table entry; or the instruction is a case jump whose third word is not a UJP.
+    /// The instruction as an item. `None` in two cases:
+    ///
+    /// - A jump of the instruction leads neither forward nor through a jump table entry.
+    /// - The instruction is a case jump whose third word is not a UJP.
     pub item: Option<Found<'a>>,
 }
 

@@ -25,8 +25,8 @@ pub(crate) struct Marks<'a> {
     pub exit: usize,
 }
 
-/// Appends the lines before offset `place`: its label if it is in `marks.named`, and `.EXIT` if the exit code begins
-/// there.
+/// Appends the lines before offset `place`: its label if it is in `marks.named`, and `.EXIT` if the exit code begins at
+/// it.
 fn push_place(text: &mut String, place: usize, marks: Marks<'_>) -> Result<(), AllocError>
     ensures text { OnOk result (string_bytes text.new
         ≡ string_bytes text.old ++ joined (lines_at_by (has marks.entry.named.now) marks.entry.exit place [])) }

@@ -1,4 +1,4 @@
-//! Attribute tables of a segment that were already shown.
+//! The texts of procedures of a segment that were already shown, by their attribute tables.
 
 ghost use Rattle.std.specs.Prelude.{◌≡◌, ◌≤◌, ◌++◌, List, ℕ, length, string_bytes, IfSome, OnOk};
 ghost use Rattle.std.specs.List.{AllByRecursion};
@@ -14,7 +14,7 @@ use crate::procedures::push_table;
 use pm_codefile::Attributes;
 use std::alloc::{AllocError, Global};
 
-/// A procedure's attribute table, and its text.
+/// The attribute table of a procedure that was already shown, and the text of this procedure.
 #[derive(Drop)]
 pub(crate) struct ShownTable {
     /// The attribute table.

@@ -1,4 +1,4 @@
--- The members of a set, with one number more.
+-- Lemmas about the text of the members of a set, to which the next number is added.
 use Rattle.std.proofs.Common.{◌≡◌, ◌<◌, ◌∙◌, ℕ, suc, ◌+◌, ◌-◌, ◌++◌, Bool, List, ap, append_assoc, arith, sym}
 use Rattle.pm_phrases.specs.declared.sets.Behind.{Behind}
 use Rattle.pm_phrases.specs.Sets.{behind_next, is_member, member_text, members_from}

@@ -24,7 +24,7 @@ called_text (call.Cip n) = codes "CIP_" ++ decimal n
 called_text (call.Cxp segment n) =
     unwrap_or (external_name segment n) (codes "CXP_" ++ (decimal segment ++ (codes "_" ++ decimal n)))
 
--- The name, followed by the argument list `operands`; `None` if there is no name.
+-- The name, followed by the argument list `operands`; `None` if no name is given.
 abbrev pub if_named : Option (List ℕ) → List Shown → Option Shown
 if_named (Some name) operands = Some (value 9 (name ++ arguments operands))
 if_named None operands = None

@@ -15,7 +15,7 @@ use Rattle.pm_phrases.specs.Shown.{Shown, braced}
 unfoldable pub template : Around → Item ℕ → List Shown → Option Shown
 template around item operands = option_or (called (operation_in item) operands) (by_count around item operands)
 
--- The given text if there is one. Otherwise `item` in braces as in the disassembly, followed by its operands.
+-- The given text if it exists. Otherwise `item` in braces as in the disassembly, followed by its operands.
 abbrev pub or_braced : Item ℕ → List Shown → Option Shown → Shown
 or_braced item operands (Some s) = s
 or_braced item operands None = record {

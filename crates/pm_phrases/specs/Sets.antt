@@ -145,7 +145,8 @@ counted_by k a b c (Some sign) (form.Set m) _ = Some (joined k (value_text a k) 
 counted_by k a b c (Some sign) _ (form.Set n) = Some (joined k (counted_text a b) sign (value_text c (k + 1)))
 counted_by k a b c _ _ _ = None
 
--- An operation on two sets: one set is a single operand, and the other set is words and their count.
+-- The text of an operation on two sets with three operands. One set is a single operand, and the other set is words and
+-- their count.
 unfoldable pub one_counted : Set → Shown → Shown → Shown → Option Shown
 one_counted o a b c = counted_by (set_strength o) a b c (set_sign o) a.form c.form
 

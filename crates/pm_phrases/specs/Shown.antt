@@ -1,4 +1,4 @@
--- What the text of an operand denotes, and how it is used.
+-- What the text of an operand denotes (its form), and how the text is used as a value.
 use Rattle.std.specs.Prelude.{ℕ, Bool, true, false, List, [], ◌∷◌, ◌++◌, nat_lt, if◌then◌else◌, codes, Option, None}
 use Rattle.std.specs.List.{flat_map}
 use Rattle.pm_code.specs.Item.{Item}

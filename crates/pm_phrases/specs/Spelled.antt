@@ -38,7 +38,9 @@ spelling_by false false = spelling.Shortest
 spelling_by true true = spelling.Longest
 spelling_by _ _ = spelling.Longer
 
--- The encoding of the instruction `i`, whose operation is `what`. The encoding is longer than necessary in two cases:
--- the number has two bytes although one suffices; the opcode has an operand although an opcode without one exists.
+-- The encoding of the instruction `i`, whose operation is `what`. It is not the shortest encoding in two cases:
+--
+-- - The number has two bytes although one suffices.
+-- - The opcode has an operand although an opcode without one exists.
 unfoldable pub spelling_of : Instr → Operation → Spelling
 spelling_of i what = spelling_by i.long (has_shorter i what)

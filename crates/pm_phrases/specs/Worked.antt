@@ -36,7 +36,7 @@ lacking n item operands = phrase_of three_parameters item true (words_missing n)
 abbrev pub unknown : Item ℕ → Shown
 unknown item = phrase_of three_parameters item false (words_missing 0) []
 
--- SLDC, SLDL, SLDO
+-- The texts of SLDC, SLDL and SLDO.
 abbrev pub constant : ℕ → Shown
 constant n = on (coded n 0 0) []
 
@@ -46,7 +46,7 @@ local n = on (coded (215 + n) 0 0) []
 abbrev pub global : ℕ → Shown
 global n = on (coded (231 + n) 0 0) []
 
--- ADI, SBI, MPI, LAND
+-- The texts of ADI, SBI, MPI and LAND.
 abbrev pub add : Shown → Shown → Shown
 add a b = on (coded 130 0 0) (a ∷ b ∷ [])
 
@@ -59,7 +59,7 @@ multiply a b = on (coded 143 0 0) (a ∷ b ∷ [])
 abbrev pub both : Shown → Shown → Shown
 both a b = on (coded 132 0 0) (a ∷ b ∷ [])
 
--- LESI, GEQI
+-- The texts of LESI and GEQI.
 abbrev pub less : Shown → Shown → Shown
 less a b = on (coded 201 0 0) (a ∷ b ∷ [])
 
@@ -120,11 +120,11 @@ pub record WorkedOperators : Type 0 where
   pub checked : (on (coded 136 0 0) (global 4 ∷ constant 2 ∷ on (coded 199 200 0) [] ∷ [])).text
       ≡ codes "CHECK(global4, 2..200)"
 
--- LAO
+-- The text of LAO.
 abbrev pub address : ℕ → Shown
 address n = on (coded 165 n 0) []
 
--- INC, IND, SIND, IXA, STO, MOV, LDM
+-- The texts of INC, IND, SIND, IXA, STO, MOV and LDM.
 abbrev pub further : ℕ → Shown → Shown
 further k a = on (coded 162 k 0) (a ∷ [])
 
@@ -179,7 +179,7 @@ pub record WorkedMissing : Type 0 where
   pub standard_not_known : (unknown (coded 158 99 0)).text ≡ codes "{CSP 99}(?)"
   pub by_a_jump : (lacking 1 (Jump 161 (To 47)) []).text ≡ codes "IF NOT (POP) GOTO L00047"
 
--- CGP, CLP, CXP, CSP
+-- The texts of CGP, CLP, CXP and CSP.
 abbrev pub call : ℕ → ℕ → List Shown → Shown
 call op n operands = on (coded op n 0) operands
 
@@ -224,7 +224,7 @@ abbrev pub naming : ℕ → List ℕ → Shown
 naming op bytes =
     on (Plain record { op = op; a = 0; b = 0; c = 0; long = false; start = 0; count = 0; len = 0 } bytes) []
 
--- LSA, LPA
+-- The texts of LSA and LPA.
 abbrev pub string : List ℕ → Shown
 string bytes = naming 166 bytes
 
@@ -242,11 +242,11 @@ pub record WorkedLiterals : Type 0 where
       ≡ codes "FWRITESTRING(up2_3, 'HIGHER', 0)"
   pub words : (naming 179 (1 ∷ 0 ∷ 2 ∷ 1 ∷ [])).text ≡ codes "{LDC 1, 258}"
 
--- SGS
+-- The text of SGS.
 abbrev pub single : Shown → Shown
 single a = on (coded 151 0 0) (a ∷ [])
 
--- SAS; EQU STR, NEQ BOOL, LEQ SET, EQU BYTES, GRT WORDS
+-- States the texts of comparisons: SAS; EQU STR, NEQ BOOL, LEQ SET, EQU BYTES, GRT WORDS.
 pub record WorkedComparisons : Type 0 where
   pub assigned : (on (coded 170 80 0) (address 3 ∷ string (codes "A") ∷ [])).text
       ≡ codes "global3 := string[80] 'A'"
@@ -261,7 +261,7 @@ pub record WorkedComparisons : Type 0 where
   pub bytes : (on (coded 175 10 8) (address 3 ∷ local 1 ∷ [])).text ≡ codes "bytes[8] global3 = param1^"
   pub words : (on (spelled true 177 12 4) (address 3 ∷ address 9 ∷ [])).text ≡ codes "words[4!] global3 > global9"
 
--- LDB, IXS, IXP, LDP
+-- The texts of LDB, IXS, IXP and LDP.
 abbrev pub byte : Shown → Shown → Shown
 byte a i = on (coded 190 0 0) (a ∷ i ∷ [])
 
@@ -293,14 +293,14 @@ pub record WorkedParts : Type 0 where
   pub bits_stored : (on (coded 187 0 0) (address 6 ∷ constant 4 ∷ constant 8 ∷ local 1 ∷ [])).text
       ≡ codes "global6.bits[4: 8] := param1"
 
--- SRS, LDM 4
+-- The texts of SRS and of LDM 4.
 abbrev pub range : Shown → Shown → Shown
 range a b = on (coded 148 0 0) (a ∷ b ∷ [])
 
 abbrev pub four_words : ℕ → Shown
 four_words n = on (coded 188 4 0) (address n ∷ [])
 
--- INN, UNI, INT, DIF, ADJ
+-- States the texts of the set operations INN, UNI, INT, DIF and ADJ.
 pub record WorkedSets : Type 0 where
   pub member : (on (coded 139 0 0) (local 1 ∷ range (constant 1) (constant 9) ∷ [])).text
       ≡ codes "param1 IN [1..9]!"
@@ -332,11 +332,11 @@ pub record WorkedSets : Type 0 where
       (phrase_of three_parameters (coded 139 0 0) true record { below = share.Words 1; top = share.Set } []).text
       ≡ codes "POP IN POP SET"
 
--- IXS and LDB
+-- The text of the character that IXS and LDB load.
 abbrev pub letter : Shown
 letter = on (coded 190 0 0) (character (address 44) (local 4) ∷ [])
 
--- EQUI
+-- The text of EQUI.
 abbrev pub equal : Shown → Shown → Shown
 equal a b = on (coded 195 0 0) (a ∷ b ∷ [])
 
@@ -358,14 +358,14 @@ pub record WorkedCharacters : Type 0 where
   pub bits : (on (coded 187 0 0) (packed (address 6) (local 4) ∷ constant 65 ∷ [])).text
       ≡ codes "global6.packed[local4: 8 of 2 bits] := 65"
 
--- INN and UNI with a set of words and their count
+-- The texts of INN and UNI with a set that is given by its words and their count.
 abbrev pub member : Shown → Shown → Shown
 member words n = on (coded 139 0 0) (local 1 ∷ words ∷ n ∷ [])
 
 abbrev pub with_one : Shown → Shown → Shown
 with_one words n = on (coded 156 0 0) (words ∷ n ∷ single (local 1) ∷ [])
 
--- LDC
+-- The text of LDC.
 abbrev pub in_code : List ℕ → Shown
 in_code bytes = naming 179 bytes
 

@@ -40,7 +40,7 @@ pub(crate) enum Leaf {
     Variable(Around, Scope, u16, Spelling),
     /// A constant text.
     Fixed(&'static str),
-    /// The stand-in (such as `POP`) for a missing share of the stack.
+    /// The stand-in (such as `POP`) for a missing share. A share is a part of the stack: a number of words, or a set.
     StandIn(Share),
     /// An item in braces, followed by stand-ins only. The fields are the item, whether its input is known, and what is
     /// missing.

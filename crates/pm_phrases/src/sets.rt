@@ -15,7 +15,7 @@ use pm_families::Set;
 use std::alloc::{AllocError, Global};
 use std::fmt;
 
-/// The share of one word of the stack.
+/// One word of the stack, as a share. A share is a part of the stack: a number of words, or a set.
 const ONE: Share = Share::Words(1);
 
 /// Whether `number` is a member of the set with the words `bytes`. The last word contains the lowest numbers.

@@ -128,8 +128,8 @@ abbrev pub with_breaks : Session → Result (List Breakpoint) DebugRefusal → S
 with_breaks d (Ok breaks) = record d { breaks = breaks }
 with_breaks d (Err refusal) = d
 
--- The session after a watched word was set or removed. The last run cannot be continued then. A refusal leaves the
--- session unchanged.
+-- The session after a watched word was set or removed. Afterwards the last run cannot be continued. A refusal leaves
+-- the session unchanged.
 abbrev pub with_watches : Session → Result (List ℕ) DebugRefusal → Session
 with_watches d (Ok watches) = record d { watches = watches; left = Nothing }
 with_watches d (Err refusal) = d

@@ -44,7 +44,7 @@ number_and_numbers (Some n) (Some ns) = Some (n ∷ ns)
 number_and_numbers (Some n) None = None
 number_and_numbers None ns = None
 
--- The numbers that the words write. `None` if a word is not a number, or if there are more than `most` words.
+-- The numbers that the words write. `None` if a word is not a number, or if the line has more than `most` words.
 unfoldable pub numbers : ℕ → List (List ℕ) → Option (List ℕ)
 numbers most [] = Some []
 numbers zero (word ∷ words) = None

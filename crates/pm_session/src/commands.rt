@@ -23,11 +23,11 @@ const MOST_STEPS: u32 = 4_294_967_295;
 pub enum Command {
     /// Sets a breakpoint. The fields are segment, procedure, offset in bytes, and the condition, if any.
     Break(u8, u8, u16, Option<Condition>),
-    /// Removes a breakpoint.
+    /// Removes a breakpoint. The fields are segment, procedure and offset in bytes.
     Clear(u8, u8, u16),
     /// Sets a breakpoint on words. The fields are the words and the condition, if any.
     BreakOn(Spot, Option<Condition>),
-    /// Removes a breakpoint on words.
+    /// Removes a breakpoint on words. The field is the words.
     ClearOn(Spot),
     /// Watches the word of memory at this address.
     Watch(u16),

@@ -48,8 +48,8 @@ is_selected wanted s =
 abbrev pub next_frame : List ℕ → ℕ → Option ℕ
 next_frame m f = if f == SYSTEM_FRAME || not (is_even f) then None else Some (word_at m ((f + 2) % 65536))
 
--- The number of frames along the dynamic links from `f` on, without the system's frame. It is at most the number after
--- `m`. An odd address ends the chain.
+-- The number of frames along the dynamic links from the frame `f` on, without the system's frame. It is at most the
+-- number before `f` in the arguments. An odd address ends the chain.
 unfoldable pub depth_from : List ℕ → ℕ → ℕ → ℕ
 depth_from m zero f = 0
 depth_from m (suc n) f =

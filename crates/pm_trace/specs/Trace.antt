@@ -20,8 +20,8 @@ spaced [] = []
 spaced (part ∷ []) = part
 spaced (part ∷ next ∷ parts) = part ++ 32 ∷ spaced (next ∷ parts)
 
--- The line of a trace for the next step of the state `s`: the number of steps before, five registers, the word at the
--- top of the stack, and the instruction at IPC.
+-- The line of a trace for the next step of the state `s`. It has the number of steps before, five registers, the word
+-- at the top of the stack, and the instruction at IPC.
 unfoldable pub trace_line : State → List ℕ
 trace_line s = spaced (
     padded 8 s.steps

@@ -23,7 +23,7 @@ some_first : (fault : AsmFault) (lines : List AsmFault) (ss : List SourceSegment
 some_first fault [] ss h = absurd (cc)
 some_first fault (x ∷ lines) ss h = h
 
--- If no line of `text` has a fault of its own, then the faults of `text` are its label faults.
+-- If the lines of `text` have no faults (`faults_of_lines` is empty), then the faults of `text` are its label faults.
 label_faults_alone : (text : List ℕ) (ss : List SourceSegment) → faults_of_lines text ≡ [] → ss ≡ source_of text → faults text ≡ all_label_faults ss
 unfolding faults
 label_faults_alone text ss lines read = ap (λ fs. faults_with fs (source_of text)) lines ∙ ap all_label_faults (sym read)

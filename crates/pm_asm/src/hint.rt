@@ -77,7 +77,8 @@ fn labelled_hint(keyword: Option<Keyword>) -> Option<Hint>
     }
 }
 
-/// Returns the hint for a malformed line, from its label and its keyword. `None` if the line has neither.
+/// Returns the hint for a malformed line, from its label and its keyword. Returns `None` only if the line has no
+/// keyword, and its label, if any, is a valid name.
 fn ill_formed_hint(front: &Front<'_>) -> Option<Hint>
     ensures hint { option_map hint_seen result
         ≡ ill_formed_hint (front_seen front.now).label (keyword_in (front_seen front.now)) }

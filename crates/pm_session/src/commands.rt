@@ -430,7 +430,7 @@ fn conditional(line: &[u8]) -> Option<Command>
 
 /// Returns the command that sets a breakpoint on words with a condition. The numbers are the address `a` of the first
 /// word, the number `n` of words, the address `b` of the condition, and its word `value`. Returns `None` if a number is
-/// out of range.
+/// out of range, or if `name` is neither `reads` nor `writes`.
 fn conditional_words_of(name: &[u8], a: u32, n: u32, b: u32, value: u32) -> Option<Command>
     ensures command { result ≡ conditional_words_of name.now (Some a) (Some n) (Some b) (Some value) }
 {
@@ -462,7 +462,8 @@ fn conditional_words(name: &[u8], line: &[u8]) -> Option<Command>
     }
 }
 
-/// Returns the command that removes a breakpoint on the `n` words from address `a` on. `name` is `reads` or `writes`.
+/// Returns the command that removes a breakpoint on the `n` words from address `a` on. Returns `None` if a number is
+/// out of range, or if `name` is neither `reads` nor `writes`.
 fn clear_words_of(name: &[u8], a: u32, n: u32) -> Option<Command>
     ensures command { result ≡ clear_words_of name.now (Some a) (Some n) }
 {

@@ -16,7 +16,7 @@ use Rattle.pm_jobs.specs.declared.selection.Code.{Code}
 use Rattle.pm_jobs.specs.declared.selection.Code.TheVariants as codes_of
 use Rattle.pm_jobs.specs.declared.selection.Selection.{Selection}
 
--- Is true if the position is in the requested code. If no position is given, only `Anywhere` selects it.
+-- Is true if the position is in the requested code. If no position is given, this is true only for `Anywhere`.
 abbrev pub stands_in : Code → Option CodePlace → Bool
 stands_in codes_of.Anywhere place = true
 stands_in (codes_of.Segment segment) None = false

@@ -8,7 +8,8 @@ use pm_jobs::{Code, Selection};
 use pm_machine::{CodePlace, Machine, place_in_code};
 use pm_opcode::row_at;
 
-/// Whether the position `place` is in the code that `code` selects. If `place` is `None`, only `Anywhere` selects it.
+/// Whether the position `place` is in the code that `code` selects. If `place` is `None`, this is true only for
+/// `Anywhere`.
 fn stands_in(code: Code, place: Option<CodePlace>) -> bool
     ensures value { result ≡ stands_in code place }
 {

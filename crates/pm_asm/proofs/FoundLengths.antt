@@ -16,12 +16,12 @@ found_follow at [] = tt
 found_follow at (p ∷ ps) =
     (refl, subst (λ k. FollowFrom k (found_procedures (source_end at p) ps)) (sym (found_behind at p)) (found_follow (source_end at p) ps))
 
--- The procedures of the resulting segments are adjacent.
+-- In each segment whose labels were converted to offsets, each procedure begins where the one before ends.
 pub all_follow : (ss : List SourceSegment) → AllByRecursion (λ (s : Segment). FollowFrom 0 s.procedures) (map found_segment ss)
 all_follow [] = tt
 all_follow (s ∷ ss) = (found_follow 0 s.procedures, all_follow ss)
 
--- If no segment is too long, all are short.
+-- If `first_long` finds no segment, then all segments have at most 60,000 bytes.
 pub all_short : (ss : List Segment) → first_long ss ≡ None → AreShort ss
 all_short [] h = tt
 all_short (s ∷ ss) h = by (nat_lt LONGEST (length (segment_bytes s))) refl h (λ more. all_short ss more)
@@ -31,7 +31,7 @@ all_short (s ∷ ss) h = by (nat_lt LONGEST (length (segment_bytes s))) refl h (
     by true e h more = absurd (cc)
     by false e h more = (ltb-false _ _ e, more h)
 
--- A segment that is not too long is skipped.
+-- If segment `s` is not too long, then the first segment that is too long is among `ss`.
 pub short_here : (s : Segment) (ss : List Segment) → nat_lt LONGEST (length (segment_bytes s)) ≡ false → first_long (s ∷ ss) ≡ first_long ss
 short_here s ss h = ap (λ b. if b then Some s.number else first_long ss) h
 

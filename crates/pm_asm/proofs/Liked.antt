@@ -3,7 +3,7 @@ use Rattle.std.proofs.Common.{◌≡◌, ℕ, suc, ◌+◌, ◌-◌, ◌<◌, Bo
 use Rattle.pm_opcode.specs.Table.{mnemonic_of}
 use Rattle.pm_asm.specs.Near.{is_like, liked_from}
 
--- The opcodes from `op` to 255, `op` first.
+-- The search from opcode `op` on first tests `op`, and then continues with `op + 1`.
 from_here : (near : Bool) (word : List ℕ) (op : ℕ) → op < 256 → liked_from near word op (256 - op)
     ≡ (if is_like near word (mnemonic_of op) then Some op else liked_from near word (op + 1) (256 - (op + 1)))
 from_here near word op h = let e : 256 - op ≡ suc (256 - (op + 1)) = omega (arith, h) in ap (liked_from near word op) e

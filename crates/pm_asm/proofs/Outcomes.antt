@@ -1,4 +1,4 @@
--- The result of assembling, and what the text spells.
+-- Lemmas about the result of assembling, and about the program that the text spells.
 use Rattle.std.proofs.Common.{◌≡◌, ◌≢◌, ℕ, false, List, [], ◌∷◌, length, refl, sym, ap, ◌∙◌, subst, Option, Some, None}
 use Rattle.std.specs.Prelude.{nat_lt, if◌then◌else◌, Ok, Err}
 use Rattle.std.proofs.lemmas.Bool.{le-ltb}
@@ -17,7 +17,7 @@ use Rattle.pm_asm.specs.Lengths.{AreShort, IsTooLong, first_long}
 use Rattle.pm_asm.proofs.FoundLengths.{all_short}
 use Rattle.pm_asm.specs.declared.lengths.TheConstants.{LONGEST}
 
--- If all segments are short, none is too long.
+-- If no segment has more than 60,000 bytes, then `first_long` finds none.
 pub none_too_long : (ss : List Segment) → AreShort ss → first_long ss ≡ None
 none_too_long [] h = refl
 none_too_long (s ∷ ss) h =
@@ -28,7 +28,7 @@ first_none : (fs : List AsmFault) → first_of fs ≡ None → fs ≡ []
 first_none [] h = refl
 first_none (f ∷ fs) h = absurd (cc)
 
--- The result for a text without faults whose segments are short.
+-- If `text` has no fault and its segments are not too long, then the result is its code file and its listing.
 pub assembled_ok : (text : List ℕ) → faults text ≡ [] → AreShort (program_of text) → assembled text ≡ Ok (file_of (program_of text), listing (program_of text))
 unfolding assembled
 assembled_ok text none short =
@@ -40,44 +40,46 @@ pub is_assembled : (text file shown : List ℕ) → faults text ≡ [] → AreSh
 is_assembled text file shown none short image lines =
     assembled_ok text none short ∙ sym (ap (λ f. Ok (f, shown)) image ∙ ap (λ l. Ok (file_of (program_of text), l)) lines)
 
--- The result is that of the program that the text spells.
+-- If `text` has no fault and its segments are not too long, then `text` spells the program with this code file and
+-- listing.
 pub is_spelled : (text file shown : List ℕ) → faults text ≡ [] → AreShort (program_of text) → file ≡ file_of (program_of text)
     → shown ≡ listing (program_of text)
     → Assembles text file shown
 is_spelled text file shown none short image lines =
     record { program = program_of text; spelled = faultless_is_spelled text none; short = short; image = image; lines = lines }
 
--- A text is refused because of its first fault.
+-- If `text` has a fault, then assembling it is refused with its first fault.
 pub fault_refused : (text : List ℕ) (fault : AsmFault) → first_of (faults text) ≡ Some fault → assembled text ≡ Err fault
 unfolding assembled
 fault_refused text fault h = ap (outcome_by text) h
 
--- A text without faults is refused because of its first segment that is too long.
+-- If `text` has no fault but a segment that is too long, then assembling it is refused with the first such segment.
 pub length_refused : (text : List ℕ) (n : ℕ) → faults text ≡ [] → first_long (program_of text) ≡ Some n → assembled text ≡ Err (TooLong n)
 unfolding assembled
 length_refused text n none long = ap (λ fs. outcome_by text (first_of fs)) none ∙ ap (outcome_of (program_of text)) long
 
--- A text that is refused does not spell a program whose segments are short.
+-- If assembling a text is refused, then the text does not spell a program whose segments all have at most 60,000 bytes.
 pub refused_spells_nothing : RefusedSpellsNothing
 refused_spells_nothing text fault h ss spells short =
     let said = spelled_is_faultless text ss spells in
     let ok = assembled_ok text said.0 (subst AreShort (sym said.1) short) in
     absurd (cc (h, ok))
 
--- The same, for each stage of assembling.
+-- If `text` has a fault, then it does not spell a program whose segments all have at most 60,000 bytes.
 pub fault_unspelled : (text : List ℕ) (fault : AsmFault) → first_of (faults text) ≡ Some fault → SpellsNothing text
 fault_unspelled text fault h = refused_spells_nothing text fault (fault_refused text fault h)
 
 pub length_unspelled : (text : List ℕ) (n : ℕ) → faults text ≡ [] → first_long (program_of text) ≡ Some n → SpellsNothing text
 length_unspelled text n none long = refused_spells_nothing text (TooLong n) (length_refused text n none long)
 
--- The same, for a fault that names the first segment that is too long.
+-- If `text` has no fault, and `fault` states the first segment that is too long, then assembling is refused with
+-- `fault`.
 pub long_refused : (text : List ℕ) (fault : AsmFault) → faults text ≡ [] → IsTooLong (program_of text) fault → fault ≢ NoMemory → assembled text ≡ Err fault
 long_refused text (TooLong n) none long other = length_refused text n none long
 long_refused text NoMemory none long other = absurd (other refl)
 long_refused text _ none long other = absurd long
 
--- The result of assembling is that of a program that the text spells.
+-- If assembling `text` succeeds, then `text` spells a program with the resulting code file and listing.
 assembled_spelled : (text file shown : List ℕ) → assembled text ≡ Ok (file, shown) → Assembles text file shown
 unfolding assembled
 assembled_spelled text file shown h = by_fault (first_of (faults text)) refl h
@@ -95,7 +97,7 @@ assembled_spelled text file shown h = by_fault (first_of (faults text)) refl h
     by_fault (Some fault) e h = absurd (cc)
     by_fault None e h = by_length (first_long (program_of text)) (first_none (faults text) e) refl h
 
--- If a text spells a program, assembling results in its code file and listing.
+-- If `text` spells a program with this code file and listing, then they are the result of assembling `text`.
 spelled_assembled : (text file shown : List ℕ) → Assembles text file shown → assembled text ≡ Ok (file, shown)
 spelled_assembled text file shown a =
     let said = spelled_is_faultless text a.program a.spelled in
@@ -104,6 +106,6 @@ spelled_assembled text file shown a =
 pub assembled_is_spelled : AssembledIsSpelled
 assembled_is_spelled text file shown = (assembled_spelled text file shown, spelled_assembled text file shown)
 
--- A text without faults whose segments are short spells a program.
+-- If `text` has no fault and its segments are not too long, then it spells a program.
 pub faultless_is_program : (text : List ℕ) → faults text ≡ [] → AreShort (program_of text) → IsProgram (program_of text)
 faultless_is_program text none short = spelled_is_program text (program_of text) (faultless_is_spelled text none) (short_fits (program_of text) short)

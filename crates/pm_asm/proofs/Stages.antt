@@ -1,4 +1,4 @@
--- The stages of assembling: parsing, labels, and lengths.
+-- Lemmas about the stages of assembling: parsing, labels, and lengths.
 use Rattle.std.proofs.Common.{◌≡◌, ◌≢◌, ℕ, List, [], ◌∷◌, map, sym, ap, subst, ◌∙◌, Some}
 use Rattle.std.specs.Prelude.{if◌then◌else◌, Err}
 use Rattle.pm_code.specs.Program.{Segment}
@@ -15,7 +15,7 @@ use Rattle.pm_asm.specs.Found.{by_number}
 use Rattle.pm_asm.proofs.Ordered.{found_ascending}
 use Rattle.pm_asm.proofs.Outcomes.{fault_refused, long_refused}
 
--- The faults of a text: those of its lines, or else those of its labels.
+-- The given faults of the lines, or the label faults of `ss` if the lines have no fault.
 abbrev faults_with : List AsmFault → List SourceSegment → List AsmFault
 faults_with lines ss = if is_empty lines then all_label_faults ss else lines
 
@@ -23,12 +23,12 @@ some_first : (fault : AsmFault) (lines : List AsmFault) (ss : List SourceSegment
 some_first fault [] ss h = absurd (cc)
 some_first fault (x ∷ lines) ss h = h
 
--- If the lines have no fault, the faults are those of the labels.
+-- If the lines of `text` have no faults (`faults_of_lines` is empty), then the faults of `text` are its label faults.
 label_faults_alone : (text : List ℕ) (ss : List SourceSegment) → faults_of_lines text ≡ [] → ss ≡ source_of text → faults text ≡ all_label_faults ss
 unfolding faults
 label_faults_alone text ss lines read = ap (λ fs. faults_with fs (source_of text)) lines ∙ ap all_label_faults (sym read)
 
--- The resulting segments, in ascending order, are the program of the text.
+-- If the labels are converted to offsets and the segments are sorted, then the result is the program of `text`.
 pub program_found : (text : List ℕ) (ss : List SourceSegment) (found ordered : List Segment) → ss ≡ source_of text → found ≡ map found_segment ss
     → ordered ≡ by_number 0 16 found → ordered ≡ program_of text
 unfolding program_of
@@ -43,7 +43,7 @@ pub label_refused : (text : List ℕ) (ss : List SourceSegment) (fault : AsmFaul
     → IsFirstOf fault (all_label_faults ss) → fault ≢ NoMemory → assembled text ≡ Err fault
 label_refused text ss fault lines read h other = fault_refused text fault (ap first_of (label_faults_alone text ss lines read) ∙ h other)
 
--- The stages that found no fault.
+-- States that parsing `text` and converting its labels found no fault.
 pub record IsReady (text : List ℕ) (ss : List SourceSegment) : Type 0 where
   pub lines : faults_of_lines text ≡ []
   pub read : ss ≡ source_of text

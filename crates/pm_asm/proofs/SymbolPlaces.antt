@@ -13,7 +13,7 @@ use Rattle.pm_asm.specs.Lengths.{AreShort}
 use Rattle.pm_asm.specs.Symbols.{JumpsLeadToSymbols, symbol_lines, symbol_text, symbols, symbols_by}
 use Rattle.pm_asm.proofs.Outcomes.{assembled_ok}
 
--- No label is before the code.
+-- If a label of code that begins at offset `at` has the offset `place`, then `place` is not before `at`.
 pub place_after : (rows : List Row) (at : ℕ) (name : Name) (place : ℕ) → place_of at rows name ≡ Some place → at ≤ place
 place_after [] at name place h = absurd cc
 place_after (row ∷ rows) at name place h =
@@ -29,12 +29,12 @@ jumps_lead_to_symbols segment procedure start rows name place leads =
     let above = place_after rows start name place leads in
     ap (λ o. start + (unwrap_or o 0 - start)) leads ∙ omega (arith, above)
 
--- A text without faults whose segments are short has symbol lines.
+-- If `text` has no fault and its segments are not too long, then its symbol lines exist.
 pub symbols_told : (text : List ℕ) → faults text ≡ [] → AreShort (program_of text) → symbol_text text ≡ Ok (symbol_lines (symbols (source_of text)))
 unfolding symbol_text
 symbols_told text none short = ap (symbols_by text) (assembled_ok text none short)
 
--- A text that is refused has none, and the fault is the same.
+-- If assembling `text` is refused, then the list of its symbols is refused with the same fault.
 pub symbols_refused : (text : List ℕ) (fault : AsmFault) → assembled text ≡ Err fault → symbol_text text ≡ Err fault
 unfolding symbol_text
 symbols_refused text fault h = ap (symbols_by text) h

@@ -1,4 +1,4 @@
--- A table of labels, with one more line of code.
+-- Lemmas about a table of labels to which the label of one more line is added.
 use Rattle.std.proofs.Common.{◌≡◌, ℕ, ◌+◌, ◌∙◌, Bool, true, false, List, ◌∷◌, drop, map, refl, ap, sym, Option, Some, None}
 use Rattle.std.specs.Prelude.{if◌then◌else◌, is_some}
 use Rattle.pm_code.specs.Program.{end_of}
@@ -7,12 +7,12 @@ use Rattle.pm_line.specs.Views.{row_seen}
 use Rattle.pm_source.specs.Faults.{place_of}
 use Rattle.pm_source.specs.Source.{has_label, row_items}
 
--- The offset in the table, or else that in the remaining lines.
+-- The first offset if it exists, else the second one.
 abbrev pub or_else : Option ℕ → Option ℕ → Option ℕ
 or_else None place = place
 or_else (Some place) other = Some place
 
--- The offset of a label in the remaining lines.
+-- The offset of the label `name` in the lines from line `k` on, which begin at offset `at`.
 abbrev pub left : ℕ → ℕ → List Row → List ℕ → Option ℕ
 left at k rows name = place_of at (map row_seen (drop k rows)) name
 
@@ -30,7 +30,8 @@ stay b (Some x) at rest some = refl
 stay true None at rest some = absurd (cc (some refl))
 stay false None at rest some = refl
 
--- A label that is not yet in the table is added with its offset.
+-- If the line `row` has a label that is not in the table, and it is added with its offset, then the combined result for
+-- each name is unchanged. The combined result is the offset in the table, or else in the remaining lines.
 pub put_row : (rows : List Row) (k at next : ℕ) (row : Row) (name : List ℕ) (b : Bool) (had now place : Option ℕ) → drop k rows ≡ row ∷ drop (k + 1) rows
     → next ≡ end_of at (row_items (row_seen row)) → has_label name (row_seen row) ≡ b → (b ≡ true → had ≡ None) → now ≡ (if b then Some at else had)
     → or_else had (left at k rows name) ≡ place → or_else now (left next (k + 1) rows name) ≡ place
@@ -40,7 +41,8 @@ put_row rows k at next row name b had now place there e labelled none is all =
     ∙ (put b had now at rest none is ∙ (ap (λ x. or_else had (if x then Some at else rest)) (sym labelled)
     ∙ (sym (ap (or_else had) (left_one rows k at row name there)) ∙ all)))
 
--- A line without a label, or with a label that is already in the table.
+-- If the line `row` has no label, or a label that is already in the table, then the combined result for each name is
+-- unchanged.
 pub stay_row : (rows : List Row) (k at next : ℕ) (row : Row) (name : List ℕ) (b : Bool) (had place : Option ℕ) → drop k rows ≡ row ∷ drop (k + 1) rows
     → next ≡ end_of at (row_items (row_seen row)) → has_label name (row_seen row) ≡ b → (b ≡ true → is_some had ≡ true)
     → or_else had (left at k rows name) ≡ place → or_else had (left next (k + 1) rows name) ≡ place

@@ -1,4 +1,4 @@
--- The first fault of each line of a text. The result of assembling is only the first of them.
+-- The first fault of each line of a text. `assembled` reports only the first of these faults.
 use Rattle.std.specs.Prelude.{◌≡◌, ℕ, List, [], ◌∷◌, ◌++◌, Option, Some, None, Ok, Err, if◌then◌else◌}
 use Rattle.std.specs.Option.{option_to_list}
 use Rattle.pm_code.specs.Program.{end_of}
@@ -11,14 +11,14 @@ use Rattle.pm_source.specs.Words.{is_empty}
 use Rattle.pm_asm.specs.Assembled.{Outcome, assembled}
 use Rattle.pm_asm.specs.Firsts.{row_faults}
 
--- The first label fault of each line of code that begins at offset `at`.
+-- The first label fault of each line of code that begins at offset `at`. `places` has the offsets of the labels.
 unfoldable pub code_firsts : Places → ℕ → List Row → List AsmFault
 code_firsts places at [] = []
 code_firsts places at (row ∷ rows) =
     first_in (row_faults places at row) ++ code_firsts places (end_of at (row_items row)) rows
 
--- The label faults of a procedure that begins at offset `at`: those of its code, then those of its jump table entries.
--- There is at most one for each line.
+-- The label faults of procedure `p`, which begins at offset `at`: first those of its code, then those of its jump table
+-- entries. The list has at most one fault for each line.
 unfoldable pub label_firsts : ℕ → Source → List AsmFault
 label_firsts at p = code_firsts (place_of at p.code) at p.code ++ entries_faults (place_of at p.code) p.entries
 
@@ -34,13 +34,13 @@ abbrev pub fault_in : Outcome → Option AsmFault
 fault_in (Ok made) = None
 fault_in (Err fault) = Some fault
 
--- The first fault of each line. If there is none, the first label fault of each line. If there is none of these either,
--- the segment that is too long, if there is one.
+-- The faults of `text`: the first fault of each line, not counting label faults. If no line has such a fault, the first
+-- label fault of each line. If no line has a label fault either, `TooLong` if a segment is too long.
 unfoldable pub all_faults : List ℕ → List AsmFault
 all_faults text =
     if is_empty (firsts_of_lines text) then (if is_empty (all_label_firsts (source_of text))
     then option_to_list (fault_in (assembled text)) else all_label_firsts (source_of text)) else firsts_of_lines text
 
--- If assembling fails, its result is the first of these faults. If it succeeds, there are no faults.
+-- States that `assembled` returns the first of all faults if it fails. If it succeeds, the list of all faults is empty.
 abbrev pub FirstOfAll : Type 0
 FirstOfAll = (text : List ℕ) → first_of (all_faults text) ≡ fault_in (assembled text)

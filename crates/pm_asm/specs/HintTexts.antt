@@ -11,7 +11,7 @@ use Rattle.pm_source.specs.Line.{Keyword, Said, instruction_said, operands, shor
 use Rattle.pm_source.specs.Line.Flaw.{NoFlaw}
 use Rattle.pm_source.specs.Line.Keyword.{OfSegment, OfProcedure, OfExit, OfJump, OfEnd, OfBytes, Mnemonic}
 
--- Example operands of a form, as in source text.
+-- Example operands of a form, as they are written in source text.
 abbrev pub example : Form → List ℕ
 example forms.Plain = []
 example forms.Unassigned = []
@@ -46,13 +46,14 @@ form_text forms.Sb = codes "a label, or ^k for the k-th .JUMP line (k from 0 to 
 form_text forms.Jumps =
     codes "two numbers from -32768 to 32767, a label for all others, and one for each from the first to the second"
 
--- An example, after the description.
+-- The text `, for example` with the mnemonic `name` and example operands of the form. It is empty if the form has none.
 abbrev pub example_text : List ℕ → Form → List ℕ
 example_text name forms.Plain = []
 example_text name forms.Unassigned = []
 example_text name form = codes ", for example " ++ name ++ 32 ∷ example form
 
--- The description of an instruction whose opcode includes its number. `op` is the first opcode of its mnemonic.
+-- The description of an instruction whose opcode includes its number, such as SLDC. `op` is the first opcode of its
+-- mnemonic.
 unfoldable pub range_text : ℕ → List ℕ
 range_text op =
     if op == 0 then codes "SLDC takes a number from 0 to 127; LDCI takes larger ones"
@@ -65,8 +66,8 @@ takes_by op (Some range) = range_text op
 takes_by op None =
     mnemonic_of op ++ codes " takes " ++ form_text (form_of op) ++ example_text (mnemonic_of op) (form_of op)
 
--- The description of the operands of an opcode's mnemonic: the number that the opcode includes, or the operands of its
--- form.
+-- The description of the operands that the mnemonic of the opcode `op` takes: the number that the opcode includes, or
+-- the operands of its form.
 unfoldable pub takes_text : ℕ → List ℕ
 takes_text op = takes_by op (short_range op)
 
@@ -93,7 +94,7 @@ taken_text OfEnd = codes ".END takes no operand"
 taken_text OfBytes = codes ".BYTE takes numbers from 0 to 255, separated by commas, for example .BYTE 1, 2"
 taken_text (Mnemonic op) = takes_text op
 
--- The description of where a line is allowed.
+-- The description of where a line with this keyword is allowed.
 abbrev pub stands_text : Keyword → List ℕ
 stands_text OfSegment = codes ".SEG must be outside procedures, so the procedure before it needs an .END"
 stands_text OfProcedure =
@@ -106,13 +107,13 @@ stands_text OfBytes =
 stands_text (Mnemonic op) =
     codes "instructions, .BYTE and labels must be in a procedure, after .PROC and before its first .JUMP"
 
--- The description of what may occur only once.
+-- The text that states what may occur only once: a segment's number, `.EXIT` or a label.
 abbrev pub once_text : Keyword → List ℕ
 once_text OfSegment = codes "the text has a segment of that number already"
 once_text OfExit = codes ".EXIT cannot be used again in the same procedure"
 once_text _ = codes "the label cannot be defined again in the same procedure"
 
--- The text of a hint that is constant, or an empty text.
+-- The text of a hint if this text is constant, else an empty text.
 abbrev pub fixed_text : Hint → List ℕ
 fixed_text Characters =
     codes "a text can contain only tabs and the characters 32 to 126; a file with others may be binary"
@@ -125,7 +126,7 @@ fixed_text Named = codes "no line of this procedure defines the label; labels ar
 fixed_text (Once keyword) = once_text keyword
 fixed_text _ = []
 
--- The number of `.JUMP` lines, and the number of entries that the code uses.
+-- The text of the number of `.JUMP` lines, and of the number of jump table entries that the code uses.
 abbrev pub counts_text : ℕ → ℕ → List ℕ
 counts_text entries taken = decimal entries ++ codes "; its code uses " ++ decimal taken ++ codes ", from ^0 on"
 
@@ -144,13 +145,13 @@ hint_text (Reached keyword) = keyword_text keyword ++ codes " reaches a label at
     ++ codes "to jump back or farther, write ^0 for the label, and a line .JUMP with the label before .END"
 hint_text hint = fixed_text hint
 
--- The operands are well-formed and have no flaw.
+-- Is true if the operands are well-formed and have no flaw.
 abbrev pub AreTaken : {A : Type 0} → Said A → Type 0
 AreTaken None = ⊥
 AreTaken (Some said) = said.1 ≡ NoFlaw
 
--- The example in the hint for an instruction is valid. For every opcode, the example operands of its form are one item
--- without a flaw. Opcodes that include a number are excluded: their hint has no example.
+-- States that the example in the hint for an instruction is valid. For every opcode, the example operands of its form
+-- are one item without a flaw. Opcodes that include a number are excluded, because their hint has no example.
 abbrev pub ExamplesAreTaken : Type 0
 ExamplesAreTaken = (op : ℕ) → form_of op ≢ forms.Unassigned → short_range op ≡ None
     → AreTaken (instruction_said (form_of op) op (operands (example (form_of op))))

@@ -1,4 +1,4 @@
--- Hints for lines with errors.
+-- Hints for lines with errors. A hint explains how to correct a line.
 use Rattle.std.specs.Prelude.{ℕ, ◌%◌, ◌==◌, List, Option, Some, None, option_map, if◌then◌else◌}
 use Rattle.std.specs.List.{list_all}
 use Rattle.std.specs.Option.{unwrap_or}
@@ -17,7 +17,7 @@ use Rattle.pm_source.specs.Line.Line.{Blank, Wrong, Strange, Says}
 use Rattle.pm_source.specs.Source.{Name}
 use Rattle.pm_source.specs.Words.{is_name}
 
--- A hint for a line with a fault.
+-- A hint for a line with a fault. Each constructor states what the text of the hint describes.
 pub data Hint : Type 0 where
   -- The characters that are allowed in source text.
   Characters : Hint
@@ -35,13 +35,14 @@ pub data Hint : Type 0 where
   Words : Hint
   -- The conditions for `.END`.
   Ended : Hint
-  -- The number of a procedure, and its number of bytes, which is odd.
+  -- A procedure with an odd number of bytes: the number of the procedure, and its number of bytes.
   Odd : ℕ → ℕ → Hint
-  -- The number of a procedure, the number of its `.JUMP` lines, and the number of entries that its code uses.
+  -- A procedure with the wrong number of `.JUMP` lines. The fields are the number of the procedure, the number of its
+  -- `.JUMP` lines, and the number of entries that its code uses.
   Counted : ℕ → ℕ → ℕ → Hint
-  -- A label that is used must be defined.
+  -- Every label that is used must be defined.
   Named : Hint
-  -- What may occur only once.
+  -- What may occur only once, by the keyword of the line.
   Once : Keyword → Hint
   -- The range of a short jump, and how to jump to any label.
   Reached : Keyword → Hint
@@ -61,7 +62,7 @@ hint_seen codes.Named = Named
 hint_seen (codes.Once keyword) = Once (keyword_seen keyword)
 hint_seen (codes.Reached keyword) = Reached (keyword_seen keyword)
 
--- The hint for a line whose label is a valid name.
+-- The hint for a malformed line with a valid label, by its keyword.
 abbrev pub labelled_hint : Option Keyword → Option Hint
 labelled_hint None = None
 labelled_hint (Some OfBytes) = Some (Takes OfBytes)
@@ -73,7 +74,8 @@ abbrev pub ill_formed_hint : Option Name → Option Keyword → Option Hint
 ill_formed_hint None keyword = option_map Takes keyword
 ill_formed_hint (Some label) keyword = if is_name label then labelled_hint keyword else Some Labels
 
--- A well-formed line is not allowed at its position. A label without a keyword is allowed where `.BYTE` is.
+-- The hint for a line with a syntax fault. If the line is well-formed, it is not allowed at its position. A label
+-- without a keyword is allowed where `.BYTE` is allowed.
 abbrev pub syntax_hint : Front → Line → Option Hint
 syntax_hint front (Says said flaw) = Some (Stands (unwrap_or (keyword_in front) OfBytes))
 syntax_hint front Blank = None
@@ -85,7 +87,7 @@ abbrev pub word_hint : Option Keyword → Hint
 word_hint None = Words
 word_hint (Some keyword) = Meant keyword
 
--- A known word is followed by an unknown type word.
+-- The hint for a line with an unknown word. If the keyword of the line is known, the unknown word is its type word.
 abbrev pub unknown_hint : List ℕ → Option Keyword → Hint
 unknown_hint word None = word_hint (meant word)
 unknown_hint word (Some keyword) = Takes keyword
@@ -95,12 +97,12 @@ range_hint None = None
 range_hint (Some OfEnd) = Some Ended
 range_hint (Some keyword) = Some (Takes keyword)
 
--- The hint for an `.END` that is rejected. An odd number of bytes has priority.
+-- The hint for an `.END` that is rejected, from the counts of its procedure. An odd number of bytes has priority.
 abbrev pub ended_hint : Counts → Hint
 ended_hint counts = if counts.bytes % 2 == 0 then Counted counts.procedure counts.entries counts.taken
     else Odd counts.procedure counts.bytes
 
--- The hint for a line with a fault, if there is one.
+-- The hint for the line `text` with the given fault, or `None` if no hint exists for it.
 unfoldable pub hint_of : AsmFault → List ℕ → Option Hint
 hint_of (Syntax n) text =
     if list_all is_character text then syntax_hint (front_of text) (line_of 1 text) else Some Characters

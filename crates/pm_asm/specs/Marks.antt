@@ -14,27 +14,30 @@ use Rattle.pm_source.specs.Words.{is_blank}
 
 -- A position is the number of characters before it.
 
--- Whether a character is in the set: no space or tab; the end of a word, which is a space, a tab or the beginning of a
--- comment; or a character that is not allowed.
+-- Is true if the character `c` is in the given set. Three sets exist:
+--
+-- - `Solid`: all characters except space and tab,
+-- - `WordEnd`: the characters that end a word, which are space, tab, and the beginning of a comment,
+-- - `Strange`: the characters that are not allowed in source text.
 abbrev pub stops : Stop → ℕ → Bool
 stops stop.Solid c = not (is_blank c)
 stops stop.WordEnd c = is_blank c || (c == 59)
 stops stop.Strange c = not (is_character c)
 
--- The position `count` characters after `at`, or the end of the line if there is none.
+-- The position `count` characters after `at`, or `end` if no count is given.
 abbrev pub place_at : ℕ → ℕ → Option ℕ → ℕ
 place_at at end None = end
 place_at at end (Some count) = at + count
 
--- The position of the first character of the set that is not before `at`.
+-- The position of the first character of `text` that is in the set `s` and not before `at`, or the length of `text`.
 abbrev pub place_from : Stop → List ℕ → ℕ → ℕ
 place_from s text at = place_at at (length text) (position (stops s) (drop at text))
 
--- The position of the first word.
+-- The position of the first word of the line `text`.
 abbrev pub first_place : List ℕ → ℕ
 first_place text = place_from stop.Solid text 0
 
--- The position of the mnemonic or directive, which follows the label if there is one.
+-- The position of the mnemonic or directive, which follows the label if the line has a label.
 abbrev pub place_behind : List ℕ → Option Name → ℕ
 place_behind text None = first_place text
 place_behind text (Some label) = place_from stop.Solid text (place_from stop.WordEnd text (first_place text))
@@ -42,22 +45,22 @@ place_behind text (Some label) = place_from stop.Solid text (place_from stop.Wor
 abbrev pub word_place : List ℕ → ℕ
 word_place text = place_behind text (front_of text).label
 
--- Whether there is a character that does not begin a comment.
+-- Is true if the text has a first character, and it does not begin a comment.
 abbrev pub has_more : List ℕ → Bool
 has_more [] = false
 has_more (c ∷ cs) = not (c == 59)
 
--- The position of the text after the word that ends at `end`, or `end` if there is none.
+-- The position of the text after the word that ends at `end`, or `end` if no text follows.
 abbrev pub place_after : List ℕ → ℕ → ℕ
 place_after text end =
     if has_more (drop (place_from stop.Solid text end) text) then place_from stop.Solid text end else end
 
--- The position of the operands, or the position after the mnemonic or directive if there are none.
+-- The position of the operands, or the position after the mnemonic or directive if the line has no operands.
 abbrev pub operands_place : List ℕ → ℕ
 operands_place text = place_after text (place_from stop.WordEnd text (word_place text))
 
--- The position at which a line is marked for a hint: the character, the first word, the keyword or the operands that
--- the hint describes. Without a hint, it is the first word.
+-- The position at which the line `text` is marked for a hint: the character, the first word, the keyword or the
+-- operands that the hint describes. Without a hint, it is the position of the first word.
 unfoldable pub mark_of : Option Hint → List ℕ → ℕ
 mark_of None text = first_place text
 mark_of (Some Characters) text = place_from stop.Strange text 0
@@ -75,15 +78,16 @@ mark_of (Some (Once OfSegment)) text = operands_place text
 mark_of (Some (Once keyword)) text = first_place text
 mark_of (Some (Reached keyword)) text = operands_place text
 
--- The character below a character that precedes the mark. A tab is below a tab, so that both lines are aligned.
+-- The character that is printed below the character `c`, which precedes the mark. It is a tab below a tab, so that both
+-- lines are aligned.
 abbrev pub below : ℕ → ℕ
 below c = if c == 9 then 9 else 32
 
--- The line below a line, with the mark `^` (character 94) at a position.
+-- The line that is printed below `text`, with the mark `^` (character 94) at position `place`.
 unfoldable pub mark_line : List ℕ → ℕ → List ℕ
 mark_line text place = map below (take place text) ++ 94 ∷ []
 
--- Worked out by hand.
+-- States positions of marks that were worked out by hand.
 pub record WorkedMarks : Type 0 where
   -- The mark is below the first operand, also after a label and spaces. Without operands, it follows the mnemonic.
   pub operands : mark_of (Some (Takes (Mnemonic 205))) (codes "CXP 2 1") ≡ 4

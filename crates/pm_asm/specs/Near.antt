@@ -9,35 +9,35 @@ use Rattle.pm_opcode.specs.Table.{mnemonic_of}
 use Rattle.pm_source.specs.Words.{is_empty}
 use Rattle.pm_source.specs.Line.{Keyword, directives, mnemonic_keyword}
 
--- Whether two texts with different first characters differ in one letter only. The arguments are each text, and each
--- text without its first character.
+-- Is true if the texts `word` and `name`, whose first characters differ, differ in one letter only. `word_rest` and
+-- `name_rest` are these texts without their first characters.
 abbrev pub are_off : List ℕ → List ℕ → List ℕ → List ℕ → Bool
 are_off word word_rest name name_rest = str_eq_ignore_ascii_case word_rest name_rest
     || str_eq_ignore_ascii_case word_rest name || str_eq_ignore_ascii_case word name_rest
 
--- Whether a word differs from a name in one letter: another letter, one more or one less. Upper and lower case are
--- equal.
+-- Is true if `word` differs from `name` in one letter: one letter is replaced, added or removed. Upper and lower case
+-- are equal.
 unfoldable pub is_near : List ℕ → List ℕ → Bool
 is_near [] name = nat_le (length name) 1
 is_near (a ∷ word) [] = is_empty word
 is_near (a ∷ word) (b ∷ name) =
     if eq_ignore_ascii_case a b then is_near word name else are_off (a ∷ word) word (b ∷ name) name
 
--- Whether a word is a name in upper or lower case. If `near` is true, a word of two or more letters may also differ in
--- one letter.
+-- Is true if `word` is `name` in upper or lower case. If `near` is true, a word of two or more letters may also differ
+-- from `name` in one letter.
 abbrev pub is_like : Bool → List ℕ → List ℕ → Bool
 is_like near word name = str_eq_ignore_ascii_case word name || (near && nat_le 2 (length word) && is_near word name)
 
--- The first of the `count` opcodes from `op` on whose mnemonic is similar to the word.
+-- The first of the `count` opcodes from `op` on whose mnemonic is similar to `word`, or `None`.
 abbrev pub liked_from : Bool → List ℕ → ℕ → ℕ → Option ℕ
 liked_from near word op zero = None
 liked_from near word op (suc count) =
     if is_like near word (mnemonic_of op) then Some op else liked_from near word (op + 1) count
 
--- The directive that is similar to a word, or else the mnemonic.
+-- The first directive that is similar to `word`. If no directive is similar, the first mnemonic that is similar.
 unfoldable pub liked : Bool → List ℕ → Option Keyword
 liked near word = option_or (lookup (is_like near word) directives) (mnemonic_keyword (liked_from near word 0 256))
 
--- The keyword that a word may mean: a keyword in another case, or else the first that differs in one letter.
+-- The keyword that `word` may mean: the keyword in another case. If none exists, the first that differs in one letter.
 unfoldable pub meant : List ℕ → Option Keyword
 meant word = option_or (liked false word) (liked true word)

@@ -1,4 +1,4 @@
--- The symbols of the code, as symbols of the specification.
+-- The models of the symbols of src/: how contracts describe them.
 use Rattle.std.specs.Prelude.{List, map, option_map}
 use Rattle.pm_asm.specs.declared.symbols.Symbol as code
 use Rattle.pm_asm.specs.Symbols.{Symbol}

@@ -1,4 +1,4 @@
--- The positions of procedures and labels, as the debugger counts them.
+-- The positions of procedures and labels. Offsets are counted from the entry of the procedure, as in the debugger.
 use Rattle.std.specs.Prelude.{◌≡◌, ℕ, ◌+◌, ◌-◌, List, [], ◌∷◌, ◌++◌, codes, map, Option, Some, None, Result, Ok, Err}
 use Rattle.pm_code.specs.Shown.{padded}
 use Rattle.pm_code.specs.Item.Target.{To}
@@ -8,7 +8,7 @@ use Rattle.pm_source.specs.Meaning.{LeadsTo, found_label}
 use Rattle.pm_source.specs.Source.{Name, Row, Source, SourceSegment, labels_of}
 use Rattle.pm_asm.specs.Assembled.{Outcome, assembled}
 
--- A procedure, or a label of its code.
+-- A symbol: a procedure, or a label of its code.
 pub record Symbol : Type 0 where
   pub segment : ℕ
   pub procedure : ℕ
@@ -17,8 +17,8 @@ pub record Symbol : Type 0 where
   -- `None` for the procedure itself.
   pub label : Option Name
 
--- The symbol of a label in code that begins at offset `start` of its segment. Its offset is the distance from there to
--- the target of a jump to the label.
+-- The symbol of the label `name` in code that begins at offset `start` of its segment. The offset of the symbol is the
+-- distance from `start` to the target of a jump to the label.
 abbrev pub label_symbol : ℕ → ℕ → ℕ → List Row → Name → Symbol
 label_symbol segment procedure start rows name = record {
   segment = segment;
@@ -27,13 +27,15 @@ label_symbol segment procedure start rows name = record {
   label = Some name;
 }
 
--- A procedure that begins at offset `start`, followed by its labels in the order of the text.
+-- The symbol of procedure `p`, which begins at offset `start`, followed by those of its labels in the order of the
+-- text.
 abbrev pub procedure_symbols : ℕ → ℕ → ℕ → Source → List Symbol
 procedure_symbols segment procedure start p =
     record { segment = segment; procedure = procedure; offset = 0; label = None }
     ∷ map (label_symbol segment procedure start p.code) (labels_of p.code)
 
--- The procedures of a segment, numbered from `n`. The first one begins at offset `at`.
+-- The symbols of the procedures of a segment, numbered from `n`, and of their labels. The first procedure begins at
+-- offset `at`.
 unfoldable pub symbols_from : ℕ → ℕ → ℕ → List Source → List Symbol
 symbols_from segment n at [] = []
 symbols_from segment n at (p ∷ ps) =
@@ -44,7 +46,7 @@ unfoldable pub symbols : List SourceSegment → List Symbol
 symbols [] = []
 symbols (s ∷ ss) = symbols_from s.number 1 0 s.procedures ++ symbols ss
 
--- The name in a symbol's line.
+-- The name in the line of a symbol: its label, or `.PROC` for a procedure.
 abbrev pub symbol_name : Option Name → List ℕ
 symbol_name None = codes ".PROC"
 symbol_name (Some label) = label
@@ -62,11 +64,12 @@ abbrev pub symbols_by : List ℕ → Outcome → Result (List ℕ) AsmFault
 symbols_by text (Ok made) = Ok (symbol_lines (symbols (source_of text)))
 symbols_by text (Err fault) = Err fault
 
--- The lines of a text that is assembled, or the fault of assembling.
+-- The symbol lines of `text`, or the fault of `text` if it cannot be assembled.
 unfoldable pub symbol_text : List ℕ → Result (List ℕ) AsmFault
 symbol_text text = symbols_by text (assembled text)
 
--- The target of a jump to a label is the beginning of its procedure plus the offset of the symbol.
+-- States that the target of a jump to a label is the beginning of its procedure plus the offset of the symbol of the
+-- label.
 abbrev pub JumpsLeadToSymbols : Type 0
 JumpsLeadToSymbols = (segment procedure start : ℕ) (rows : List Row) (name : Name) (place : ℕ)
     → LeadsTo (place_of start rows) (To name) (To place)

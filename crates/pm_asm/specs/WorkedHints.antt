@@ -1,4 +1,4 @@
--- The hints for a few lines, computed.
+-- Worked examples: the hints for a few lines.
 use Rattle.std.specs.Prelude.{◌≡◌, codes, Some}
 use Rattle.pm_asm.specs.HintTexts.{hint_text}
 use Rattle.pm_asm.specs.Hints.{ended_hint, hint_of}
@@ -7,12 +7,13 @@ use Rattle.pm_asm.specs.Hints.Hint.{Odd, Counted}
 use Rattle.pm_source.specs.declared.fault.AsmFault.TheVariants.{Syntax, Unknown, Range, NoLabel, Twice, Far}
 use Rattle.pm_source.specs.Line.Keyword.{OfSegment, Mnemonic}
 
--- Worked out by hand, with the numbers of the opcodes.
+-- States hints that were worked out by hand, with the numbers of the opcodes.
 pub record WorkedHints : Type 0 where
   -- A comma is missing.
   pub ill_formed : hint_of (Syntax 3) (codes "CXP 2 1") ≡ Some (Takes (Mnemonic 205))
   pub out_of_place : hint_of (Syntax 3) (codes " NOP ; x") ≡ Some (Stands (Mnemonic 215))
-  -- An empty word is the mnemonic of opcode 210. The text of the hint is the same for every item.
+  -- An empty word is also the mnemonic of opcode 210, which is unassigned. The text of the hint is the same for every
+  -- item.
   pub label_alone : hint_of (Syntax 3) (codes "L:") ≡ Some (Stands (Mnemonic 210))
   pub label : hint_of (Syntax 3) (codes "1L: NOP") ≡ Some Labels
   pub labelled : hint_of (Syntax 3) (codes "L: .EXIT") ≡ Some BeforeLabelled

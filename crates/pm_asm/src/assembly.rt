@@ -1,4 +1,4 @@
-//! Converts source text to a program, and the program to a code file and a listing.
+//! Converts source text to a program, and converts the program to a code file and a listing.
 
 ghost use Rattle.std.specs.Prelude.{◌≡◌, ◌≢◌, [], string_bytes, false, true, Ok, Err, IfOk, IfErr, OnOk};
 ghost use Rattle.pm_code.specs.Views.{program_seen};
@@ -16,12 +16,12 @@ use pm_reader::source_of;
 use pm_source::AsmFault;
 use std::alloc::Global;
 
-/// Returns the program of source text.
+/// Returns the program of the source text `text`.
 ///
 /// # Errors
 ///
 /// - The first of the faults of the text, with its line.
-/// - `TooLong(n)`: there is no fault, and n is the first segment with more than 60,000 bytes.
+/// - `TooLong(n)`: the text has no fault, and n is the first segment with more than 60,000 bytes.
 /// - `NoMemory`: memory runs out. It can occur at any stage.
 pub(crate) fn program_of(alloc: Global, text: &str) -> Result<Vec<Segment>, AsmFault>
     ensures program { IfOk result (λ program. program_seen program.items ≡ program_of text.now) }
@@ -45,14 +45,15 @@ pub struct Assembly {
     pub listing: String,
 }
 
-/// Assembles source text, and returns the code file and the listing.
+/// Assembles the source text `text`, and returns the code file and the listing.
 ///
-/// If memory suffices, it succeeds if and only if the text is a program whose segments have at most 60,000 bytes each.
+/// If memory suffices, the call succeeds if and only if the text is a program whose segments have at most 60,000 bytes
+/// each.
 ///
 /// # Errors
 ///
 /// - The first of the faults of the text (`Syntax`, `Unknown`, `Range`, `NoLabel`, `Twice`, `Far`), with its line.
-/// - `TooLong(n)`: there is no fault, and n is the first segment with more than 60,000 bytes.
+/// - `TooLong(n)`: the text has no fault, and n is the first segment with more than 60,000 bytes.
 /// - `NoMemory`: memory runs out. It can occur at any stage.
 pub fn assemble(alloc: Global, text: &str) -> Result<Assembly, AsmFault>
     ensures assembled { IfOk result (λ a. assembled text.now ≡ Ok (a.file.items, string_bytes a.listing)) }
@@ -66,7 +67,7 @@ pub fn assemble(alloc: Global, text: &str) -> Result<Assembly, AsmFault>
     Ok(Assembly { file, listing })
 }
 
-/// Assembles source text, and returns only the code file. The errors are those of `assemble`.
+/// Assembles the source text `text`, and returns only the code file. The errors are those of `assemble`.
 pub fn assemble_file(alloc: Global, text: &str) -> Result<Vec<u8>, AsmFault>
     ensures file { IfOk result (λ file. wanted false (assembled text.now) ≡ Ok file.items) }
     ensures refusal { IfErr result (λ fault. fault ≢ NoMemory → assembled text.now ≡ Err fault) }
@@ -76,7 +77,7 @@ pub fn assemble_file(alloc: Global, text: &str) -> Result<Vec<u8>, AsmFault>
     Ok(file)
 }
 
-/// Assembles source text, and returns only the listing. The errors are those of `assemble`.
+/// Assembles the source text `text`, and returns only the listing. The errors are those of `assemble`.
 pub fn assemble_listing(alloc: Global, text: &str) -> Result<String, AsmFault>
     ensures listing { IfOk result (λ listing. wanted true (assembled text.now) ≡ Ok (string_bytes listing)) }
     ensures refusal { IfErr result (λ fault. fault ≢ NoMemory → assembled text.now ≡ Err fault) }

@@ -8,11 +8,11 @@ use std::collections::BTreeMap;
 /// The code of a procedure, with a table of its labels.
 #[derive(Clone, Copy)]
 pub(crate) struct Code<'r, 'a> {
-    /// The offset of its first byte in the segment.
+    /// The offset in the segment at which the code begins.
     pub start: usize,
-    /// Its lines.
+    /// The lines of the code.
     pub rows: &'r [Row<'a>],
-    /// The offsets of its labels.
+    /// The offset of each label of the code, by the name of the label.
     pub table: &'r BTreeMap<&'a [u8], usize>,
     ghost placed: { IsTable table.now start rows.now },
 }

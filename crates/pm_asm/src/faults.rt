@@ -23,7 +23,8 @@ use pm_reader::{
 use pm_source::AsmFault;
 use std::alloc::Global;
 
-/// Returns the first label fault of the line that begins at offset `at`.
+/// Returns the first label fault of the line `row`, whose first item begins at offset `at`. A label fault is `NoLabel`
+/// or `Far`. Returns `None` if the line has no label fault.
 fn row_fault<'a>(alloc: Global, code: &Code<'_, 'a>, at: usize, row: &Row<'a>) -> Option<AsmFault>
     ensures fault { Answers result (row_faults (places_in code.now) at (row_seen row.now)) }
 {
@@ -34,7 +35,7 @@ fn row_fault<'a>(alloc: Global, code: &Code<'_, 'a>, at: usize, row: &Row<'a>) -
     }
 }
 
-/// Appends the first label fault of each line of code.
+/// Appends the first label fault of each line of `code` to `found`.
 #[tactic(auto, unfolding(crate::specs::Each::code_firsts), using(pm_reader::proofs::Eachs::first_noted))]
 fn note_code(alloc: Global, code: &Code<'_, '_>, found: &mut Vec<AsmFault>) -> Result<(), AsmFault>
     ensures noted { OnOk result (found.new.items ≡ found.old.items
@@ -49,7 +50,7 @@ fn note_code(alloc: Global, code: &Code<'_, '_>, found: &mut Vec<AsmFault>) -> R
     Ok(())
 }
 
-/// Returns the fault of a jump table entry if its label is unknown.
+/// Returns the fault of the jump table entry `entry` if `code` does not define its label.
 fn entry_fault<'a>(code: &Code<'_, 'a>, entry: &Entry<'a>) -> Option<AsmFault>
     ensures fault { option_to_list result ≡ entries_faults (places_in code.now) (entry_seen entry.now ∷ []) }
     ensures known { result ≢ Some NoMemory }
@@ -60,7 +61,7 @@ fn entry_fault<'a>(code: &Code<'_, 'a>, entry: &Entry<'a>) -> Option<AsmFault>
     }
 }
 
-/// Appends the faults of jump table entries.
+/// Appends the faults of the jump table entries `entries` to `found`.
 fn note_entries<'a>(
     code: &Code<'_, 'a>,
     entries: &[Entry<'a>],
@@ -76,7 +77,7 @@ fn note_entries<'a>(
     Ok(())
 }
 
-/// Appends the first label fault of each line of a procedure that begins at offset `at` of its segment.
+/// Appends the first label fault of each line of `procedure`, which begins at offset `at` of its segment.
 #[tactic(auto, unfolding(crate::specs::Each::label_firsts))]
 fn note_procedure(
     alloc: Global,
@@ -99,7 +100,7 @@ fn note_procedure(
     note_entries(&code, &procedure.entries, found)
 }
 
-/// Appends the first label fault of each line of a segment's procedures.
+/// Appends the first label fault of each line of `procedures`, which are the procedures of one segment.
 #[tactic(auto, unfolding(crate::specs::Each::label_firsts_from))]
 fn note_procedures(
     alloc: Global,
@@ -118,7 +119,7 @@ fn note_procedures(
     Ok(())
 }
 
-/// Returns the first label fault of each line of segments, in the order of the text.
+/// Returns the first label fault of each line of `segments`, in the order of the text.
 #[tactic(auto, unfolding(crate::specs::Each::all_label_firsts))]
 fn faults_of_labels(
     alloc: Global,
@@ -134,12 +135,13 @@ fn faults_of_labels(
     Ok(found)
 }
 
-/// Returns the faults of source text, at most one for each line, in the following order:
+/// Returns the faults of the source text `text`, at most one for each line:
 ///
-/// - If a line has a fault of its own (`Syntax`, `Unknown`, `Range`, `Twice`), the first fault of each such line, in
-///   the order of the lines.
+/// - If lines have the faults `Syntax`, `Unknown`, `Range` or `Twice`, the first such fault of each line, in the order
+///   of the
+/// lines.
 /// - Otherwise, the first label fault of each line (`NoLabel`, `Far`), segment by segment in the order of the text.
-/// - If there is none of these either, `TooLong` if a segment is too long.
+/// - If no line has a fault, `TooLong` if a segment is too long.
 ///
 /// # Errors
 ///

@@ -1,4 +1,4 @@
-//! Hints for lines with errors.
+//! Hints for lines with errors. A hint explains how to correct a line.
 
 ghost use Rattle.std.specs.Prelude.{◌≡◌, Some, IfOk, option_map};
 ghost use Rattle.std.specs.List.{list_all};
@@ -17,7 +17,7 @@ use pm_reader::Counts;
 use pm_source::AsmFault;
 use std::alloc::{AllocError, Global};
 
-/// A hint for a line with a fault.
+/// A hint for a line with a fault. Each variant states what the text of the hint describes.
 #[derive(Clone, Copy)]
 pub enum Hint {
     /// The characters that are allowed in source text.
@@ -36,19 +36,20 @@ pub enum Hint {
     Words,
     /// The conditions for `.END`.
     Ended,
-    /// The number of a procedure, and its number of bytes, which is odd.
+    /// A procedure with an odd number of bytes.
     Odd { procedure: usize, bytes: usize },
-    /// The number of a procedure, the number of its `.JUMP` lines, and the number of entries that its code uses.
+    /// A procedure with the wrong number of `.JUMP` lines. The fields are the number of the procedure, the number of
+    /// its `.JUMP` lines, and the number of entries that its code uses.
     Counted(usize, usize, usize),
-    /// A label that is used must be defined.
+    /// Every label that is used must be defined.
     Named,
-    /// What may occur only once.
+    /// What may occur only once, by the keyword of the line.
     Once(Keyword),
     /// The range of a short jump, and how to jump to any label.
     Reached(Keyword),
 }
 
-/// Whether all characters are allowed in source text: tabs, and 32 to 126.
+/// Whether all characters of `text` are allowed in source text: tabs, and 32 to 126.
 fn are_characters(text: &[u8]) -> bool
     ensures characters { result ≡ list_all is_character text.now }
 {
@@ -56,7 +57,7 @@ fn are_characters(text: &[u8]) -> bool
         .all(|byte| *byte == b'\t' || (32..=126).contains(byte))
 }
 
-/// Returns the mnemonic or directive of a line. Returns `Bytes` if the line has none.
+/// Returns the mnemonic or directive at the front of a line. Returns `Bytes` if the line has none.
 fn keyword_or_byte(front: &Front<'_>) -> Keyword
     ensures keyword { keyword_seen result ≡ unwrap_or (keyword_in (front_seen front.now)) OfBytes }
 {
@@ -66,7 +67,7 @@ fn keyword_or_byte(front: &Front<'_>) -> Keyword
     }
 }
 
-/// Returns the hint for a line whose label is a valid name.
+/// Returns the hint for a malformed line that has a valid label and the mnemonic or directive `keyword`.
 fn labelled_hint(keyword: Option<Keyword>) -> Option<Hint>
     ensures hint { option_map hint_seen result ≡ labelled_hint (option_map keyword_seen keyword) }
 {
@@ -76,7 +77,8 @@ fn labelled_hint(keyword: Option<Keyword>) -> Option<Hint>
     }
 }
 
-/// Returns the hint for a malformed line.
+/// Returns the hint for a malformed line, from its label and its keyword. Returns `None` only if the line has no
+/// keyword, and its label, if any, is a valid name.
 fn ill_formed_hint(front: &Front<'_>) -> Option<Hint>
     ensures hint { option_map hint_seen result
         ≡ ill_formed_hint (front_seen front.now).label (keyword_in (front_seen front.now)) }
@@ -127,7 +129,8 @@ fn far_hint(front: &Front<'_>) -> Option<Hint>
     Some(Hint::Reached(front.keyword()?))
 }
 
-/// Returns the hint for an `.END` that is rejected, from the counts of its procedure.
+/// Returns the hint for an `.END` that is rejected. `counts` has the number of bytes and of jump table entries of its
+/// procedure.
 pub fn ended_hint(counts: Counts) -> Hint
     ensures hint { hint_seen result ≡ ended_hint counts }
 {
@@ -144,7 +147,8 @@ pub fn ended_hint(counts: Counts) -> Hint
     }
 }
 
-/// Returns the hint for a line with a fault, if there is one. `text` is the line without its line feed.
+/// Returns the hint for a line with the fault `fault`, or `None` if no hint exists for it. `text` is the line without
+/// its line feed.
 #[tactic(auto, unfolding(crate::specs::Hints::hint_of))]
 pub fn hint_of(alloc: Global, fault: AsmFault, text: &str) -> Result<Option<Hint>, AllocError>
     ensures hint { IfOk result (λ hint. option_map hint_seen hint ≡ hint_of fault text.now) }

@@ -11,7 +11,7 @@ use pm_line::{Keyword, short_range};
 use pm_opcode::{Form, form_at, row_at};
 use std::fmt;
 
-/// Returns example operands of a form, as in source text.
+/// Returns example operands of the form `form`, as they are written in source text.
 fn example(form: Form) -> &'static str
     ensures text { result.now ≡ example form }
 {
@@ -30,7 +30,7 @@ fn example(form: Form) -> &'static str
     }
 }
 
-/// Returns the description of the operands of a form.
+/// Returns the description of the operands of the form `form`.
 fn form_text(form: Form) -> &'static str
     ensures text { result.now ≡ form_text form }
 {
@@ -50,8 +50,8 @@ fn form_text(form: Form) -> &'static str
     }
 }
 
-/// Returns the description of an instruction whose opcode includes its number. `op` is the first opcode of its
-/// mnemonic.
+/// Returns the description of an instruction whose opcode includes its number, such as SLDC. `op` is the first opcode
+/// of its mnemonic.
 #[tactic(auto, unfolding(crate::specs::HintTexts::range_text))]
 fn range_text(op: u8) -> &'static str
     ensures text { result.now ≡ range_text op }
@@ -64,7 +64,7 @@ fn range_text(op: u8) -> &'static str
     }
 }
 
-/// An example of the operands of a form, after the mnemonic.
+/// An example of the operands of a form, shown after the mnemonic `name`.
 #[derive(Clone, Copy)]
 struct ShownExample<'a> {
     name: &'a str,
@@ -86,7 +86,7 @@ impl fmt::Display for ShownExample<'_> {
     }
 }
 
-/// The description of the operands of an opcode's mnemonic.
+/// The description of the operands that the mnemonic of this opcode takes.
 #[derive(Clone, Copy)]
 struct Operands(u8);
 
@@ -108,7 +108,7 @@ impl fmt::Display for Operands {
     }
 }
 
-/// Returns the spelling of a mnemonic or a directive.
+/// Returns the spelling of the mnemonic or directive `keyword`.
 fn keyword_text(keyword: Keyword) -> &'static str
     ensures text { result.now ≡ keyword_text (keyword_seen keyword) }
 {
@@ -160,7 +160,7 @@ impl fmt::Display for Taken {
     }
 }
 
-/// Returns the description of where a line is allowed.
+/// Returns the description of where a line with the mnemonic or directive `keyword` is allowed.
 fn stands_text(keyword: Keyword) -> &'static str
     ensures text { result.now ≡ stands_text (keyword_seen keyword) }
 {
@@ -179,7 +179,7 @@ fn stands_text(keyword: Keyword) -> &'static str
     }
 }
 
-/// Returns the description of what may occur only once.
+/// Returns the text that states what may occur only once: a segment's number, `.EXIT` or a label.
 fn once_text(keyword: Keyword) -> &'static str
     ensures text { result.now ≡ once_text (keyword_seen keyword) }
 {
@@ -190,11 +190,11 @@ fn once_text(keyword: Keyword) -> &'static str
     }
 }
 
-/// How to jump to any label.
+/// The text that explains how to jump to any label.
 const REACHING: &str =
     "to jump back or farther, write ^0 for the label, and a line .JUMP with the label before .END";
 
-/// Returns the text of a hint that is constant. Returns an empty text for other hints.
+/// Returns the text of `hint` if this text is constant. Returns an empty text for other hints.
 fn fixed_text(hint: Hint) -> &'static str
     ensures text { result.now ≡ fixed_text (hint_seen hint) }
 {
@@ -217,7 +217,7 @@ fn fixed_text(hint: Hint) -> &'static str
     }
 }
 
-/// The number of `.JUMP` lines, and the number of entries that the code uses.
+/// The number of `.JUMP` lines, and the number of jump table entries that the code uses.
 #[derive(Clone, Copy)]
 struct ShownCounts {
     entries: usize,

@@ -16,7 +16,7 @@ use pm_code::Target;
 use pm_source::AsmFault;
 use std::alloc::Global;
 
-/// Returns the offset of a label that is used in `line`.
+/// Returns the offset of the label `name` of `code`. The label is used in the line with the number `line`.
 ///
 /// # Errors
 ///
@@ -37,7 +37,7 @@ pub(crate) fn resolve_label<'a>(
     }
 }
 
-/// Returns the offsets of labels that are used in `line`.
+/// Returns the offsets of the labels `names` of `code`. They are used in the line with the number `line`.
 ///
 /// # Errors
 ///
@@ -64,7 +64,7 @@ pub(crate) fn resolve_labels<'a>(
     Ok(places)
 }
 
-/// Returns the target of a jump in `line`, with the offset of its label.
+/// Returns the target of a jump, with its label converted to an offset. The jump is in the line with the number `line`.
 ///
 /// # Errors
 ///
@@ -86,15 +86,16 @@ pub(crate) fn resolve_target<'a>(
     }
 }
 
-/// Whether a short jump cannot reach an offset. `next` is the offset of the next instruction. The target must not be
-/// before it, and at most 127 bytes after it.
+/// Whether a short jump cannot reach the offset `place`. `next` is the offset of the next instruction. The jump reaches
+/// only offsets from `next` to `next + 127`.
 fn is_far_place(next: usize, place: usize) -> bool
     ensures far { result ≡ is_far_place next (Some place) }
 {
     place < next || place - next > 127
 }
 
-/// Checks that a short jump in `line` reaches its target. `next` is the offset of the next instruction.
+/// Checks that a short jump in the line with the number `line` reaches `target`. `next` is the offset of the next
+/// instruction.
 ///
 /// # Errors
 ///

@@ -15,7 +15,7 @@ use pm_source::AsmFault;
 /// The maximum length of a segment, in bytes.
 pub const LONGEST: usize = 60_000;
 
-/// Whether a segment has more than 60,000 bytes.
+/// Whether `segment` has more than 60,000 bytes. The error is `NoMemory`, if the length does not fit in 64 bits.
 fn is_long(segment: &Segment) -> Result<bool, AsmFault>
     requires follow { FollowFrom 0 (segment_seen segment.now).procedures }
     ensures value { IfOk result (λ long. long ≡ nat_lt LONGEST (length (segment_bytes (segment_seen segment.now)))) }
@@ -26,11 +26,11 @@ fn is_long(segment: &Segment) -> Result<bool, AsmFault>
     Ok(length > LONGEST)
 }
 
-/// Checks that no segment of a program has more than 60,000 bytes.
+/// Checks that no segment of `program` has more than 60,000 bytes.
 ///
 /// # Errors
 ///
-/// - `TooLong(n)`: n is the first segment with more bytes.
+/// - `TooLong(n)`: n is the number of the first segment with more bytes.
 /// - `NoMemory`: the length of a segment does not fit in 64 bits.
 pub(crate) fn check_lengths(program: &[Segment]) -> Result<(), AsmFault>
     requires follow { AllByRecursion (λ s. FollowFrom 0 s.procedures) (program_seen program.now) }

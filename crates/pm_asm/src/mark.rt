@@ -1,4 +1,4 @@
-//! The position at which a line with an error is marked.
+//! The position at which a line with an error is marked. A position is the number of characters before it.
 
 ghost use Rattle.std.specs.Prelude.{◌≡◌, ◌<◌, ◌≤◌, IfOk, IfSome, drop, length, map, option_map, position, string_bytes};
 ghost use Rattle.pm_asm.specs.Hints.{hint_seen};
@@ -20,7 +20,7 @@ enum Stop {
     Strange,
 }
 
-/// Whether a character is in the set.
+/// Whether the character `byte` is in the set `stop`.
 fn stops(stop: Stop, byte: u8) -> bool
     ensures value { result ≡ stops stop byte }
 {
@@ -31,7 +31,8 @@ fn stops(stop: Stop, byte: u8) -> bool
     }
 }
 
-/// Returns the number of characters before the first character of the set.
+/// Returns the number of characters of `text` before the first character that is in the set `stop`. Returns `None` if
+/// no character is in the set.
 fn found(stop: Stop, text: &[u8]) -> Option<usize>
     ensures place { result ≡ position (stops stop) text.now }
     ensures within { IfSome result (λ n. n < length text.now) }
@@ -39,8 +40,8 @@ fn found(stop: Stop, text: &[u8]) -> Option<usize>
     text.iter().position(|byte| stops(stop, *byte))
 }
 
-/// Returns the position of the first character of the set that is not before `at`, or the length of the text if there
-/// is none.
+/// Returns the position of the first character of `text` that is in the set `stop` and not before `at`. Returns the
+/// length of `text` if no such character exists.
 fn place_from(stop: Stop, text: &[u8], at: usize) -> usize
     ensures place { result ≡ place_from stop text.now at }
     ensures within { result ≤ length text.now }
@@ -52,7 +53,7 @@ fn place_from(stop: Stop, text: &[u8], at: usize) -> usize
     }
 }
 
-/// Returns the position of the mnemonic or directive.
+/// Returns the position of the mnemonic or directive in the line `text`.
 fn word_place(text: &[u8]) -> usize
     ensures place { result ≡ word_place text.now }
     ensures within { result ≤ length text.now }
@@ -64,7 +65,7 @@ fn word_place(text: &[u8]) -> usize
     }
 }
 
-/// Whether there is a character at `at` that does not begin a comment.
+/// Whether `text` has a character at `at` that does not begin a comment.
 fn has_more(text: &[u8], at: usize) -> bool
     ensures more { result ≡ has_more (drop at text.now) }
 {
@@ -74,7 +75,8 @@ fn has_more(text: &[u8], at: usize) -> bool
     }
 }
 
-/// Returns the position of the operands. If there are none, it returns the position after the mnemonic or directive.
+/// Returns the position of the operands in the line `text`. If it has no operands, returns the position after the
+/// mnemonic or directive.
 fn operands_place(text: &[u8]) -> usize
     ensures place { result ≡ operands_place text.now }
     ensures within { result ≤ length text.now }
@@ -84,7 +86,7 @@ fn operands_place(text: &[u8]) -> usize
     if has_more(text, next) { next } else { end }
 }
 
-/// Returns the position at which a line is marked for a hint, as the number of characters before it.
+/// Returns the position at which the line `text` is marked for `hint`, as the number of characters before the mark.
 #[tactic(auto, unfolding(crate::specs::Marks::mark_of))]
 pub fn mark_of(hint: Option<Hint>, text: &str) -> usize
     ensures place { result ≡ mark_of (option_map hint_seen hint) text.now }
@@ -105,14 +107,14 @@ pub fn mark_of(hint: Option<Hint>, text: &str) -> usize
     }
 }
 
-/// Returns the character below a character that precedes the mark.
+/// Returns the character that is printed below the character `byte`, which precedes the mark: a tab or a space.
 fn below(byte: u8) -> char
     ensures value { result ≡ below byte }
 {
     if byte == b'\t' { '\t' } else { ' ' }
 }
 
-/// Returns the text below the characters that precede the mark.
+/// Returns the text that is printed below the characters `before`, which precede the mark.
 fn line_below(alloc: Global, before: &[u8]) -> Result<String, AllocError>
     ensures line { IfOk result (λ line. string_bytes line ≡ map below before.now) }
 {

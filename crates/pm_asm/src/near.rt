@@ -9,8 +9,8 @@ ghost use Rattle.pm_asm.specs.Near.{are_off, is_like, is_near, liked, liked_from
 use pm_line::Keyword;
 use pm_opcode::row_at;
 
-/// Whether two texts with different first characters differ in one letter only. The arguments are each text, and each
-/// text without its first character.
+/// Whether the texts `word` and `name`, whose first characters differ, differ in one letter only. `word_rest` and
+/// `name_rest` are these texts without their first characters.
 fn are_off(word: &[u8], word_rest: &[u8], name: &[u8], name_rest: &[u8]) -> bool
     ensures off { result ≡ are_off word.now word_rest.now name.now name_rest.now }
 {
@@ -19,7 +19,7 @@ fn are_off(word: &[u8], word_rest: &[u8], name: &[u8], name_rest: &[u8]) -> bool
         || word.eq_ignore_ascii_case(name_rest)
 }
 
-/// Whether a word differs from a name in one letter: another letter, one more or one less. Upper and lower case are
+/// Whether `word` differs from `name` in one letter: one letter is replaced, added or removed. Upper and lower case are
 /// equal.
 #[tactic(auto, unfolding(crate::specs::Near::is_near))]
 fn is_near(word: &[u8], name: &[u8]) -> bool
@@ -40,15 +40,16 @@ fn is_near(word: &[u8], name: &[u8]) -> bool
     }
 }
 
-/// Whether a word is a name in upper or lower case. If `near` is true, a word of two or more letters may also differ in
-/// one letter.
+/// Whether `word` is `name` in upper or lower case. If `near` is true, a word of two or more letters may also differ
+/// from `name` in one letter.
 fn is_like(near: bool, word: &[u8], name: &[u8]) -> bool
     ensures like { result ≡ is_like near word.now name.now }
 {
     word.eq_ignore_ascii_case(name) || near && word.len() >= 2 && is_near(word, name)
 }
 
-/// Returns the first opcode whose mnemonic is similar to a word.
+/// Returns the first opcode whose mnemonic is similar to `word`, as `is_like` defines it. Returns `None` if no mnemonic
+/// is similar.
 fn opcode_like(near: bool, word: &[u8]) -> Option<u8>
     ensures opcode { result ≡ liked_from near word.now 0 256 }
 {
@@ -61,7 +62,8 @@ fn opcode_like(near: bool, word: &[u8]) -> Option<u8>
     None
 }
 
-/// Returns the directive that is similar to a word.
+/// Returns the first directive that is similar to `word`, as `is_like` defines it. Returns `None` if no directive is
+/// similar.
 #[tactic(auto, unfolding(pm_source::specs::Line::directives))]
 fn directive_like(near: bool, word: &[u8]) -> Option<Keyword>
     ensures directive { option_map keyword_seen result ≡ lookup (is_like near word.now) directives }
@@ -83,7 +85,7 @@ fn directive_like(near: bool, word: &[u8]) -> Option<Keyword>
     }
 }
 
-/// Returns the directive or the mnemonic that is similar to a word.
+/// Returns the directive that is similar to `word`. If no directive is similar, returns the mnemonic that is similar.
 #[tactic(auto, unfolding(crate::specs::Near::liked))]
 fn liked(near: bool, word: &[u8]) -> Option<Keyword>
     ensures keyword { option_map keyword_seen result ≡ liked near word.now }
@@ -94,7 +96,7 @@ fn liked(near: bool, word: &[u8]) -> Option<Keyword>
     }
 }
 
-/// Returns the directive or mnemonic that a word may mean. A keyword in another case is preferred to one that differs
+/// Returns the directive or mnemonic that `word` may mean. A keyword in another case is preferred to one that differs
 /// in one letter.
 #[tactic(auto, unfolding(crate::specs::Near::meant))]
 pub(crate) fn meant(word: &[u8]) -> Option<Keyword>

@@ -1,4 +1,4 @@
-//! The program of segments with labels.
+//! Converts segments with labels to a program, in which the labels are replaced by offsets.
 
 ghost use Rattle.std.specs.Prelude.{◌≡◌, ◌≢◌, [], IfOk, IfErr, OnOk, map};
 ghost use Rattle.pm_code.specs.Views.{procedure_seen, program_seen, segment_seen};
@@ -18,7 +18,7 @@ use pm_reader::{LabelledProcedure, LabelledSegment, row_end, source_end};
 use pm_source::AsmFault;
 use std::alloc::Global;
 
-/// Returns the offset of the exit code. `NoMemory` occurs only if an offset does not fit in 64 bits.
+/// Returns the offset of the exit code of `code`. The error is `NoMemory`, only if an offset does not fit in 64 bits.
 fn exit_place(code: &Code<'_, '_>) -> Result<usize, AsmFault>
     ensures place { IfOk result (λ place. place ≡ exit_in code.now) }
     ensures refusal { IfErr result (λ fault. fault ≡ NoMemory) }
@@ -33,8 +33,8 @@ fn exit_place(code: &Code<'_, '_>) -> Result<usize, AsmFault>
     Ok(at)
 }
 
-/// Returns a procedure that begins at offset `at` of its segment, with the offsets of its labels. The error is the
-/// first of its label faults, or `NoMemory`.
+/// Returns `procedure`, which begins at offset `at` of its segment, with its labels converted to offsets. The error is
+/// the first of its label faults, or `NoMemory`.
 #[tactic(auto, using(pm_reader::proofs::Firsts::first_front))]
 fn resolve_procedure(
     alloc: Global,
@@ -67,8 +67,8 @@ fn resolve_procedure(
     })
 }
 
-/// Returns the procedures of a segment, with the offsets of their labels. The error is the first of their label faults,
-/// or `NoMemory`.
+/// Returns `procedures`, the procedures of one segment, with their labels converted to offsets. The error is the first
+/// of their label faults, or `NoMemory`.
 #[tactic(auto, using(crate::proofs::Firsts::procedure_first))]
 fn resolve_procedures(
     alloc: Global,
@@ -90,7 +90,7 @@ fn resolve_procedures(
     Ok(found)
 }
 
-/// Returns a segment with the offsets of its labels. The error is the first of its label faults, or `NoMemory`.
+/// Returns `segment` with its labels converted to offsets. The error is the first of its label faults, or `NoMemory`.
 fn resolve_segment(alloc: Global, segment: &LabelledSegment<'_>) -> Result<Segment, AsmFault>
     ensures faultless { OnOk result (label_faults_from 0 (labelled_segment segment.now).procedures ≡ []) }
     ensures found { IfOk result (λ found. segment_seen found ≡ found_segment (labelled_segment segment.now)) }
@@ -108,7 +108,7 @@ fn resolve_segment(alloc: Global, segment: &LabelledSegment<'_>) -> Result<Segme
     })
 }
 
-/// Returns segments in the order of the text, with the offsets of their labels.
+/// Returns `segments` in the order of the text, with their labels converted to offsets.
 ///
 /// # Errors
 ///

@@ -1,4 +1,4 @@
-//! Code with the offsets of its labels. Each label is looked up once.
+//! Converts the labels in code to offsets. Each use of a label is looked up once.
 
 ghost use Rattle.std.specs.Prelude.{◌≡◌, ◌≢◌, ◌+◌, ◌++◌, [], Err, IfOk, IfErr, IfSome, None, OnOk, map};
 ghost use Rattle.pm_code.specs.Item.{table_place};
@@ -25,8 +25,8 @@ use pm_source::AsmFault;
 use std::alloc::Global;
 use std::slice::from_ref;
 
-/// Returns the offset of the table of a case jump, which follows the opcode, the padding and three words. Returns
-/// `None` only if the offset exceeds `usize::MAX`.
+/// Returns the offset of the table of a case jump at offset `at`. The opcode, the padding and three words precede the
+/// table. Returns `None` only if the offset exceeds `usize::MAX`.
 fn table_place(at: usize) -> Option<usize>
     ensures place { IfSome result (λ place. place ≡ table_place at) }
     ensures too_long { result ≡ None → IsCountless (table_place at) }
@@ -38,7 +38,8 @@ fn table_place(at: usize) -> Option<usize>
     }
 }
 
-/// Returns a case jump with the offsets of its labels. `place` is the line and the offset of the instruction.
+/// Returns a case jump with its labels converted to offsets. `place` is the number of its line and the offset of the
+/// instruction.
 #[tactic(auto, using(crate::proofs::Lookups::far_is))]
 fn resolve_case<'a>(
     alloc: Global,
@@ -68,7 +69,8 @@ fn resolve_case<'a>(
     })
 }
 
-/// Returns a short jump with the offset of its label. `place` is the line and the offset of the instruction.
+/// Returns a short jump with its label converted to an offset. `place` is the number of its line and the offset of the
+/// instruction.
 #[tactic(auto, using(crate::proofs::Lookups::far_is))]
 fn resolve_jump<'a>(
     code: &Code<'_, 'a>,
@@ -91,7 +93,7 @@ fn resolve_jump<'a>(
     Ok(Item::Jump(opcode, found))
 }
 
-/// Returns an item with the offsets of its labels. `at` is the offset of the item. The error is the first of its faults
+/// Returns an item, which is at offset `at`, with its labels converted to offsets. The error is the first of its faults
 /// (`NoLabel` or `Far`), or `NoMemory`.
 fn resolve_item<'a>(
     alloc: Global,
@@ -124,8 +126,8 @@ fn resolve_item<'a>(
     }
 }
 
-/// Appends the items of a line, with the offsets of their labels. `start` is the offset of the first item. The error is
-/// the first of their faults, or `NoMemory`.
+/// Appends the items of a line, with their labels converted to offsets. `start` is the offset of the first item. The
+/// error is the first of their faults, or `NoMemory`.
 #[tactic(auto, using(pm_reader::proofs::Firsts::first_front))]
 fn resolve_items<'a>(
     alloc: Global,
@@ -151,7 +153,8 @@ fn resolve_items<'a>(
     Ok(())
 }
 
-/// Appends the items of a line that begins at offset `at`. The error is the first of their faults, or `NoMemory`.
+/// Appends the items of the line `row`, which begins at offset `at`, with their labels converted to offsets. The error
+/// is the first of their faults, or `NoMemory`.
 pub(crate) fn resolve_row<'a>(
     alloc: Global,
     code: &Code<'_, 'a>,
@@ -171,7 +174,8 @@ pub(crate) fn resolve_row<'a>(
     }
 }
 
-/// Returns the items of code, with the offsets of their labels. The error is the first of their faults, or `NoMemory`.
+/// Returns the items of `code`, with their labels converted to offsets. The error is the first of their faults, or
+/// `NoMemory`.
 #[tactic(auto, using(pm_reader::proofs::Firsts::first_front, crate::proofs::Firsts::row_first))]
 pub(crate) fn resolve_code(alloc: Global, code: &Code<'_, '_>) -> Result<Vec<Item<usize>>, AsmFault>
     ensures faultless { OnOk result (code_faults (places_in code.now) code.now.start (map row_seen code.now.rows.now)
@@ -189,8 +193,8 @@ pub(crate) fn resolve_code(alloc: Global, code: &Code<'_, '_>) -> Result<Vec<Ite
     Ok(items)
 }
 
-/// Returns the offsets of the labels of jump table entries. The error is `NoLabel` for the first entry whose label is
-/// unknown, or `NoMemory`.
+/// Returns the offset of the label of each jump table entry in `entries`. The error is `NoLabel` for the first entry
+/// whose label is unknown, or `NoMemory`.
 #[tactic(auto, using(pm_reader::proofs::Firsts::first_front))]
 pub(crate) fn resolve_entries<'a>(
     alloc: Global,

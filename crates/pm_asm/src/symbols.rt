@@ -1,4 +1,4 @@
-//! The positions of procedures and labels, as the debugger counts them.
+//! The positions of procedures and labels. Offsets are counted from the entry of the procedure, as in the debugger.
 
 ghost use Rattle.std.specs.Prelude.{◌≡◌, ◌≢◌, ◌∷◌, ◌++◌, [], Err, IfOk, IfErr, OnOk, Ok, Some, map, option_map};
 ghost use Rattle.pm_line.specs.Views.{row_seen, text_seen};
@@ -20,7 +20,7 @@ use pm_reader::{LabelledProcedure, LabelledSegment, label_of, source_end, source
 use pm_source::AsmFault;
 use std::alloc::{AllocError, Global};
 
-/// A procedure, or a label of its code.
+/// A symbol: a procedure, or a label of its code.
 #[derive(Clone, Copy)]
 struct Symbol<'a> {
     /// The number of the segment.
@@ -41,7 +41,7 @@ struct Numbered<'r, 'a> {
     code: Code<'r, 'a>,
 }
 
-/// Returns the symbol of a label.
+/// Returns the symbol of `label`, which the code of `numbered` defines.
 fn label_symbol<'a>(numbered: &Numbered<'_, 'a>, label: &'a [u8]) -> Symbol<'a>
     ensures symbol { symbol_seen result ≡ symbols.label_symbol numbered.now.segment numbered.now.procedure
         numbered.now.code.start (map row_seen numbered.now.code.rows.now) label.now }
@@ -55,7 +55,7 @@ fn label_symbol<'a>(numbered: &Numbered<'_, 'a>, label: &'a [u8]) -> Symbol<'a>
     }
 }
 
-/// Appends the labels of code.
+/// Appends a symbol for each label of the code of `numbered` to `found`.
 fn push_labels<'a>(
     numbered: &Numbered<'_, 'a>,
     found: &mut Vec<Symbol<'a>>,
@@ -72,7 +72,8 @@ fn push_labels<'a>(
     Ok(())
 }
 
-/// Appends a procedure that begins at offset `at` of its segment, and its labels.
+/// Appends the symbol of `procedure`, which begins at offset `at` of its segment, and then the symbols of its labels.
+/// `numbers` are the numbers of the segment and of the procedure.
 fn push_procedure<'a>(
     alloc: Global,
     numbers: (u8, usize),
@@ -104,7 +105,7 @@ fn push_procedure<'a>(
     push_labels(&numbered, found)
 }
 
-/// Appends the procedures of a segment, and their labels.
+/// Appends the symbols of `procedures`, which are those of the segment with the number `segment`, and of their labels.
 #[tactic(auto, unfolding(crate::specs::Symbols::symbols_from))]
 fn push_procedures<'a>(
     alloc: Global,
@@ -125,7 +126,7 @@ fn push_procedures<'a>(
     Ok(())
 }
 
-/// Returns the procedures and labels of segments, in the order of the text.
+/// Returns the symbols of the procedures and labels of `segments`, in the order of the text.
 #[tactic(auto, unfolding(crate::specs::Symbols::symbols))]
 fn symbols_of<'a>(
     alloc: Global,
@@ -141,7 +142,7 @@ fn symbols_of<'a>(
     Ok(found)
 }
 
-/// Returns the name in a symbol's line.
+/// Returns the name in the line of a symbol: its label, or `.PROC` for a procedure.
 fn symbol_name<'a>(label: Option<&'a [u8]>) -> &'a [u8]
     ensures name { result.now ≡ symbol_name (option_map text_seen label.entry) }
 {
@@ -151,7 +152,7 @@ fn symbol_name<'a>(label: Option<&'a [u8]>) -> &'a [u8]
     }
 }
 
-/// Appends the line of a symbol.
+/// Appends the line of `symbol` to `lines`.
 #[tactic(auto, unfolding(crate::specs::Symbols::symbol_line))]
 fn push_line(alloc: Global, lines: &mut Vec<u8>, symbol: &Symbol<'_>) -> Result<(), AllocError>
     ensures line { OnOk result (lines.new.items ≡ lines.old.items ++ symbol_line (symbol_seen symbol.now)) }
@@ -166,7 +167,7 @@ fn push_line(alloc: Global, lines: &mut Vec<u8>, symbol: &Symbol<'_>) -> Result<
     Ok(())
 }
 
-/// Returns the lines of symbols.
+/// Returns the lines of `symbols`.
 fn lines_of(alloc: Global, symbols: &[Symbol<'_>]) -> Result<Vec<u8>, AllocError>
     ensures lines { IfOk result (λ lines. lines.items ≡ symbol_lines (symbols_seen symbols.now)) }
 {
@@ -177,11 +178,11 @@ fn lines_of(alloc: Global, symbols: &[Symbol<'_>]) -> Result<Vec<u8>, AllocError
     Ok(lines)
 }
 
-/// Returns a line for each procedure and each label of source text, in the order of the text.
+/// Returns a line for each procedure and each label of the source text `text`, in the order of the text.
 ///
-/// The form of a line is `SSS PPP OOOOO NAME`: the segment, the procedure, the offset, and the label. For the procedure
-/// itself, the name is `.PROC`. The offset is in bytes from the entry of the procedure, as the debugger counts it. The
-/// errors are those of `assemble`.
+/// The form of a line is `SSS PPP OOOOO NAME`: the segment, the procedure, the offset, and the label. The line of a
+/// procedure itself has the name `.PROC`. The offset is in bytes from the entry of the procedure, as the debugger
+/// counts it. The errors are those of `assemble`.
 #[tactic(auto, using(crate::proofs::SymbolPlaces::symbols_refused))]
 pub fn assemble_symbols(alloc: Global, text: &str) -> Result<Vec<u8>, AsmFault>
     ensures symbols { IfOk result (λ lines. symbol_text text.now ≡ Ok lines.items) }

@@ -1,4 +1,4 @@
-//! The table of a procedure's labels. It is created once for the code, so that labels are not searched line by line.
+//! The table of a procedure's labels. The table is created once for the code, so labels are not searched line by line.
 
 ghost use Rattle.std.specs.Prelude.{◌≡◌, IfOk};
 ghost use Rattle.pm_asm.specs.Firsts.{places_in};
@@ -10,8 +10,8 @@ use pm_reader::{label_of, row_end};
 use std::alloc::{AllocError, Global};
 use std::collections::BTreeMap;
 
-/// Returns the offsets of the labels of code that begins at offset `start`. Of several labels with one name, the first
-/// is included.
+/// Returns the offset of each label in the lines `rows` of code that begins at offset `start`. Of several labels with
+/// one name, the first is included.
 pub(crate) fn table_of<'a>(
     alloc: Global,
     start: usize,
@@ -32,7 +32,7 @@ pub(crate) fn table_of<'a>(
     Ok(table)
 }
 
-/// Returns the offset of a label, or `None` if the code does not define it.
+/// Returns the offset of the label `name`, or `None` if `code` does not define it.
 pub(crate) fn place_of<'a>(code: &Code<'_, 'a>, name: &'a [u8]) -> Option<usize>
     ensures place { result ≡ places_in code.now name.now }
 {

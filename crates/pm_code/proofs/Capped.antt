@@ -17,7 +17,7 @@ capped r v d h = go (nat_le v 1000000) refl
 digit_small : (c : ℕ) → digit_value c ≤ 36
 digit_small c = grind (arith, nat_tests)
 
--- four digits are never limited
+-- The value of at most four hexadecimal digits is below the limit 1,000,000, so it is not reduced.
 pub four_digits : (ds : List ℕ) → length ds ≤ 4 → min 1000000 (digits_value 16 ds) ≡ digits_value 16 ds
 four_digits [] h = omega (arith)
 four_digits (a ∷ []) h = omega (arith, digit_small a)

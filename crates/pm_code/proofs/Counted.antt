@@ -1,4 +1,4 @@
--- Items, procedures and segments whose end is too large for a count.
+-- Bounds for the ends of items and procedures. They prove that code is too long if an addition of its sizes overflows.
 use Rattle.std.proofs.Common.{◌≡◌, ◌+◌, ◌*◌, ◌<◌, ◌≤◌, ℕ, List, [], ◌∷◌, map, arith}
 use Rattle.pm_code.specs.Item.{Item, size}
 use Rattle.pm_code.specs.Program.{FollowFrom, Procedure, end_of, jtab_of, procedures_end}
@@ -7,7 +7,7 @@ pub end_after : {P : Type 0} (at : ℕ) (items : List (Item P)) → at ≤ end_o
 end_after at [] = omega arith
 end_after at (item ∷ items) = let h = end_after (at + size at item) items in omega arith
 
--- the remaining items begin with one that is too long or ends too late
+-- If the item that is next ends after `most`, then the end of all items is after `most`.
 pub too_long_item : {A P : Type 0} (f : A → Item P) (most at end : ℕ) (items : List A) (item : A) (rest : List A) → items ≡ item ∷ rest
     → end_of at (map f items) ≡ end
     → most < at + size at (f item) → most < end
@@ -16,7 +16,7 @@ too_long_item f most at end items item rest e all h =
     let whole = rw e at all in
     omega arith
 
--- procedures do not end before they begin
+-- Procedures that begin at offset `at` and follow one another end at `at` or later.
 pub procedures_after : (at : ℕ) (ps : List Procedure) → FollowFrom at ps → at ≤ procedures_end at ps
 procedures_after at [] h = omega arith
 procedures_after at (p ∷ ps) h =

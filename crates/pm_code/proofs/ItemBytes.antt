@@ -1,4 +1,4 @@
--- The bytes of items are bytes.
+-- Each byte of an item is below 256.
 use Rattle.std.proofs.Common.{◌≡◌, ◌<◌, ◌≤◌, ℕ, ◌+◌, ◌-◌, ◌*◌, ◌%◌, Bool, true, false, cond, eqb, leb, List, [], ◌∷◌, ◌++◌, length, arith, inl, inr}
 use Rattle.std.specs.Prelude.{◌||◌, nat_lt}
 use Rattle.std.proofs.Common.{◌⊎◌, refl}
@@ -46,7 +46,7 @@ padding_bytes : (odd : Bool) → AreBytes (pad_byte odd 0)
 padding_bytes true = (omega arith, tt)
 padding_bytes false = tt
 
--- the type of a comparison is a byte
+-- If a comparison of the type `a` has a size, then `a` is below 256.
 sized_byte : (a : ℕ) → is_sized a ≡ true → a < 256
 sized_byte a h = elim (either (eqb a 10) (eqb a 12) h) [ inl e ↦ omega (arith, eqb-true _ _ e) | inr e ↦ omega (arith, eqb-true _ _ e) ]
 

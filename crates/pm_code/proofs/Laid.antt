@@ -1,4 +1,4 @@
--- The offsets of the procedures of a segment and of its dictionary.
+-- Lemmas about the offsets of the procedures of a segment and of its dictionary.
 use Rattle.std.proofs.Common.{◌≡◌, ◌<◌, ◌≤◌, ℕ, ◌+◌, ◌-◌, ◌*◌, List, [], ◌∷◌, ◌++◌, length, map, reverse, refl, sym, ap, ◌∙◌, subst, arith, length-append}
 use Rattle.std.specs.List.{AllByRecursion}
 use Rattle.std.proofs.lemmas.List.{length-reverse, map-append, reverse-append}
@@ -32,7 +32,7 @@ length-procedures at number (p ∷ ps) h =
       length-procedures (jtab_of p + 2) (number + 1) ps h.1,
     )
 
--- the dictionary has the layout of a jump table
+-- The bytes of a dictionary are those of a jump table whose entries lead to the attribute tables of the procedures.
 pub dictionary_entries : (at : ℕ) (ps : List Procedure) → dictionary_bytes at ps ≡ entry_bytes at (map jtab_of ps)
 dictionary_entries at [] = refl
 dictionary_entries at (p ∷ ps) = ap (λ bs. back_to at (jtab_of p) ++ bs) (dictionary_entries (at + 2) ps)
@@ -52,7 +52,7 @@ map-reverse (p ∷ ps) =
 pub dictionary_reversed : (at : ℕ) (ps : List Procedure) → dictionary_bytes at (reverse ps) ≡ entry_bytes at (reverse (map jtab_of ps))
 dictionary_reversed at ps = dictionary_entries at (reverse ps) ∙ ap (entry_bytes at) (map-reverse ps)
 
--- the table of a procedure ends before the procedures do
+-- If the procedures follow one another from offset `at`, then they end at `at` or later.
 pub ends_later : (at : ℕ) (ps : List Procedure) → FollowFrom at ps → AllByRecursion IsProcedure ps → at ≤ procedures_end at ps
 ends_later at [] h k = omega arith
 ends_later at (p ∷ ps) h k = omega (arith, h.0, length-code p.start p.items, ends_later (jtab_of p + 2) ps h.1 k.1)
@@ -62,7 +62,8 @@ pub tables_before : (at : ℕ) (ps : List Procedure) → FollowFrom at ps → Al
 tables_before at [] h k = tt
 tables_before at (p ∷ ps) h k = (ends_later (jtab_of p + 2) ps h.1 k.1, tables_before (jtab_of p + 2) ps h.1 k.1)
 
--- the bytes of a procedure are bytes
+-- If `p` is a procedure, `number` is below 256 and the offset `jtab_of p` is at most 65,536, then each byte of `p` is
+-- below 256.
 pub are_procedure_bytes : (number : ℕ) (p : Procedure) → IsProcedure p → number < 256 → jtab_of p ≤ 65536 → AreBytes (procedure_bytes number p)
 are_procedure_bytes number p h n short =
     let entries : List ℕ = entry_bytes (code_end p) (reverse p.entries) in
@@ -83,7 +84,7 @@ are_procedures_bytes number end (p ∷ ps) h n e b =
     join_bytes (procedure_bytes number p) (procedures_bytes (number + 1) ps) (are_procedure_bytes number p h.0 (omega (arith, n)) (omega (arith, b.0, e)))
     (are_procedures_bytes (number + 1) end ps h.1 (omega (arith, n)) e b.1)
 
--- the size of a segment whose procedures follow one another
+-- If the procedures of `s` follow one another, then this is the size of segment `s`.
 pub length-followed : (s : Segment) → FollowFrom 0 s.procedures
     → length (segment_bytes s) ≡ procedures_end 0 s.procedures + 2 * length s.procedures + 2
 length-followed s h =
@@ -101,11 +102,11 @@ length-followed s h =
       length-procedures 0 1 s.procedures h,
     )
 
--- the offset of the dictionary, and the size of a segment
+-- The size of segment `s` is the offset of its dictionary, plus a word for each procedure and one more word.
 pub length-segment : (s : Segment) → IsSegment s → length (segment_bytes s) ≡ procedures_end 0 s.procedures + 2 * length s.procedures + 2
 length-segment s h = length-followed s h.follow
 
--- The bytes of a short segment are bytes.
+-- If the segment `s` has at most 65,534 bytes, then each of its bytes is below 256.
 pub are_segment_bytes : (s : Segment) → IsSegment s → length (segment_bytes s) ≤ 65534 → AreBytes (segment_bytes s)
 are_segment_bytes s h short =
     let end = procedures_end 0 s.procedures in

@@ -1,4 +1,4 @@
--- Bytes that are appended one after the other: those so far, followed by the rest, are the whole.
+-- Lemmas about bytes that are appended one after the other: the bytes up to here, followed by the rest, are all bytes.
 use Rattle.std.proofs.Common.{◌≡◌, ◌≤◌, ℕ, ◌+◌, ◌-◌, ◌*◌, List, [], ◌∷◌, ◌++◌, length, map, reverse, sym, ap, subst, ◌∙◌, arith, append_assoc, length-append}
 use Rattle.std.specs.List.{AllByRecursion}
 use Rattle.std.proofs.lemmas.List.{length-reverse}
@@ -10,7 +10,7 @@ use Rattle.pm_code.proofs.Laid.{dictionary_reversed, ends_later, length-jtabs, l
 use Rattle.pm_code.proofs.Sizes.{length-code, length-item}
 use Rattle.pm_code.proofs.Stored.{length-entry_bytes}
 
--- one more item
+-- If the bytes of `item` were appended to `before`, then the length increased by the size of `item`.
 pub item_long : (before after : List ℕ) (item : Item ℕ) → after ≡ before ++ item_bytes (length before) item
     → length after ≡ length before + size (length before) item
 item_long before after item e =
@@ -28,7 +28,8 @@ pub item_good : (before after : List ℕ) (item : Item ℕ) (rest : List (Item �
     → AreItems (length before) (item ∷ rest) → AreItems (length after) rest
 item_good before after item rest e h = subst (λ n. AreItems n rest) (sym (item_long before after item e)) h.1
 
--- the attributes, at the offset of the table
+-- If `jtab_of p` is 8 more than the length of `before`, then the values that `push_attributes` appends after `before`
+-- are the attribute bytes of `p`.
 pub attributes_pushed : (before : List ℕ) (number : ℕ) (p : Procedure) → jtab_of p ≡ length before + 8
     → spelled_word p.locals ++ (spelled_word p.parameters ++ (back_to (length before + 4) p.exit
     ++ (back_to (length before + 6) p.start ++ number ∷ p.level ∷ []))) ≡ attribute_bytes number p
@@ -40,7 +41,7 @@ attributes_pushed before number p e =
     ∙ ap (λ n. spelled_word p.locals ++ (spelled_word p.parameters ++ (back_to (jtab_of p - 4) p.exit
     ++ (back_to n p.start ++ number ∷ p.level ∷ [])))) upper
 
--- The code of a procedure is appended at its offset.
+-- States that `code` is `before` followed by the code of procedure `p`, which begins at the end of `before`.
 pub record Coded (before code : List ℕ) (p : Procedure) : Type 0 where
   pub start : p.start ≡ length before
   pub bytes : code ≡ before ++ code_bytes (length before) p.items
@@ -51,7 +52,7 @@ code_is before code p h = h.bytes ∙ ap (λ n. before ++ code_bytes n p.items) 
 pub code_long : (before code : List ℕ) (p : Procedure) → Coded before code p → length code ≡ code_end p
 code_long before code p h = omega (arith, ap length (code_is before code p h), length-append before (code_of p), h.start, length-code p.start p.items)
 
--- with its jump table
+-- States that `tables` is `before` followed by the code and the jump table of procedure `p`.
 pub record Tabled (before code tables : List ℕ) (p : Procedure) : Type 0 where
   pub coded : Coded before code p
   pub bytes : tables ≡ code ++ entry_bytes (length code) (reverse p.entries)
@@ -68,7 +69,8 @@ tables_long before code tables p h =
       long,
     )
 
--- the whole procedure
+-- If the code, the jump table and then the attributes of `p` were appended to `before`, then all bytes of `p` were
+-- appended.
 pub procedure_pushed : (before code tables after : List ℕ) (number : ℕ) (p : Procedure) → Tabled before code tables p
     → after ≡ tables ++ attribute_bytes number p → after ≡ before ++ procedure_bytes number p
 procedure_pushed before code tables after number p h e =
@@ -80,7 +82,7 @@ procedure_pushed before code tables after number p h e =
     ∙ append_assoc (before ++ code_of p) entries last
     ∙ append_assoc before (code_of p) (entries ++ last)
 
--- one more procedure
+-- If procedure `p` was appended at its offset, then the bytes end where `p` ends.
 pub procedure_long : (before after : List ℕ) (number : ℕ) (p : Procedure) → p.start ≡ length before → after ≡ before ++ procedure_bytes number p
     → length after ≡ jtab_of p + 2
 procedure_long before after number p s e =
@@ -102,11 +104,11 @@ pub procedure_short : (at : ℕ) (p : Procedure) (ps : List Procedure) → Follo
     → procedures_end at (p ∷ ps) ≤ 65534 → jtab_of p ≤ 65534
 procedure_short at p ps f h short = omega (arith, short, ends_later (jtab_of p + 2) ps f.1 h.1)
 
--- A segment: its procedures, then its dictionary.
+-- If the segment `s` has at most 65,534 bytes, then its procedures end at offset 65,534 or before.
 pub segment_ends : (s : Segment) → IsSegment s → length (segment_bytes s) ≤ 65534 → procedures_end 0 s.procedures ≤ 65534
 segment_ends s h short = omega (arith, short, length-segment s h)
 
--- the bytes before the dictionary
+-- States that `bytes` are the procedures of `s`, and that `tables` are the offsets of their attribute tables.
 pub record Headed (s : Segment) (bytes tables : List ℕ) : Type 0 where
   pub first : bytes ≡ procedures_bytes 1 s.procedures
   pub places : tables ≡ map jtab_of s.procedures
@@ -122,7 +124,7 @@ pub headed_room : (s : Segment) (bytes tables : List ℕ) → IsSegment s → le
 headed_room s bytes tables h short f =
     omega (arith, headed_end s bytes tables h f, headed_count s bytes tables f, short, length-segment s h)
 
--- the appended dictionary is that of the segment
+-- If the dictionary is appended with the offsets `tables`, then it is the dictionary of segment `s`.
 pub dictionary_pushed : (s : Segment) (bytes tables : List ℕ) → IsSegment s → Headed s bytes tables
     → entry_bytes (length bytes) (reverse tables) ++ s.number ∷ length tables ∷ []
     ≡ dictionary_bytes (procedures_end 0 s.procedures) (reverse s.procedures) ++ s.number ∷ length s.procedures ∷ []

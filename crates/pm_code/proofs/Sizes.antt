@@ -1,4 +1,4 @@
--- The sizes of items in bytes.
+-- Lemmas about the sizes of items in bytes.
 use Rattle.std.proofs.Common.{◌≡◌, ◌<◌, ℕ, ◌+◌, ◌*◌, List, [], ◌∷◌, ◌++◌, length, refl, sym, ap, ◌∙◌, arith, length-append, append_assoc}
 use Rattle.pm_opcode.specs.Spelling.{spelled_word, pad_byte, flip, is_odd}
 use Rattle.pm_code.specs.Item.{Item, item_bytes, size, table_words, table_place, jump_byte, jump_opcode}
@@ -46,7 +46,7 @@ code-append at (x ∷ xs) ys =
     ap (λ cs. item_bytes at x ++ cs) (code-append (at + size at x) xs ys)
     ∙ sym (append_assoc (item_bytes at x) (code_bytes (at + size at x) xs) (code_bytes (end_of (at + size at x) xs) ys))
 
--- the size does not depend on the type of the positions
+-- The size of an item does not depend on its positions or on their type.
 pub size-seen : {A B : Type 0} (f : A → B) (at : ℕ) (item : code.Item A) → size at (item_seen f item) ≡ size at (item_seen (λ p. p) item)
 size-seen f at (items.Plain instr named) = refl
 size-seen f at (items.Jump op target) = refl
@@ -60,7 +60,7 @@ end-seen f at [] = refl
 end-seen f at (item ∷ list) =
     ap (λ n. end_of (at + n) (map (item_seen f) list)) (size-seen f at item) ∙ end-seen f (at + size at (item_seen (λ p. p) item)) list
 
--- nor does the number of entries that an item needs
+-- The number of jump table entries that an item needs does not depend on its positions or on their type.
 entries_for-seen : {A B : Type 0} (f : A → B) (target : CodeTarget A) → entries_for (target_seen f target) ≡ entries_for (target_seen (λ p. p) target)
 entries_for-seen f (targets.To place) = refl
 entries_for-seen f (targets.Through k) = refl

@@ -1,4 +1,4 @@
--- The segments of a program by their slots.
+-- Lemmas about the segments of a program by their slots.
 use Rattle.std.proofs.Common.{◌≡◌, ◌≤◌, ℕ, ◌+◌, true, List, [], ◌∷◌, ◌++◌, length, map, refl, sym, ap}
 use Rattle.std.proofs.Common.{subst, ◌∙◌, arith, append_assoc, length-append, append-nil, Option, Some, inl, inr}
 use Rattle.std.specs.Prelude.{zero, suc, ◌==◌, nat_le, sum}
@@ -11,7 +11,7 @@ use Rattle.pm_code.specs.Program.{segment_numbered}
 use Rattle.pm_code.specs.Program as program
 use Rattle.pm_code.specs.Image.{bytes_of_segment, joined_bytes, slots_of}
 
--- a property of all segments is a property of the segment with a number
+-- If all segments `ts` have the property `P`, then the segment with the number `n` has it.
 pub numbered_all : (P : program.Segment → Type 0) (n : ℕ) (ts : List program.Segment) (t : program.Segment) → segment_numbered n ts ≡ Some t
     → AllByRecursion P ts → P t
 numbered_all P n [] t e h = absurd (cc)
@@ -20,7 +20,7 @@ numbered_all P n (u ∷ us) t e h = elim (cases_Bool (u.number == n)) [
   | inr s ↦ (let f = rw s at e in numbered_all P n us t f h.1)
 ]
 
--- the slots so far, and one more
+-- The first `n + 1` slots from slot `k` are the first `n` slots and slot `k + n`.
 pub slots_more : (k n : ℕ) (ts : List program.Segment) → slots_of k (n + 1) ts ≡ slots_of k n ts ++ segment_numbered (k + n) ts ∷ []
 slots_more k n ts = let one : n + 1 ≡ suc n = omega arith in ap (λ m. slots_of k m ts) one ∙ go k n
   where
@@ -49,7 +49,7 @@ mapped_more f n ts =
     ap (map f) (slots_more 0 n ts ∙ ap (λ m. slots_of 0 n ts ++ segment_numbered m ts ∷ []) same)
     ∙ map-append f (slots_of 0 n ts) (segment_numbered n ts ∷ [])
 
--- the lengths are those of the joined bytes
+-- The sum of the lengths of the slots is the length of their joined bytes.
 pub lengths_joined : (os : List (Option program.Segment)) → sum (map (λ o. length (bytes_of_segment o)) os) ≡ length (joined_bytes os)
 lengths_joined [] = refl
 lengths_joined (o ∷ os) =

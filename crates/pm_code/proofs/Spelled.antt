@@ -8,7 +8,7 @@ use Rattle.pm_opcode.specs.Table.{form_of}
 use Rattle.pm_opcode.specs.Spelling.{has_spelling, names_bytes}
 use Rattle.pm_code.specs.Item.{IsPlain}
 
--- An instruction that does not jump is in range, and has its bytes.
+-- If `i` is an instruction that does not jump, and the bytes `named` belong to it, then it has an encoding.
 pub plain_spelled : (i : Instr) (named : List ℕ) → IsPlain i named → has_spelling i (length named) ≡ true
 plain_spelled i named h =
     let there : nat_le (i.start + i.count) (length named) ≡ true = grind (arith, nat_tests, h.count, h.nowhere.0) in

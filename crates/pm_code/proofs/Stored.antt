@@ -12,7 +12,7 @@ entries-append at [] ys = ap (λ n. entry_bytes n ys) (omega arith)
 entries-append at (x ∷ xs) ys =
     ap (λ bs. back_to at x ++ bs) (entries-append (at + 2) xs ys ∙ ap (λ n. entry_bytes (at + 2) xs ++ entry_bytes n ys) (omega arith))
 
--- the first entry is the highest word
+-- The word of the first entry is the last (highest) word of the jump table.
 pub entries-first : (at place : ℕ) (places : List ℕ) → entry_bytes at (reverse (place ∷ places))
     ≡ entry_bytes at (reverse places) ++ back_to (at + 2 * length places) place
 entries-first at place places =

@@ -1,4 +1,4 @@
--- Words that are written one after the other.
+-- Lemmas about words that are written one after the other.
 use Rattle.std.proofs.Common.{◌≡◌, ◌<◌, ◌≤◌, ℕ, zero, suc, ◌+◌, ◌-◌, ◌*◌, ◌/◌, ◌%◌, List, [], ◌∷◌, ◌++◌, length, map, drop}
 use Rattle.std.proofs.Common.{get_or, refl, sym, ap, ◌∙◌, arith, add-one, append-nil, append_assoc, drop-cons, length-drop}
 use Rattle.std.specs.Prelude.{codes}
@@ -6,12 +6,12 @@ use Rattle.std.specs.Fmt.{decimal}
 use Rattle.pm_code.specs.Text.{operands_text, more_operands}
 use Rattle.pm_words.specs.Words.{words_of}
 
--- operands after `k` others
+-- The text of the operands `ts` if `k` operands precede them.
 abbrev pub rest_text : ℕ → List (List ℕ) → List ℕ
 rest_text zero ts = operands_text ts
 rest_text (suc k) ts = more_operands ts
 
--- the text before operand `k`
+-- The text before operand `k`: a space, or a comma and a space.
 abbrev pub lead_text : ℕ → List ℕ
 lead_text zero = codes " "
 lead_text (suc k) = codes ", "
@@ -39,7 +39,7 @@ words_at bs k h =
     ap words_of (low ∙ ap (λ n. get_or bs (2 * k) 0 ∷ drop n bs) here
     ∙ ap (λ xs. get_or bs (2 * k) 0 ∷ xs) (high ∙ ap (λ n. get_or bs (2 * k + 1) 0 ∷ drop n bs) next))
 
--- one more word is written
+-- If word `k` is appended, then the written text followed by the remaining words is still the whole text.
 pub word_written : (bs done whole : List ℕ) (k : ℕ) → 2 * k + 1 < length bs → done ++ rest_text k (map decimal (words_of (drop (2 * k) bs))) ≡ whole
     → (done ++ (lead_text k ++ decimal (get_or bs (2 * k) 0 + 256 * get_or bs (2 * k + 1) 0)))
     ++ rest_text (k + 1) (map decimal (words_of (drop (2 * (k + 1)) bs))) ≡ whole
@@ -59,7 +59,7 @@ none_left [] h = refl
 none_left (b ∷ []) h = refl
 none_left (b ∷ d ∷ bs) h = absurd (omega arith)
 
--- all words are written
+-- If no whole word remains, then the written text is the whole text.
 pub all_written : (bs done whole : List ℕ) (k : ℕ) → length bs / 2 ≤ k → done ++ rest_text k (map decimal (words_of (drop (2 * k) bs))) ≡ whole → done ≡ whole
 all_written bs done whole k h e =
     let none : words_of (drop (2 * k) bs) ≡ [] = none_left (drop (2 * k) bs) (omega (arith, length-drop (2 * k) bs)) in

@@ -11,12 +11,12 @@ abbrev pub bytes_of_segment : Option Segment → List ℕ
 bytes_of_segment None = []
 bytes_of_segment (Some s) = segment_bytes s
 
--- a name padded with spaces to 8 characters
+-- The name of a segment padded with spaces to 8 characters, or 8 spaces if no segment is given.
 abbrev pub name_of_segment : Option Segment → List ℕ
 name_of_segment None = replicate 8 32
 name_of_segment (Some s) = s.name ++ replicate (8 - length s.name) 32
 
--- the `count` slots of a program from slot `n`
+-- The segments of program `ss` in the `count` slots from slot `n`; `None` for a slot without a segment.
 abbrev pub slots_of : ℕ → ℕ → List Segment → List (Option Segment)
 slots_of n zero ss = []
 slots_of n (suc count) ss = segment_numbered n ss ∷ slots_of (n + 1) count ss
@@ -25,7 +25,7 @@ abbrev pub joined_bytes : List (Option Segment) → List ℕ
 joined_bytes [] = []
 joined_bytes (s ∷ ss) = bytes_of_segment s ++ joined_bytes ss
 
--- The code file of a program: each segment in the slot with its number, in the canonical layout.
+-- The code file of program `ss` in the canonical layout. Each segment is in the slot with its number.
 unfoldable pub file_of : List Segment → List ℕ
 file_of ss =
     let slots = slots_of 0 16 ss in
@@ -44,7 +44,8 @@ listed_items number at (item ∷ items) =
     record { procedure = number; at = at; bytes = item_bytes at item; what = shown_item item }
     ∷ listed_items number (at + size at item) items
 
--- a jump table from its lowest word upward, so that its last entry comes first
+-- The lines of the jump table of procedure `number`, from the lowest word at offset `at` upward. So the line of the
+-- last entry comes first.
 abbrev pub listed_entries : ℕ → ℕ → List ℕ → List Listed
 listed_entries number at [] = []
 listed_entries number at (place ∷ places) =
@@ -55,7 +56,8 @@ abbrev pub listed_attributes : ℕ → Procedure → Listed
 listed_attributes number p =
     record { procedure = number; at = jtab_of p - 8; bytes = attribute_bytes number p; what = codes ".ATTR" }
 
--- a procedure: its items, its jump table and its attributes, followed by `rest`
+-- The lines of procedure `p`, which has the number `number`: its items, its jump table and its attributes. The lines
+-- `rest` follow.
 abbrev pub listed_procedure : ℕ → Procedure → List Listed → List Listed
 listed_procedure number p rest =
     listed_items number p.start p.items ++ (listed_entries number (code_end p) (reverse p.entries)
@@ -65,7 +67,7 @@ abbrev pub listed_procedures : ℕ → List Procedure → List Listed → List L
 listed_procedures number [] rest = rest
 listed_procedures number (p ∷ ps) rest = listed_procedure number p (listed_procedures (number + 1) ps rest)
 
--- the dictionary with the highest word
+-- The line of the dictionary of segment `s`, which includes the highest word of the segment.
 abbrev pub listed_dictionary : Segment → Listed
 listed_dictionary s =
     let at = procedures_end 0 s.procedures in
@@ -77,20 +79,20 @@ listed_dictionary s =
       what = codes ".DICT";
     }
 
--- The lines of a segment, in the order of their offsets.
+-- The lines of segment `s`, in the order of their offsets.
 abbrev pub listed_segment : Segment → List Listed
 listed_segment s = listed_procedures 1 s.procedures (listed_dictionary s ∷ [])
 
 abbrev pub upper_digit : ℕ → ℕ
 upper_digit d = if nat_lt d 10 then 48 + d else 55 + d
 
--- bytes, each as a space and two digits
+-- The text of bytes, each as a space and two hexadecimal digits.
 abbrev pub pairs_text : List ℕ → List ℕ
 pairs_text [] = []
 pairs_text (b ∷ bs) = 32 ∷ upper_digit (b / 16) ∷ upper_digit (b % 16) ∷ pairs_text bs
 
--- A line: the segment in two digits, the procedure in three, the offset in five, the bytes, two spaces, and the
--- description.
+-- The text of line `l` of segment `number`: the segment in two digits, the procedure in three, the offset in five, the
+-- bytes, two spaces, and the description.
 abbrev pub listed_line : ℕ → Listed → List ℕ
 listed_line number l =
     padded 2 number ++ (32 ∷ padded 3 l.procedure ++
@@ -100,8 +102,8 @@ abbrev pub listed_lines : ℕ → List Listed → List ℕ
 listed_lines number [] = []
 listed_lines number (l ∷ ls) = listed_line number l ++ listed_lines number ls
 
--- The listing of a program. Each segment, in ascending order, has a line for each item and each jump table entry, for
--- the attributes of each procedure, and for the dictionary.
+-- The listing of a program, one segment after the other. Each segment has a line for each item and each jump table
+-- entry, for the attributes of each procedure, and for the dictionary.
 unfoldable pub listing : List Segment → List ℕ
 listing [] = []
 listing (s ∷ ss) = listed_lines s.number (listed_segment s) ++ listing ss
@@ -110,15 +112,15 @@ abbrev pub listed_bytes : List Listed → List ℕ
 listed_bytes [] = []
 listed_bytes (l ∷ ls) = l.bytes ++ listed_bytes ls
 
--- The joined bytes of the lines of a segment are the bytes of the segment.
+-- States that the joined bytes of the lines of a segment are the bytes of the segment.
 abbrev pub ListingIsSegment : Type 0
 ListingIsSegment = (s : Segment) → listed_bytes (listed_segment s) ≡ segment_bytes s
 
--- Each line has the offset of its bytes, if the first bytes are at offset `at`.
+-- Is true if each line has the offset of its bytes. The bytes of the first line are at offset `at`.
 abbrev pub StandFrom : ℕ → List Listed → Type 0
 StandFrom at [] = Unit {0}
 StandFrom at (l ∷ ls) = (l.at ≡ at) × StandFrom (at + length l.bytes) ls
 
--- Each line of a segment has the offset of its bytes in the segment.
+-- States that each line of a segment has the offset of its bytes in the segment.
 abbrev pub ListingIsPlaced : Type 0
 ListingIsPlaced = (s : Segment) → FollowFrom 0 s.procedures → StandFrom 0 (listed_segment s)

@@ -25,17 +25,18 @@ pub record Segment : Type 0 where
   pub name : List ℕ
   pub procedures : List Procedure
 
--- the bytes of consecutive items
+-- The bytes of `items` if the first one begins at offset `at`.
 abbrev pub code_bytes : ℕ → List (Item ℕ) → List ℕ
 code_bytes at [] = []
 code_bytes at (item ∷ items) = item_bytes at item ++ code_bytes (at + size at item) items
 
--- the offset where items end that begin at offset `at`
+-- The offset at which `items` end if the first one begins at offset `at`.
 abbrev pub end_of : {P : Type 0} → ℕ → List (Item P) → ℕ
 end_of at [] = at
 end_of at (item ∷ items) = end_of (at + size at item) items
 
--- the offset where each item begins, and the offset where the last one ends
+-- The offset at which each of `items` begins, and the offset at which the last one ends, if the first one begins at
+-- `at`.
 abbrev pub boundaries : ℕ → List (Item ℕ) → List ℕ
 boundaries at [] = at ∷ []
 boundaries at (item ∷ items) = at ∷ boundaries (at + size at item) items
@@ -44,7 +45,7 @@ abbrev pub AreItems : ℕ → List (Item ℕ) → Type 0
 AreItems at [] = Unit {0}
 AreItems at (item ∷ items) = IsItem at item × AreItems (at + size at item) items
 
--- the number of jump table entries that a jump needs
+-- The number of jump table entries that a jump to this target needs.
 abbrev pub entries_for : {P : Type 0} → Target P → ℕ
 entries_for (To place) = 0
 entries_for (Through k) = k + 1
@@ -54,7 +55,7 @@ entries_used (Jump op target) = entries_for target
 entries_used (Case low high otherwise places) = entries_for otherwise
 entries_used _ = 0
 
--- the number that all items need: 1 + the highest entry that a jump uses, or 0 if no jump uses one
+-- The number of jump table entries that `items` need: 1 + the highest entry that a jump uses, or 0 if no jump uses one.
 abbrev pub entries_needed : {P : Type 0} → List (Item P) → ℕ
 entries_needed [] = 0
 entries_needed (item ∷ items) = max (entries_used item) (entries_needed items)
@@ -65,7 +66,7 @@ is_among places place = list_any (λ p. p == place) places
 abbrev pub IsIn : List ℕ → ℕ → Type 0
 IsIn places place = is_among places place ≡ true
 
--- the targets of an item
+-- The offset to which a target leads, as a list. The list is empty if the target is an entry of the jump table.
 abbrev pub target_places : Target ℕ → List ℕ
 target_places (To place) = place ∷ []
 target_places (Through k) = []
@@ -75,7 +76,7 @@ item_places (Jump op target) = target_places target
 item_places (Case low high otherwise places) = target_places otherwise ++ places
 item_places _ = []
 
--- Each target of the item is one of `places`.
+-- Is true if each offset to which `item` jumps is one of `places`. Jumps through the jump table are not counted.
 abbrev pub NamesWithin : List ℕ → Item ℕ → Type 0
 NamesWithin places item = AllByRecursion (IsIn places) (item_places item)
 
@@ -85,12 +86,13 @@ code_of p = code_bytes p.start p.items
 abbrev pub places_of : Procedure → List ℕ
 places_of p = boundaries p.start p.items
 
--- the offset where the code of a procedure ends
+-- The offset at which the code of procedure `p` ends.
 abbrev pub code_end : Procedure → ℕ
 code_end p = end_of p.start p.items
 
--- A procedure of a program. Its jumps, its exit code and its entries lead to boundaries of its items. It has entries up
--- to the highest one that a jump uses, and no more. Its code begins and ends at an even offset.
+-- States that `p` is a procedure of a program. Its jumps, its exit code and the entries of its jump table lead to
+-- boundaries of its items. The jump table ends with the highest entry that a jump uses. The code begins and ends at an
+-- even offset.
 pub record IsProcedure (p : Procedure) : Type 0 where
   pub level : p.level < 256
   pub parameters : (p.parameters < 65536) × (p.parameters % 2 ≡ 0)
@@ -103,27 +105,30 @@ pub record IsProcedure (p : Procedure) : Type 0 where
   pub begins : p.start % 2 ≡ 0
   pub ends : code_end p % 2 ≡ 0
 
--- a word at offset `at` with the distance from itself down to offset `place`
+-- The two bytes of a word at offset `at`. The word is the distance from `at` down to offset `place`.
 abbrev pub back_to : ℕ → ℕ → List ℕ
 back_to at place = spelled_word (at - place)
 
--- a jump table from its lowest word upward; the lowest word is the last entry
+-- The bytes of a jump table whose lowest word is at offset `at`. The lowest word is the last entry, so the offsets to
+-- which the entries lead are given from the last entry to the first.
 abbrev pub entry_bytes : ℕ → List ℕ → List ℕ
 entry_bytes at [] = []
 entry_bytes at (place ∷ places) = back_to at place ++ entry_bytes (at + 2) places
 
--- the offset of the highest word of the table of a procedure
+-- The offset of the highest word of the attribute table of procedure `p`.
 abbrev pub jtab_of : Procedure → ℕ
 jtab_of p = code_end p + 2 * length p.entries + 8
 
--- the ten bytes of the table of a procedure: sizes of locals and parameters, exit code, code, number and level
+-- The ten bytes of the attribute table of procedure `p`, which has the number `number`: the sizes of locals and
+-- parameters, exit code, code, number and level.
 abbrev pub attribute_bytes : ℕ → Procedure → List ℕ
 attribute_bytes number p =
     let jtab = jtab_of p in
     spelled_word p.locals ++ (spelled_word p.parameters
     ++ (back_to (jtab - 4) p.exit ++ (back_to (jtab - 2) p.start ++ number ∷ p.level ∷ [])))
 
--- a procedure: its code, its jump table with entry 0 as the highest, and its attributes
+-- The bytes of procedure `p`, which has the number `number`: its code, its jump table (entry 0 is the highest word),
+-- and its attributes.
 abbrev pub procedure_bytes : ℕ → Procedure → List ℕ
 procedure_bytes number p = code_of p ++ (entry_bytes (code_end p) (reverse p.entries) ++ attribute_bytes number p)
 
@@ -131,36 +136,38 @@ abbrev pub procedures_bytes : ℕ → List Procedure → List ℕ
 procedures_bytes number [] = []
 procedures_bytes number (p ∷ ps) = procedure_bytes number p ++ procedures_bytes (number + 1) ps
 
--- the offset where procedures end if the first one begins at offset `at`
+-- The offset at which the procedures end if the first one begins at offset `at`.
 abbrev pub procedures_end : ℕ → List Procedure → ℕ
 procedures_end at [] = at
 procedures_end at (p ∷ ps) = procedures_end (jtab_of p + 2) ps
 
--- the dictionary, from the last procedure to the first
+-- The bytes of a dictionary that begins at offset `at`. It has a word for each procedure, in the given order. A segment
+-- passes its procedures from the last to the first.
 abbrev pub dictionary_bytes : ℕ → List Procedure → List ℕ
 dictionary_bytes at [] = []
 dictionary_bytes at (p ∷ ps) = back_to at (jtab_of p) ++ dictionary_bytes (at + 2) ps
 
--- a segment: its procedures, the dictionary, and the highest word with its number and the number of its procedures
+-- The bytes of segment `s`: its procedures, its dictionary, and its highest word. The highest word has the number of
+-- the segment and the number of its procedures.
 abbrev pub segment_bytes : Segment → List ℕ
 segment_bytes s =
     procedures_bytes 1 s.procedures ++ (dictionary_bytes (procedures_end 0 s.procedures) (reverse s.procedures)
     ++ s.number ∷ length s.procedures ∷ [])
 
--- each procedure begins where the one before ends
+-- Is true if the first procedure begins at offset `at`, and each further one at the end of the procedure before it.
 abbrev pub FollowFrom : ℕ → List Procedure → Type 0
 FollowFrom at [] = Unit {0}
 FollowFrom at (p ∷ ps) = (p.start ≡ at) × FollowFrom (jtab_of p + 2) ps
 
--- 33 to 126, except the semicolon, the comma and the quote
+-- Is true if `c` may be in the name of a segment: 33 to 126, except the semicolon, the comma and the quote.
 abbrev pub is_name_character : ℕ → Bool
 is_name_character c = nat_le 33 c && nat_le c 126 && not ((c == 59) || (c == 44) || (c == 34))
 
--- one to eight characters
+-- Is true if `name` has one to eight characters that are allowed in the name of a segment.
 abbrev pub is_segment_name : List ℕ → Bool
 is_segment_name name = nat_le 1 (length name) && nat_le (length name) 8 && list_all is_name_character name
 
--- A segment of a program.
+-- States that `s` is a segment of a program.
 pub record IsSegment (s : Segment) : Type 0 where
   pub number : s.number < 16
   pub name : is_segment_name s.name ≡ true
@@ -168,25 +175,25 @@ pub record IsSegment (s : Segment) : Type 0 where
   pub few : length s.procedures < 256
   pub follow : FollowFrom 0 s.procedures
 
--- the segments are in ascending order of their numbers, and each number is at least `least`
+-- Is true if the segments are in ascending order of their numbers, and each number is at least `least`.
 abbrev pub AscendFrom : ℕ → List Segment → Type 0
 AscendFrom least [] = Unit {0}
 AscendFrom least (s ∷ ss) = (least ≤ s.number) × AscendFrom (s.number + 1) ss
 
--- A program.
+-- States that `ss` are the segments of a program, in ascending order of their numbers.
 pub record IsProgram (ss : List Segment) : Type 0 where
   pub segments : AllByRecursion IsSegment ss
   pub ascend : AscendFrom 0 ss
 
--- no segment has more than 65,534 bytes, the most that a slot of a code file can contain
+-- Is true if each segment has at most 65,534 bytes, the most that a slot of a code file can contain.
 abbrev pub FitSlots : List Segment → Type 0
 FitSlots ss = AllByRecursion (λ s. length (segment_bytes s) ≤ 65534) ss
 
--- each item is an instruction
+-- Is true if each of `items` is an instruction.
 abbrev pub AreInstructions : List (Item ℕ) → Type 0
 AreInstructions items = AllByRecursion (λ item. is_instruction item ≡ true) items
 
--- the segment with this number
+-- The segment with the number `n`, or `None` if no segment has this number.
 abbrev pub segment_numbered : ℕ → List Segment → Option Segment
 segment_numbered n [] = None
 segment_numbered n (s ∷ ss) = if s.number == n then Some s else segment_numbered n ss

@@ -1,4 +1,4 @@
--- The models of the values of the code.
+-- The models of the values of the code: how contracts describe targets, items, procedures and segments of src/.
 use Rattle.std.specs.Prelude.{ℕ, List, map}
 use Rattle.pm_code.specs.declared.item.Target.{Target}
 use Rattle.pm_code.specs.declared.item.Target.TheVariants as targets
@@ -11,7 +11,7 @@ use Rattle.pm_code.specs.Item.Item.{Plain, Jump, Case, OneByte}
 use Rattle.pm_code.specs.Item.Target.{To, Through}
 use Rattle.pm_code.specs.Program as program
 
--- A target and an item, with `f` applied to each position.
+-- The models of a target and of an item, with `f` applied to each position in them.
 abbrev pub target_seen : {A B : Type 0} → (A → B) → Target A → model.Target B
 target_seen f (targets.To place) = To (f place)
 target_seen f (targets.Through k) = Through k
@@ -22,7 +22,7 @@ item_seen f (items.Jump op target) = Jump op (target_seen f target)
 item_seen f (items.Case low high otherwise places) = Case low high (target_seen f otherwise) (map f places.items)
 item_seen f (items.OneByte b) = OneByte b
 
--- A target and an item of a program, whose positions are offsets.
+-- The models of a target and of an item of a program, whose positions are offsets.
 abbrev pub placed_target : Target ℕ → model.Target ℕ
 placed_target target = target_seen (λ p. p) target
 

@@ -1,20 +1,20 @@
--- A worked example of a listing: the value of the definition for a segment, worked out by hand.
+-- A worked example of a listing. The expected listing of one segment was worked out by hand.
 use Rattle.std.specs.Prelude.{◌≡◌, ℕ, false, List, [], ◌∷◌, ◌++◌, codes}
 use Rattle.pm_opcode.specs.declared.instr.Instr.{Instr}
 use Rattle.pm_code.specs.Image.{listing}
 use Rattle.pm_code.specs.Item.Item.{Plain}
 use Rattle.pm_code.specs.Program.{Segment}
 
--- lines as a text
+-- The characters of `lines`, with a line feed after each line.
 abbrev pub characters_of : List (List ℕ) → List ℕ
 characters_of [] = []
 characters_of (line ∷ lines) = line ++ 10 ∷ characters_of lines
 
--- RBP 0
+-- The instruction RBP 0.
 abbrev pub return_instruction : Instr
 return_instruction = record { op = 193; a = 0; b = 0; c = 0; long = false; start = 0; count = 0; len = 0 }
 
--- a segment with one procedure of one instruction, RBP 0, at its exit code
+-- A segment with one procedure. The code of the procedure is one instruction, RBP 0, which is also its exit code.
 abbrev pub least_segment : Segment
 least_segment = record {
   number = 1;
@@ -30,7 +30,7 @@ least_segment = record {
   } ∷ [];
 }
 
--- The listing of the segment. Each byte is worked out from the format of a segment.
+-- States the listing of `least_segment`. Each byte is worked out from the format of a segment.
 pub record WorkedListing : Type 0 where
   pub lines : listing (least_segment ∷ []) ≡ characters_of (
       codes "01 001 00000 C1 00  RBP 0"

@@ -1,5 +1,5 @@
-//! The bytes of code. Each function appends to the bytes of a segment so far. Their number is the offset of the
-//! appended bytes.
+//! The bytes of code. Each function `push_..` appends to `out`, which contains the bytes of a segment from offset 0. So
+//! the length of `out` is the offset of the bytes that are appended.
 
 ghost use Rattle.std.specs.Prelude.{◌≡◌, ◌<◌, ◌≤◌, ◌+◌, ◌*◌, ◌++◌, ◌∷◌, [], length, map, reverse, IfOk, OnOk};
 ghost use Rattle.std.specs.List.{AllByRecursion};
@@ -17,7 +17,7 @@ use crate::program::{Procedure, Segment};
 use pm_opcode::{Encode, Instr, encode};
 use std::alloc::{AllocError, Global};
 
-/// Appends a word, low byte first.
+/// Appends the word `value` to `out`, low byte first.
 fn push_word(out: &mut Vec<u8>, value: u16) -> Result<(), AllocError>
     ensures bytes { OnOk result (out.new.items ≡ out.old.items ++ spelled_word value) }
 {
@@ -26,7 +26,7 @@ fn push_word(out: &mut Vec<u8>, value: u16) -> Result<(), AllocError>
     Ok(())
 }
 
-/// Appends the padding of a case jump whose opcode is at offset `at`.
+/// Appends the padding of a case jump whose opcode is at offset `at`: a byte 0 if `at` is even, else nothing.
 fn push_padding(out: &mut Vec<u8>, at: usize) -> Result<(), AllocError>
     ensures bytes { OnOk result (out.new.items ≡ out.old.items ++ pad_byte (flip (is_odd at)) 0) }
 {
@@ -36,7 +36,8 @@ fn push_padding(out: &mut Vec<u8>, at: usize) -> Result<(), AllocError>
     Ok(())
 }
 
-/// Returns the operand byte of a short jump. Its distance is counted from offset `next`.
+/// Returns the operand byte of a short jump to `target`. The byte counts the distance from offset `next`, the offset
+/// after the jump.
 fn jump_byte(next: usize, target: Target<usize>) -> u8
     requires near { IsNear next (placed_target target) }
     ensures byte { result ≡ jump_byte next (placed_target target) }
@@ -47,8 +48,8 @@ fn jump_byte(next: usize, target: Target<usize>) -> u8
     }
 }
 
-/// Appends the table of a case jump. Each word is the distance from itself down to one of the offsets `places`, modulo
-/// 65,536.
+/// Appends the table of a case jump with the targets `places`. Each word of the table is the distance from the word
+/// itself down to one of these offsets, modulo 65,536.
 fn push_table(out: &mut Vec<u8>, places: &[usize]) -> Result<(), AllocError>
     requires within { AllByRecursion (λ place. place < 65536) places.now }
     ensures bytes { OnOk result (out.new.items ≡ out.old.items ++ table_words (length out.old.items) places.now) }
@@ -60,7 +61,8 @@ fn push_table(out: &mut Vec<u8>, places: &[usize]) -> Result<(), AllocError>
     Ok(())
 }
 
-/// Appends a case jump with its bounds, its jump out of bounds and its table.
+/// Appends a case jump: its opcode, its padding, its two `bounds`, a short jump and a table. The short jump leads to
+/// `otherwise`, the target for values out of bounds. The table has the targets `places`.
 fn push_case(
     out: &mut Vec<u8>,
     bounds: (u16, u16),
@@ -82,7 +84,8 @@ fn push_case(
     push_table(out, places)
 }
 
-/// Appends an instruction that does not jump. It has an encoding, so that only refused memory can be an error.
+/// Appends the instruction `instr`, which does not jump, with the bytes `named` that belong to it. The instruction has
+/// an encoding, because `IsPlain` holds. So the only possible error is that memory was refused.
 #[tactic(auto, using(crate::proofs::Spelled::plain_spelled))]
 fn push_plain(out: &mut Vec<u8>, instr: &Instr, named: &[u8]) -> Result<(), AllocError>
     requires plain { IsPlain instr.now named.now }
@@ -97,7 +100,7 @@ fn push_plain(out: &mut Vec<u8>, instr: &Instr, named: &[u8]) -> Result<(), Allo
     }
 }
 
-/// Appends an item.
+/// Appends the bytes of `item`, which begins at the end of `out`.
 pub(crate) fn push_item(out: &mut Vec<u8>, item: &Item<usize>) -> Result<(), AllocError>
     requires item { IsItem (length out.old.items) (placed_item item.now) }
     ensures bytes { OnOk result (out.new.items ≡ out.old.items
@@ -122,7 +125,7 @@ pub(crate) fn push_item(out: &mut Vec<u8>, item: &Item<usize>) -> Result<(), All
     }
 }
 
-/// Appends code.
+/// Appends the bytes of `items`, one item after the other.
 fn push_code(out: &mut Vec<u8>, items: &[Item<usize>]) -> Result<(), AllocError>
     requires items { AreItems (length out.old.items) (map placed_item items.now) }
     ensures bytes { OnOk result (out.new.items ≡ out.old.items
@@ -134,7 +137,7 @@ fn push_code(out: &mut Vec<u8>, items: &[Item<usize>]) -> Result<(), AllocError>
     Ok(())
 }
 
-/// Appends a word with the distance from itself down to offset `place`.
+/// Appends a word with the distance from the offset of this word down to offset `place`.
 pub(crate) fn push_distance(out: &mut Vec<u8>, place: usize) -> Result<(), AllocError>
     requires short { length out.old.items < 65536 }
     ensures bytes { OnOk result (out.new.items ≡ out.old.items ++ back_to (length out.old.items) place) }
@@ -143,7 +146,8 @@ pub(crate) fn push_distance(out: &mut Vec<u8>, place: usize) -> Result<(), Alloc
     push_word(out, distance as u16)
 }
 
-/// Appends words with the distances down to the offsets `places`. The last offset comes first.
+/// Appends a word for each offset of `places`, the last one first. Each word is the distance from its own offset down
+/// to the offset in `places`.
 pub(crate) fn push_distances(out: &mut Vec<u8>, places: &[usize]) -> Result<(), AllocError>
     requires short { length out.old.items + 2 * length places.now ≤ 65536 }
     ensures bytes { OnOk result (out.new.items ≡ out.old.items
@@ -156,7 +160,7 @@ pub(crate) fn push_distances(out: &mut Vec<u8>, places: &[usize]) -> Result<(), 
     Ok(())
 }
 
-/// Appends the ten bytes of the attributes of a procedure.
+/// Appends the ten bytes of the attributes of `procedure`, which has the number `number` in its segment.
 #[tactic(auto, using(crate::proofs::Pushed::attributes_pushed))]
 pub(crate) fn push_attributes(
     out: &mut Vec<u8>,
@@ -177,7 +181,7 @@ pub(crate) fn push_attributes(
     Ok(())
 }
 
-/// Appends a procedure: its code, its jump table and its attributes.
+/// Appends `procedure`, which has the number `number` in its segment: its code, its jump table and its attributes.
 fn push_procedure(out: &mut Vec<u8>, number: u8, procedure: &Procedure) -> Result<(), AllocError>
     requires procedure { IsProcedure (procedure_seen procedure.now) }
     requires start { procedure.now.start ≡ length out.old.items }
@@ -190,7 +194,7 @@ fn push_procedure(out: &mut Vec<u8>, number: u8, procedure: &Procedure) -> Resul
     push_attributes(out, number, procedure)
 }
 
-/// Appends procedures, numbered from 1. Returns the offsets of their tables.
+/// Appends `procedures`, numbered from 1. Returns the offset of the highest word of each procedure's attribute table.
 fn push_procedures(
     alloc: Global,
     out: &mut Vec<u8>,
@@ -212,8 +216,8 @@ fn push_procedures(
     Ok(tables)
 }
 
-/// Appends the dictionary of a segment whose tables are at these offsets, and its last word. The last word has the
-/// number of the segment and the number of its procedures.
+/// Appends the dictionary of segment `number`, and the last word of the segment. The attribute tables of the procedures
+/// are at the offsets `tables`. The last word has the number of the segment and the number of its procedures.
 pub(crate) fn push_dictionary(
     out: &mut Vec<u8>,
     number: u8,
@@ -230,7 +234,7 @@ pub(crate) fn push_dictionary(
     Ok(())
 }
 
-/// Returns the bytes of a segment: its procedures, its dictionary, and its last word. The last word has the number of
+/// Returns the bytes of `segment`: its procedures, its dictionary, and its last word. The last word has the number of
 /// the segment and the number of its procedures.
 pub(crate) fn segment_bytes(alloc: Global, segment: &Segment) -> Result<Vec<u8>, AllocError>
     requires segment { IsSegment (segment_seen segment.now) }

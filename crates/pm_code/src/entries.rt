@@ -31,8 +31,8 @@ impl<P> Item<P> {
     }
 }
 
-/// Returns the number of jump table entries that items need. It is one more than the highest entry that a jump uses, or
-/// 0 if no jump uses one.
+/// Returns the number of jump table entries that `items` need. The number is 1 more than the highest entry through
+/// which one of `items` jumps, or 0 if no item jumps through an entry.
 pub fn entries_needed<P>(items: &[Item<P>]) -> usize
     ensures entries { result ≡ entries_needed (map (item_seen (λ p. p)) items.now) }
 {

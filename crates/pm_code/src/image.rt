@@ -10,7 +10,7 @@ use crate::program::Segment;
 use pm_codefile::write;
 use std::alloc::{AllocError, Global};
 
-/// Returns the segment with this number.
+/// Returns the segment of `program` whose number is `number`, or `None` if no segment has this number.
 fn segment_numbered(program: &[Segment], number: u8) -> Option<&Segment>
     ensures segment { option_map (λ s. segment_seen s.now) result ≡ segment_numbered number (program_seen program.now) }
 {
@@ -22,7 +22,7 @@ fn segment_numbered(program: &[Segment], number: u8) -> Option<&Segment>
     None
 }
 
-/// Returns a name padded with spaces to 8 bytes.
+/// Returns `name` padded with spaces to 8 bytes.
 fn padded_name(name: &[u8]) -> [u8; 8]
     requires short { length name.now ≤ 8 }
     ensures padded { result ≡ name.now ++ replicate (8 - length name.now) 32 }
@@ -35,13 +35,13 @@ fn padded_name(name: &[u8]) -> [u8; 8]
 /// The contents of a slot of a code file.
 #[derive(Drop)]
 struct Slot {
-    /// The name of the segment, or spaces if there is none.
+    /// The name of the segment padded with spaces, or 8 spaces if the slot has no segment.
     name: [u8; 8],
-    /// The bytes of the segment, or no bytes if there is none.
+    /// The bytes of the segment. Empty if the slot has no segment.
     bytes: Vec<u8>,
 }
 
-/// Returns the contents of the slot with this number.
+/// Returns the contents of slot `number` in the code file of `program`.
 fn slot_of(alloc: Global, program: &[Segment], number: u8) -> Result<Slot, AllocError>
     requires program { IsProgram (program_seen program.now) }
     requires fit { FitSlots (program_seen program.now) }
@@ -62,7 +62,7 @@ fn slot_of(alloc: Global, program: &[Segment], number: u8) -> Result<Slot, Alloc
     Ok(Slot { name, bytes })
 }
 
-/// Returns the code file of a program in the canonical layout. Each segment is in the slot with its number. No segment
+/// Returns the code file of `program` in the canonical layout. Each segment is in the slot with its number. No segment
 /// may have more than 65,534 bytes.
 ///
 /// # Errors

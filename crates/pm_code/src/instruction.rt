@@ -12,7 +12,8 @@ use std::fmt;
 pub struct Instruction<'a> {
     /// The instruction.
     pub instr: &'a Instr,
-    /// The characters of LSA and LPA, or the bytes of the words of LDC. Other instructions show none.
+    /// The characters of LSA and LPA, or the bytes of the words of LDC. The text of any other instruction does not
+    /// depend on these bytes.
     pub named: &'a [u8],
 }
 

@@ -1,4 +1,5 @@
-//! The sizes of code in bytes. A size is `None` only if it exceeds `usize::MAX`. Memory cannot contain such code.
+//! The sizes of code in bytes. A function returns `None` only if the size or offset exceeds `usize::MAX`. Memory cannot
+//! contain such code.
 
 ghost use Rattle.std.specs.Prelude.{◌≡◌, ◌<◌, ◌+◌, None, IfSome, length, map};
 ghost use Rattle.pm_opcode.specs.Spelling.{is_odd, is_sized, spelled_number, pad_byte, spelling};
@@ -10,28 +11,29 @@ use crate::item::Item;
 use crate::program::{Procedure, Segment};
 use pm_opcode::{Form, Instr, form_at};
 
-/// Returns the size of a number in bytes.
+/// Returns the size in bytes of the number `value`. If `long`, its encoding has two bytes even if one suffices.
 fn number_size(value: u16, long: bool) -> usize
     ensures size { result ≡ length (spelled_number value long) }
 {
     if long || value >= 128 { 2 } else { 1 }
 }
 
-/// Returns the size of the padding before an odd address.
+/// Returns the size in bytes of the padding: 1 if `odd`, else 0.
 fn padding_size(odd: bool) -> usize
     ensures size { result ≡ length (pad_byte odd 0) }
 {
     if odd { 1 } else { 0 }
 }
 
-/// Whether the operands of a comparison with this type have a size.
+/// Whether a comparison whose operands have the type `operand_type` has a size as an operand. This is true for BYTES
+/// (10) and WORDS (12).
 fn has_size(operand_type: u16) -> bool
     ensures sized { result ≡ is_sized operand_type }
 {
     operand_type == 10 || operand_type == 12
 }
 
-/// Returns the size in bytes of an instruction at offset `at`, with the bytes that belong to it.
+/// Returns the size in bytes of the instruction `instr` at offset `at`, with the bytes `named` that belong to it.
 fn spelling_size(at: usize, instr: &Instr, named: &[u8]) -> Option<usize>
     ensures size { IfSome result (λ n. n ≡ length (spelling (is_odd at) 0 instr.now named.now)) }
     ensures too_long { result ≡ None → 18446744073709551615 < length (spelling (is_odd at) 0 instr.now named.now) }
@@ -52,8 +54,9 @@ fn spelling_size(at: usize, instr: &Instr, named: &[u8]) -> Option<usize>
 }
 
 impl<P> Item<P> {
-    /// Returns the size of the item in bytes if it begins at offset `at` of its segment. The size does not depend on
-    /// the targets of its jumps. It depends on `at` only by the padding. `None` only if the size exceeds `usize::MAX`.
+    /// Returns the size of this item in bytes if the item begins at offset `at` of its segment. The size does not
+    /// depend on the targets of its jumps. The size depends on `at` only because of the padding. Returns `None` only if
+    /// the size exceeds `usize::MAX`.
     pub fn size(&self, at: usize) -> Option<usize>
         ensures size { IfSome result (λ n. n ≡ size at (item_seen (λ p. p) self.now)) }
         ensures too_long { result ≡ None → 18446744073709551615 < size at (item_seen (λ p. p) self.now) }
@@ -70,8 +73,8 @@ impl<P> Item<P> {
     }
 }
 
-/// Returns the offset where items end that begin at offset `at` of their segment. `None` only if the end exceeds
-/// `usize::MAX`.
+/// Returns the offset at which `items` end if the first one begins at offset `at` of its segment. Returns `None` only
+/// if the end exceeds `usize::MAX`.
 pub fn items_end<P>(at: usize, items: &[Item<P>]) -> Option<usize>
     ensures end { IfSome result (λ n. n ≡ end_of at (map (item_seen (λ p. p)) items.now)) }
     ensures too_long { result ≡ None → 18446744073709551615 < end_of at (map (item_seen (λ p. p)) items.now) }
@@ -83,8 +86,8 @@ pub fn items_end<P>(at: usize, items: &[Item<P>]) -> Option<usize>
     Some(end)
 }
 
-/// Returns the offset where a procedure ends: after its code, two bytes for each entry of its jump table, and ten bytes
-/// of attributes.
+/// Returns the offset at which `procedure` ends. After its code, a procedure has two bytes for each entry of its jump
+/// table, and ten bytes of attributes.
 fn procedure_end(procedure: &Procedure) -> Option<usize>
     ensures end { IfSome result (λ n. n ≡ jtab_of (procedure_seen procedure.now) + 2) }
     ensures too_long { result ≡ None → 18446744073709551615 < jtab_of (procedure_seen procedure.now) + 2 }
@@ -95,7 +98,8 @@ fn procedure_end(procedure: &Procedure) -> Option<usize>
     Some(end)
 }
 
-/// Returns the offset where the procedures of a segment end. Each procedure must begin where the one before ends.
+/// Returns the offset at which the last one of `procedures` ends. The first procedure must begin at offset 0, and each
+/// further one at the end of the procedure before it.
 fn procedures_end(procedures: &[Procedure]) -> Option<usize>
     requires follow { FollowFrom 0 (map procedure_seen procedures.now) }
     ensures end { IfSome result (λ end. end ≡ procedures_end 0 (map procedure_seen procedures.now)) }
@@ -108,8 +112,9 @@ fn procedures_end(procedures: &[Procedure]) -> Option<usize>
     Some(end)
 }
 
-/// Returns the size of a segment in bytes: its procedures, a word for each, and one more word. Each procedure must
-/// begin where the one before ends. `None` only if the size exceeds `usize::MAX`.
+/// Returns the size of `segment` in bytes: its procedures, one word for each procedure, and one more word. The first
+/// procedure must begin at offset 0, and each further one at the end of the procedure before it. Returns `None` only if
+/// the size exceeds `usize::MAX`.
 pub fn segment_length(segment: &Segment) -> Option<usize>
     requires follow { FollowFrom 0 (segment_seen segment.now).procedures }
     ensures size { IfSome result (λ n. n ≡ length (segment_bytes (segment_seen segment.now))) }

@@ -1,5 +1,5 @@
-//! The listing of a program. Each function appends the bytes of what it lists to the bytes of the segment, and its
-//! lines to the text.
+//! The listing of a program. Each function `list_..` appends two things. It appends the bytes of its argument to
+//! `bytes`, the bytes of the segment from offset 0. It appends the lines of its argument to `text`.
 
 ghost use Rattle.std.specs.Prelude.{◌≡◌, ◌<◌, ◌≤◌, ◌+◌, ◌*◌, ◌++◌, ◌∷◌, [], List, ℕ, Some, codes};
 ghost use Rattle.std.specs.Prelude.{length, map, reverse, string_bytes, IfOk, OnOk};
@@ -31,7 +31,7 @@ struct Place {
     procedure: u8,
 }
 
-/// The number of a segment, shown in two digits.
+/// The number of a segment, shown in at least two digits.
 #[derive(Clone, Copy)]
 struct SegmentNumber(u8);
 
@@ -45,7 +45,7 @@ impl fmt::Display for SegmentNumber {
     }
 }
 
-/// Returns the hexadecimal digit of a value below 16.
+/// Returns the character of the hexadecimal digit `value`, which is below 16. Letters are capitals.
 fn upper_digit(value: u8) -> u8
     requires digit { value < 16 }
     ensures digit { result ≡ upper_digit value }
@@ -54,7 +54,7 @@ fn upper_digit(value: u8) -> u8
     if value < 10 { 48 + value } else { 55 + value }
 }
 
-/// Appends a byte as a space and two digits.
+/// Appends `byte` to `text` as a space and two hexadecimal digits.
 fn push_pair(text: &mut String, byte: u8) -> Result<(), AllocError>
     ensures text { OnOk result (string_bytes text.new ≡ string_bytes text.old ++ pairs_text (byte ∷ [])) }
 {
@@ -64,7 +64,7 @@ fn push_pair(text: &mut String, byte: u8) -> Result<(), AllocError>
     Ok(())
 }
 
-/// Appends bytes, each as a space and two digits.
+/// Appends `bytes` to `text`, each as a space and two hexadecimal digits.
 fn push_pairs(text: &mut String, bytes: &[u8]) -> Result<(), AllocError>
     ensures text { OnOk result (string_bytes text.new ≡ string_bytes text.old ++ pairs_text bytes.now) }
 {
@@ -74,7 +74,7 @@ fn push_pairs(text: &mut String, bytes: &[u8]) -> Result<(), AllocError>
     Ok(())
 }
 
-/// Appends a line up to its description: the numbers of `place`, the offset, and the bytes.
+/// Appends the part of a line before its description: the numbers in `place`, then `offset`, then `bytes`.
 fn push_front(
     text: &mut String,
     place: Place,
@@ -98,7 +98,7 @@ fn push_front(
     Ok(())
 }
 
-/// Appends an item and its line.
+/// Appends the bytes of `item` to `bytes`, and its line to `text`.
 fn list_item(
     text: &mut String,
     bytes: &mut Vec<u8>,
@@ -122,7 +122,7 @@ fn list_item(
     Ok(())
 }
 
-/// Appends code and its lines.
+/// Appends the bytes of `items` to `bytes`, and one line for each item to `text`.
 fn list_code(
     text: &mut String,
     bytes: &mut Vec<u8>,
@@ -142,7 +142,7 @@ fn list_code(
     Ok(())
 }
 
-/// Appends a jump table entry that leads to offset `leads`, and its line.
+/// Appends a jump table entry that leads to offset `leads` to `bytes`, and its line to `text`.
 fn list_entry(
     text: &mut String,
     bytes: &mut Vec<u8>,
@@ -166,7 +166,7 @@ fn list_entry(
     Ok(())
 }
 
-/// Appends a jump table, the last entry first, and its lines.
+/// Appends a jump table, whose `entries` are offsets, to `bytes`, and its lines to `text`. The last entry comes first.
 fn list_entries(
     text: &mut String,
     bytes: &mut Vec<u8>,
@@ -187,7 +187,7 @@ fn list_entries(
     Ok(())
 }
 
-/// Appends the attributes of a procedure, and their line.
+/// Appends the attributes of `procedure` to `bytes`, and their line to `text`.
 fn list_attributes(
     text: &mut String,
     bytes: &mut Vec<u8>,
@@ -208,7 +208,7 @@ fn list_attributes(
     Ok(())
 }
 
-/// Appends a procedure and its lines.
+/// Appends the bytes of `procedure` to `bytes`, and its lines to `text`.
 fn list_procedure(
     text: &mut String,
     bytes: &mut Vec<u8>,
@@ -229,7 +229,8 @@ fn list_procedure(
     list_attributes(text, bytes, place, procedure)
 }
 
-/// Appends procedures, numbered from 1, and their lines. Returns the offsets of their tables.
+/// Appends the bytes of `procedures`, numbered from 1, to `bytes`, and their lines to `text`. Returns the offset of the
+/// highest word of each procedure's attribute table.
 fn list_procedures(
     alloc: Global,
     text: &mut String,
@@ -260,7 +261,7 @@ fn list_procedures(
     Ok(tables)
 }
 
-/// Appends the lines of a segment.
+/// Appends the lines of `segment` to `text`.
 fn list_segment(alloc: Global, text: &mut String, segment: &Segment) -> Result<(), AllocError>
     requires segment { IsSegment (segment_seen segment.now) }
     requires short { length (segment_bytes (segment_seen segment.now)) ≤ 65534 }
@@ -281,7 +282,7 @@ fn list_segment(alloc: Global, text: &mut String, segment: &Segment) -> Result<(
     Ok(())
 }
 
-/// Returns the listing of a program. No segment may have more than 65,534 bytes. The listing has a line for each item,
+/// Returns the listing of `program`. No segment may have more than 65,534 bytes. The listing has a line for each item,
 /// each jump table entry, the attributes of each procedure, and the dictionary of each segment.
 ///
 /// # Errors

@@ -7,7 +7,7 @@ ghost use Rattle.pm_code.specs.Shown.{padded};
 
 use std::fmt;
 
-/// The maximum of a magnitude. It is higher than any operand and than any four hexadecimal digits.
+/// The highest value that `magnitude` returns. It is higher than any operand and than any four hexadecimal digits.
 const LARGEST: u32 = 1_000_000;
 
 /// A number, shown in at least three digits.
@@ -50,7 +50,7 @@ fn digit_value(digit: u8) -> u32
     }
 }
 
-/// Returns the value of digits in the base `radix`, at most 1,000,000.
+/// Returns the value of `digits` in the base `radix`, or 1,000,000 if the value is higher.
 pub fn magnitude(radix: u32, digits: &[u8]) -> u32
     requires radix { (1 ≤ radix) × (radix ≤ 16) }
     ensures value { result ≡ min 1000000 (digits_value radix digits.now) }

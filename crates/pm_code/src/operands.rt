@@ -28,11 +28,12 @@ impl fmt::Display for Signed {
     }
 }
 
-/// A number with an encoding of one or two bytes.
+/// A number with an encoding of one or two bytes, shown in decimal. A number below 128 with two bytes is followed by
+/// `!`.
 #[derive(Clone, Copy)]
 pub(crate) struct Number {
     pub value: u16,
-    /// The encoding has two bytes.
+    /// Whether the encoding has two bytes.
     pub long: bool,
 }
 
@@ -49,7 +50,8 @@ impl fmt::Display for Number {
     }
 }
 
-/// The type of the operands of a comparison, with their size if it has one.
+/// The type of the operands of a comparison: its number `code`, and the size of the operands. The text contains the
+/// size only for the types BYTES and WORDS.
 #[derive(Clone, Copy)]
 pub(crate) struct OperandType {
     pub code: u16,
@@ -73,7 +75,7 @@ impl fmt::Display for OperandType {
     }
 }
 
-/// The operand that is part of an opcode, shown after a space.
+/// The operand that is part of an opcode, shown after a space. The text of any other opcode is empty.
 #[derive(Clone, Copy)]
 pub(crate) struct Implied(pub u8);
 
@@ -94,7 +96,7 @@ fn is_plain_byte(byte: u8) -> bool
     byte != b'"' && byte != b'\\' && byte >= 32 && byte <= 126
 }
 
-/// A byte inside quotes.
+/// A byte as shown inside quotes: unchanged, or as a backslash and two hexadecimal digits.
 #[derive(Clone, Copy)]
 struct Escaped(u8);
 
@@ -112,7 +114,7 @@ impl fmt::Display for Escaped {
     }
 }
 
-/// Bytes in quotes, as the assembler accepts them.
+/// Bytes in quotes, in the form that the assembler accepts.
 #[derive(Clone, Copy)]
 pub struct Quoted<'a>(pub &'a [u8]);
 
@@ -129,7 +131,8 @@ impl fmt::Display for Quoted<'_> {
     }
 }
 
-/// Words, shown after a space and separated by commas.
+/// Words, given by their bytes (low byte first). The first word is shown after a space, and each further word after a
+/// comma and a space.
 #[derive(Clone, Copy)]
 pub(crate) struct Words<'a>(pub &'a [u8]);
 

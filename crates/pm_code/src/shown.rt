@@ -37,7 +37,7 @@ impl fmt::Display for Target<usize> {
     }
 }
 
-/// Offsets, shown as labels. Each follows a comma and a space.
+/// Offsets, each shown as a comma, a space and a label.
 #[derive(Clone, Copy)]
 struct Places<'a>(&'a [usize]);
 

@@ -1,11 +1,11 @@
--- Chains of frames, frame by frame.
+-- Lemmas about chains of frames, frame by frame.
 use Rattle.std.proofs.Common.{◌≡◌, ◌∙◌, ◌+◌, ◌%◌, ap, sym, refl, ℕ, suc, Bool, true, false, List, [], ◌∷◌, ◌++◌, Option, Some, None, append_assoc, append-nil}
 use Rattle.std.specs.Prelude.{◌==◌, ◌||◌, if◌then◌else◌}
 use Rattle.pm_words.specs.Words.{word_at}
 use Rattle.pm_words.specs.Stack.{is_even}
 use Rattle.pm_debug.specs.Views.{before_frames, chain}
 
--- The frames before the rest of a chain.
+-- The frames `front` followed by the given frames, or `None` if no list is given.
 abbrev pub behind : List ℕ → Option (List ℕ) → Option (List ℕ)
 behind front (Some frames) = Some (front ++ frames)
 behind front None = None
@@ -44,12 +44,12 @@ module _ (m : List ℕ) (distance : ℕ) (whole : Option (List ℕ)) (front : Li
   going_on : whole ≡ behind front (chain m distance (suc more) a)
   going_on = h ∙ ap (λ k. behind front (chain m distance k a)) some
 
-  -- The last frame.
+  -- If no more frames are requested, or if `a` is the system's frame, then `a` is the last frame.
   pub chain_ends : (more == 0 || a == 65492) ≡ true → whole ≡ Some (front ++ a ∷ [])
   chain_ends e = going_on ∙ ap (behind front) (chain_last m distance more a e)
 
   module _ (on : (more == 0 || a == 65492) ≡ false) where
-    -- One frame more.
+    -- If the link of the frame at `a` is `next`, then `next` follows `a`.
     pub chain_more : (next : ℕ) → Some next ≡ (if is_even a then Some (word_at m ((a + distance) % 65536)) else None)
         → whole ≡ behind (front ++ a ∷ []) (chain m distance more next)
     chain_more next e =
@@ -57,11 +57,11 @@ module _ (m : List ℕ) (distance : ℕ) (whole : Option (List ℕ)) (front : Li
         rw even.1 (going_on ∙ ap (behind front) (chain_next m distance more a on even.0)
         ∙ behind_one front a (chain m distance more (word_at m ((a + distance) % 65536))))
 
-    -- No frame more, at an odd address.
+    -- If `a` is odd and a further frame is needed, then the result is `None`.
     pub chain_odd : None ≡ (if is_even a then Some (word_at m ((a + distance) % 65536)) else None) → whole ≡ None
     chain_odd e = going_on ∙ ap (behind front) (chain_none m distance more a on (where_none (is_even a) _ e))
 
--- Nothing of the chain is left.
+-- If no further frame is requested, then the list is complete.
 pub chain_over : (m : List ℕ) (distance : ℕ) (whole : Option (List ℕ)) (front : List ℕ) (a : ℕ) → whole ≡ behind front (chain m distance 0 a)
     → whole ≡ Some front
 unfolding chain

@@ -1,4 +1,5 @@
--- Runs with breakpoints that stop in the same states: their conditions are true nowhere in a run, or everywhere.
+-- Runs with two lists of breakpoints that stop in the same states. They differ in a condition that is false in all
+-- states of the run, or true in all of them.
 use Rattle.std.proofs.Common.{◌≡◌, ◌≢◌, ◌∙◌, ◌+◌, ◌≤◌, ap, sym, refl, arith, ℕ, zero, suc, Bool, true, false, not, ◌&&◌, ◌||◌}
 use Rattle.std.proofs.Common.{List, ◌∷◌, ◌++◌, Some, None, inl, inr}
 use Rattle.std.specs.Prelude.{◌==◌, if◌then◌else◌}
@@ -27,7 +28,8 @@ use Rattle.pm_debug.specs.Watches.{has_changed, watched_words}
 
 -- ---- tests that agree on the states of a run
 
--- After each number of steps up to this count, of which `k` were executed before `s`, both tests are equal.
+-- Is true if both tests are equal after each number of steps up to `count`. `k` steps were executed before the state
+-- `s`.
 abbrev Agree : (ℕ → State → Bool) → (ℕ → State → Bool) → ℕ → ℕ → State → Type 0
 Agree test other k count s = (j : ℕ) → k + j ≤ count → other (k + j) (after_steps j s) ≡ test (k + j) (after_steps j s)
 
@@ -38,7 +40,7 @@ answered_up st k rest t more stop.Waiting = omega arith
 answered_up st k rest t more stop.Ended = omega arith
 answered_up st k rest t more (stop.Halted e) = omega arith
 
--- A run counts the steps that were executed before it.
+-- The count of a run includes the `k` steps that were executed before it.
 counts_up : (test : ℕ → State → Bool) (n k : ℕ) (s : State) → k ≤ (run_from test k n s).count
 unfolding run_from
 counts_up test zero k s = omega arith
@@ -82,7 +84,7 @@ by_answer test other k n s b more agree stop.Waiting w = refl
 by_answer test other k n s b more agree stop.Ended w = refl
 by_answer test other k n s b more agree (stop.Halted e) w = refl
 
--- Runs with tests that agree are equal.
+-- If two tests agree on the states of a run, then both tests have the same run.
 same_along : (test other : ℕ → State → Bool) (n k : ℕ) (s : State) → Agree test other k (run_from test k n s).count s
     → run_from other k n s ≡ run_from test k n s
 unfolding run_from
@@ -96,7 +98,7 @@ same_along test other (suc n) k s agree =
 
 -- ---- breakpoints that stop in the same states
 
--- After each number of steps from 1 up to this count, the others stop a run exactly if these do.
+-- Is true if `others` stop a run exactly if `breaks` do, after each number of steps from 1 up to `count`.
 abbrev Alike : List Breakpoint → List Breakpoint → ℕ → State → Type 0
 Alike breaks others count s = (k : ℕ) → 1 ≤ k → k ≤ count → is_at_break others (after_steps k s) ≡ is_at_break breaks (after_steps k s)
 
@@ -139,7 +141,7 @@ module _ (breaks others : List Breakpoint) (watched : List WatchedWord) (test : 
       ap (gone_by watched others) (same_along stops (later (stops_at watched others test)) limit 0 s (agree alike))
       ∙ ap (λ reason. record { steps = run.count; reason = reason; machine = run.state }) told
 
--- Breakpoints that stop in the same states have the same run.
+-- If two lists of breakpoints stop in the same states of a run, then both have the same run.
 gone_alike : (breaks others : List Breakpoint) (watches : List ℕ) (test : State → Bool) (limit : ℕ) (s : State)
     → Alike breaks others (gone_to breaks watches test limit s).steps s → gone_to others watches test limit s ≡ gone_to breaks watches test limit s
 unfolding gone_to

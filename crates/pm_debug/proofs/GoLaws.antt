@@ -27,7 +27,7 @@ and_false : (b : Bool) → b && false ≡ false
 and_false true = refl
 and_false false = refl
 
--- No breakpoints, watched words and destination stop no run.
+-- Without breakpoints, watched words and destination, no test stops a run.
 pub none_stop : (k : ℕ) (s : State) → later (stops_at [] [] nowhere) k s ≡ false
 unfolding first_changed
 none_stop k s = and_false (not (k == 0))
@@ -59,7 +59,7 @@ outcome_state count stop.Waiting t = refl
 outcome_state count stop.Ended t = refl
 outcome_state count (stop.Halted e) t = refl
 
--- A machine that has ended executes no step.
+-- If a status has ended, then it is `Ended`. Such a machine executes no step.
 ended_is : (st : Status) → has_ended st ≡ true → st ≡ status.Ended
 ended_is status.Ended h = refl
 ended_is status.Running h = absurd (cc)
@@ -100,7 +100,7 @@ held_later k b h = behind (not (k == 0)) b h
     behind true b h = h
     behind false b h = absurd (cc)
 
--- Without watched words the reason is that of a run that only breakpoints may stop.
+-- Without watched words, the reason of a run is that of a run that only breakpoints may stop.
 break_told : (breaks : List Breakpoint) (limit n count : ℕ) (s t : State) (end : RunEnd) → EndsSo (later (is_at_break breaks)) limit n s end count t
     → reason_of [] breaks end t ≡ break_reason end
 unfolding first_changed

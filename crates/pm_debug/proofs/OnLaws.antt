@@ -1,4 +1,4 @@
--- Continued runs.
+-- Lemmas about continued runs.
 use Rattle.std.proofs.Common.{◌≡◌, ◌≢◌, ◌≤◌, ◌∙◌, ap, sym, refl, arith, ℕ, zero, suc, ◌+◌, Bool, true, false, inl, inr, List, Option, Some, None}
 use Rattle.std.specs.Prelude.{if◌then◌else◌}
 use Rattle.std.proofs.lemmas.Bool.Decides.{nat_tests}
@@ -41,7 +41,7 @@ answered_within st k n rest t more stop.Waiting = let h = one_at_most st stop.Wa
 answered_within st k n rest t more stop.Ended = let h = one_at_most st stop.Ended in omega (arith, h)
 answered_within st k n rest t more (stop.Halted e) = let h = one_at_most st (stop.Halted e) in omega (arith, h)
 
--- No run counts more steps than its limit.
+-- The count of a run is at most the sum of its limit and the steps that were executed before.
 counts_within : (test : ℕ → State → Bool) (n k : ℕ) (s : State) → (run_from test k n s).count ≤ k + n
 unfolding run_from
 counts_within test zero k s = omega arith
@@ -59,7 +59,7 @@ within test limit count end s t h =
 
 -- ---- a run after steps that were executed
 
--- An outcome with steps that were executed before.
+-- The outcome `run` if `made` steps were executed before: its count includes these steps.
 abbrev pub behind_made : ℕ → RunOutcome → RunOutcome
 behind_made made run = record { count = made + run.count; end = run.end; state = run.state }
 
@@ -76,7 +76,7 @@ answered_behind made k st rest others same t stop.Ended =
 answered_behind made k st rest others same t (stop.Halted e) =
     ap (λ n. record { count = n; end = ends.Answered (stop.Halted e); state = t }) (add_assoc made k (last_counts st (stop.Halted e)))
 
--- The steps that were executed before count for the test, too.
+-- If `made` steps were executed before, the run is that of a test to whose count these steps are added.
 goes_behind : (test : ℕ → State → Bool) (made n k : ℕ) (s : State)
     → run_from test (made + k) n s ≡ behind_made made (run_from (behind_steps made test) k n s)
 unfolding run_from
@@ -97,7 +97,7 @@ goes_on_behind test made n s = ap (λ j. run_from test j n s) (plus_none made) �
     plus_none : (m : ℕ) → m ≡ m + 0
     plus_none m = omega arith
 
--- The rest of a run, as the machine executes it.
+-- The outcome `gone_from` of the rest of a run follows from the outcome of the machine's run.
 pub gone_rest : (breaks : List Breakpoint) (watched : List WatchedWord) (test : State → Bool) (made limit : ℕ) (s : State) (run : RunOutcome)
     (reason : BreakReason) → run_from (behind_steps made (later (stops_at watched breaks test))) 0 limit s ≡ run
     → reason ≡ reason_of watched breaks run.end run.state
@@ -109,7 +109,7 @@ gone_rest breaks watched test made limit s run reason ran told =
     as_gone : ℕ → State → BreakReason → Gone
     as_gone steps machine reason = record { steps = steps; reason = reason; machine = machine }
 
--- A run that begins with the machine, the breakpoints and the watched words as they were passed to it.
+-- If a run uses the breakpoints, watched words and state that were passed to it, then its outcome is that of `gone_to`.
 pub begins : (breaks : List Breakpoint) (watches : List ℕ) (test : State → Bool) (limit : ℕ) (s : State) (given : List Breakpoint)
     (watched : List WatchedWord) (began : State) (outcome : Gone) → has_ended s.status ≡ false → given ≡ breaks
     → watched ≡ watched_words watches s.memory → began ≡ s
@@ -119,7 +119,7 @@ begins breaks watches test limit s given watched began outcome going b w m h =
     rw going (ap (λ bs. gone_from bs (watched_words watches s.memory) test 0 limit s) (sym b) ∙ ap (λ ws. gone_from given ws test 0 limit s) (sym w)
     ∙ ap (gone_from given watched test 0 limit) (sym m) ∙ h)
 
--- A run that begins and stops because memory is out.
+-- If a run that begins is out of memory, then the same holds for the test without previous steps.
 pub gave_up_first : (test : ℕ → State → Bool) (limit : ℕ) (m t : Whole) → GaveUp (behind_steps 0 test) limit m t → GaveUp test limit m t
 gave_up_first test limit m t h = (
   h.0,
@@ -138,7 +138,7 @@ gave_up_first test limit m t h = (
 abbrev AtLimit : ℕ → State → RunOutcome
 AtLimit count t = record { count = count; end = ends.Limit; state = t }
 
--- The steps of a run that its limit stopped, and those of its continuation.
+-- States that a run whose limit stopped it and its continuation count their steps as one run.
 abbrev IsFollowed : (ℕ → State → Bool) → ℕ → ℕ → ℕ → State → ℕ → State → Type 0
 IsFollowed test k n m s count t = (count ≡ k + n) × (run_from test k (n + m) s ≡ run_from test count m t)
 

@@ -30,17 +30,17 @@ module _ (whole : Option ℕ) (watched : List WatchedWord) (m : List ℕ) (i : �
   next : whole ≡ first_changed (get_or watched i d ∷ drop (i + 1) watched) m
   next = h ∙ ap (λ ws. first_changed ws m) (rw add-one (drop-cons watched i d inside))
 
-  -- A word that is unchanged.
+  -- If word `i` is unchanged, then the first changed word is among the words from `i + 1` on.
   pub first_later : (word_at m (get_or watched i d).address == (get_or watched i d).word) ≡ true → whole ≡ first_changed (drop (i + 1) watched) m
   unfolding first_changed
   first_later same = next ∙ rw same refl
 
-  -- A word that has changed.
+  -- If word `i` has changed, then it is the first changed word.
   pub first_here : (word_at m (get_or watched i d).address == (get_or watched i d).word) ≡ false → whole ≡ Some (get_or watched i d).address
   unfolding first_changed
   first_here other = next ∙ rw other refl
 
--- No word is left.
+-- If no word remains, then no word has changed.
 pub first_none : (whole : Option ℕ) (left : List WatchedWord) (m : List ℕ) → whole ≡ first_changed left m → left ≡ [] → whole ≡ None
 unfolding first_changed
 first_none whole left m h none = h ∙ ap (λ ws. first_changed ws m) none
@@ -57,7 +57,8 @@ all_more P x xs here rest (suc k) d h = rest k d (omega (arith, h))
 same_state : (s : State) (addresses : List ℕ) → AreAsIn s addresses s
 same_state s addresses k d h = refl
 
--- The word at the first changed address, and those before it.
+-- States that the word at the address `a` has changed from `s` to `t`, and that no watched word before it in the list
+-- has.
 record FirstOf (watches : List ℕ) (s t : State) (a : ℕ) : Type 0 where
   changed : word_at t.memory a ≢ word_at s.memory a
   front : List ℕ
@@ -124,7 +125,7 @@ not_answered stop.Waiting a h = cc
 not_answered stop.Ended a h = cc
 not_answered (stop.Halted e) a h = cc
 
--- If a test is false before a step that is not the first, no word has changed there.
+-- If the test of a run is false before a step that is not the first, then no watched word has changed.
 not_changed : (k : ℕ) (there changed at_break : Bool) → 1 ≤ k → (not (k == 0) && ((there || changed) || at_break)) ≡ false → changed ≡ false
 not_changed k there changed at_break some h = behind (k == 0) there changed at_break (grind (arith, nat_tests, some)) h
   where

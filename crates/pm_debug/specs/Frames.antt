@@ -9,7 +9,7 @@ use Rattle.pm_debug.specs.declared.frames.Frame.{Frame}
 use Rattle.pm_machine.specs.CodePlaces.{place_at}
 use Rattle.pm_debug.specs.Views.{dynamic_chain}
 
--- The control word at offset `distance` of the frame `f`.
+-- The control word at offset `distance` of the frame at address `f`.
 abbrev pub control_word : List ℕ → ℕ → ℕ → ℕ
 control_word m f distance = word_at m ((f + distance) % 65536)
 
@@ -17,9 +17,9 @@ abbrev pub returning : ℕ → Option CodePlace → Option Frame
 returning f None = None
 returning f (Some place) = Some (record { address = f; returns_to = Some place })
 
--- The frame at `f` with the position to which it returns: that of the SEG, JTAB and IPC in the frame. If the dynamic
--- link is the system's frame, 65,492, the return ends the program and there is no position. There is no frame if `f`,
--- SEG or JTAB is odd.
+-- The frame at address `f`, with the position to which it returns. The SEG, JTAB and IPC in the frame determine this
+-- position. If the dynamic link is the system's frame, 65,492, the return ends the program, and the frame has no
+-- position. The result is `None` if `f`, SEG or JTAB is odd.
 unfoldable pub frame_at : List ℕ → ℕ → Option Frame
 frame_at m f =
     if not (is_even f) then None
@@ -31,7 +31,7 @@ onto_frames None frames = None
 onto_frames (Some frame) None = None
 onto_frames (Some frame) (Some frames) = Some (frame ∷ frames)
 
--- The frames at these addresses. There is no list if one of them has no frame.
+-- The frames at these addresses, or `None` if one of the addresses has no frame.
 unfoldable pub frames_at : List ℕ → List ℕ → Option (List Frame)
 frames_at m [] = Some []
 frames_at m (f ∷ fs) = onto_frames (frame_at m f) (frames_at m fs)
@@ -40,6 +40,6 @@ abbrev pub frames_of : List ℕ → Option (List ℕ) → Option (List Frame)
 frames_of m None = None
 frames_of m (Some addresses) = frames_at m addresses
 
--- The frames of the dynamic chain, at most `limit`.
+-- At most `limit` frames of the dynamic chain.
 abbrev pub frames : State → ℕ → Option (List Frame)
 frames s limit = frames_of s.memory (dynamic_chain s limit)

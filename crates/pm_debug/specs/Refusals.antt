@@ -14,7 +14,7 @@ number_of NoMemory = 4
 number_of TooDeep = 5
 number_of NothingLeft = 6
 
--- The refusal of a read that failed: too many static links, or an odd address on the way.
+-- The refusal of a read that failed. It is `TooDeep` for too many static links, and `OddAddress` for an odd address.
 abbrev pub refusal_of : ExecError → DebugRefusal
 refusal_of errors.NoSegment = TooDeep
 refusal_of errors.InvalidIndex = OddAddress

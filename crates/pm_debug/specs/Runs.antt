@@ -24,15 +24,17 @@ use Rattle.pm_debug.specs.Watches.{first_changed, has_changed, watched_words}
 
 -- ---- what stops a run
 
--- A test of the state stops a run after `k` steps, in state `s`, but not before the first step.
+-- Is true if a run stops in the state `s` after `k` steps because of `test`. A run never stops before its first step.
 abbrev pub later : (State → Bool) → ℕ → State → Bool
 later test k s = not (k == 0) && test s
 
--- A run stops in `s` if the state is its destination, a watched word has changed, or the state is at a breakpoint.
+-- Is true if a run stops in the state `s`: `s` is its destination (`test` is true), a watched word has changed, or a
+-- breakpoint stops the run.
 abbrev pub stops_at : List WatchedWord → List Breakpoint → (State → Bool) → State → Bool
 stops_at watched breaks test s = (test s || has_changed watched s.memory) || is_at_break breaks s
 
--- The stop of a run that begins in the state `began`, with these breakpoints and the words at these addresses watched.
+-- The test that stops a run that begins in the state `began`, with these breakpoints and the words at `watches`
+-- watched.
 abbrev pub stops_after : List Breakpoint → List ℕ → (State → Bool) → State → ℕ → State → Bool
 stops_after breaks watches test began = later (stops_at (watched_words watches began.memory) breaks test)
 
@@ -43,7 +45,7 @@ has_ended status.Ended = true
 has_ended status.Running = false
 has_ended (status.Halted e) = false
 
--- The reason of a run whose last step had this answer.
+-- The reason of a run that ended because its last step had this answer.
 abbrev pub answered_so : Stop → BreakReason
 answered_so stop.Went = reasons.Limit
 answered_so stop.Waiting = reasons.Waiting
@@ -54,13 +56,13 @@ abbrev pub changed_or : Option ℕ → BreakReason → BreakReason
 changed_or (Some address) other = reasons.Changed address
 changed_or None other = other
 
--- The reason why a run stops before a step. A watched word that has changed precedes a breakpoint, and a breakpoint
--- precedes the destination.
+-- The reason why a run stops in the state `s`. If a watched word has changed, the reason is this word. Otherwise the
+-- reason is a breakpoint if one stops the run, and else the destination.
 abbrev pub stopped_so : List WatchedWord → List Breakpoint → State → BreakReason
 stopped_so watched breaks s =
     changed_or (first_changed watched s.memory) (if is_at_break breaks s then reasons.Break else reasons.There)
 
--- The reason why a run of the machine with these stops has ended.
+-- The reason why a run of the debugger has ended, from the end of the run of the machine and its last state.
 abbrev pub reason_of : List WatchedWord → List Breakpoint → RunEnd → State → BreakReason
 reason_of watched breaks ends.Limit s = reasons.Limit
 reason_of watched breaks ends.Stopped s = stopped_so watched breaks s
@@ -68,7 +70,7 @@ reason_of watched breaks (ends.Answered answer) s = answered_so answer
 
 -- ---- runs
 
--- The outcome of a run of the debugger.
+-- The outcome of a run of the debugger: the number of steps, the reason of the end, and the last state.
 pub record Gone : Type 0 where
   pub steps : ℕ
   pub reason : BreakReason
@@ -78,14 +80,15 @@ abbrev pub gone_by : List WatchedWord → List Breakpoint → RunOutcome → Gon
 gone_by watched breaks run =
     record { steps = run.count; reason = reason_of watched breaks run.end run.state; machine = run.state }
 
--- The rest of a run that has executed `made` steps, at most `limit` more. The stops are checked before each step except
--- the first of the whole run. The watched words are those of the state in which the whole run began.
+-- The outcome of at most `limit` more steps of a run that has executed `made` steps. The stops are checked before each
+-- step except the first of the whole run. The values of `watched` are those of the state in which the whole run began.
 abbrev pub gone_from : List Breakpoint → List WatchedWord → (State → Bool) → ℕ → ℕ → State → Gone
 gone_from breaks watched test made limit s =
     gone_by watched breaks (run_from (later (stops_at watched breaks test)) made limit s)
 
--- The run of at most `limit` steps to a changed word, to a breakpoint, or to a state in which `test` is true. The
--- watched words are those of the state in which it begins. A machine that has ended executes no step.
+-- The outcome of a run of at most `limit` steps, until a watched word has changed, a breakpoint stops it, or `test` is
+-- true. The watched words are compared with their values in the state `s`, in which the run begins. A machine that has
+-- ended executes no step.
 unfoldable pub gone_to : List Breakpoint → List ℕ → (State → Bool) → ℕ → State → Gone
 gone_to breaks watches test limit s =
     if has_ended s.status then record { steps = 0; reason = reasons.Ended; machine = s }
@@ -95,84 +98,88 @@ gone_to breaks watches test limit s =
 abbrev pub nowhere : State → Bool
 nowhere s = false
 
--- The run of at most `limit` steps without a destination.
+-- The outcome of a run of at most `limit` steps without a destination.
 abbrev pub gone : List Breakpoint → List ℕ → ℕ → State → Gone
 gone breaks watches limit s = gone_to breaks watches nowhere limit s
 
 -- ---- runs over calls
 
--- The machine is in the frame at this address, or in one at a higher address. A called procedure has its frame below
--- SP, so below its caller's frame. The frames at higher addresses are those of the callers.
+-- Is true if the machine is in the frame at this address, or in a frame at a higher address. A called procedure has its
+-- frame below SP, and therefore below its caller's frame. The frames at higher addresses are those of the callers.
 abbrev pub is_back : ℕ → State → Bool
 is_back frame s = nat_le frame s.registers.mp
 
--- The frame at this address was left: the machine is in one at a higher address.
+-- Is true if the frame at this address was left: the machine is in a frame at a higher address.
 abbrev pub has_left : ℕ → State → Bool
 has_left frame s = nat_lt frame s.registers.mp
 
--- The machine is at the destination of a run.
+-- Is true if the machine is at the destination of a run.
 abbrev pub is_there : Depth → State → Bool
 is_there depths.Any s = nowhere s
 is_there (depths.Back frame) s = is_back frame s
 is_there (depths.Left frame) s = has_left frame s
 is_there (depths.Place place) s = stands_at place s
 
--- The maximum number of steps of such a run.
+-- The greatest number of steps that can be requested for such a run.
 abbrev pub most_steps : ℕ
 most_steps = 4294967295
 
--- One instruction, and if it is a call, the whole called procedure.
+-- The outcome of `step_over`: one instruction is executed, and if it is a call, the whole called procedure.
 abbrev pub gone_over : List Breakpoint → List ℕ → ℕ → State → Gone
 gone_over breaks watches limit s = gone_to breaks watches (is_back s.registers.mp) limit s
 
--- The rest of the running procedure and its return.
+-- The outcome of `finish`: the rest of the running procedure and its return are executed.
 abbrev pub gone_out : List Breakpoint → List ℕ → ℕ → State → Gone
 gone_out breaks watches limit s = gone_to breaks watches (has_left s.registers.mp) limit s
 
--- Up to this position, before the instruction there.
+-- The outcome of `until`: the run stops at the position `place`, before the instruction at this position.
 abbrev pub gone_until : List Breakpoint → List ℕ → CodePlace → ℕ → State → Gone
 gone_until breaks watches place limit s = gone_to breaks watches (stands_at place) limit s
 
 -- ---- continued runs
 
--- The rest of the last run. It exists if its limit or a breakpoint stopped the run. It consists of the destination, the
--- number of steps executed, and the watched words with their values when the run began.
+-- The rest of the last run: what its continuation needs. It exists if its limit or a breakpoint stopped the run. It
+-- consists of the destination, the number of steps executed, and the watched words with their values when the run
+-- began.
 pub data Left : Type 0 where
   Nothing : Left
   Rest : Depth → ℕ → List WatchedWord → Left
   AtBreak : Depth → ℕ → List WatchedWord → Left
 
--- The run can be continued.
+-- Is true if the run can be continued with more steps, because its limit stopped it.
 abbrev pub has_rest : Left → Bool
 has_rest Nothing = false
 has_rest (Rest depth made watched) = true
 has_rest (AtBreak depth made watched) = false
 
--- The rest of a run: its limit or a breakpoint stopped it, or it is over.
+-- The rest of a run that ended after `steps` steps for this reason. The run is over unless its limit or a breakpoint
+-- stopped it.
 abbrev pub left_so : Depth → List WatchedWord → ℕ → BreakReason → Left
 left_so depth watched steps reasons.Limit = Rest depth steps watched
 left_so depth watched steps reasons.Break = AtBreak depth steps watched
 left_so depth watched steps other = Nothing
 
--- The rest of a run that began in the state `began`, with the words at these addresses watched.
+-- The rest of a run that began in the state `began`, with the words at `watches` watched.
 abbrev pub left_after : Depth → List ℕ → State → ℕ → BreakReason → Left
 left_after depth watches began steps reason = left_so depth (watched_words watches began.memory) steps reason
 
 abbrev pub left_of : Depth → List ℕ → State → Gone → Left
 left_of depth watches began run = left_after depth watches began run.steps run.reason
 
--- How contracts see the last run, with the watched words as they were when it began.
+-- The rest of the last run as contracts describe it. `watched` has the watched words with their values when the run
+-- began.
 abbrev pub left_seen : LastRun → List WatchedWord → Left
 left_seen last.Over watched = Nothing
 left_seen (last.AtLimit depth steps) watched = Rest depth steps watched
 left_seen (last.AtBreak depth steps) watched = AtBreak depth steps watched
 
--- The number of steps that a run may execute after `made` steps: `limit`, but the sum is at most the greatest number of
--- 64 bits.
+-- The number of steps that a run may execute after `made` steps: `limit`, or fewer, so that the sum is at most the
+-- greatest number of 64 bits.
 abbrev pub countable : ℕ → ℕ → ℕ
 countable made limit = min limit (18446744073709551615 - made)
 
--- The continuation of the last run for at most `limit` more steps. There is none if the run has no rest.
+-- The outcome of the last run if it is continued for at most `limit` more steps. `None` if the limit did not stop the
+-- run.
 abbrev pub gone_on : List Breakpoint → Left → ℕ → State → Option Gone
 gone_on breaks Nothing limit s = None
 gone_on breaks (AtBreak depth made watched) limit s = None
@@ -182,18 +189,18 @@ gone_on breaks (Rest depth made watched) limit s =
 abbrev pub left_behind : Depth → List WatchedWord → Gone → Left
 left_behind depth watched run = left_so depth watched run.steps run.reason
 
--- The rest after the continuation.
+-- The rest of the last run after its continuation.
 abbrev pub left_on : List Breakpoint → Left → ℕ → State → Left
 left_on breaks Nothing limit s = Nothing
 left_on breaks (AtBreak depth made watched) limit s = AtBreak depth made watched
 left_on breaks (Rest depth made watched) limit s =
     left_behind depth watched (gone_from breaks watched (is_there depth) made (countable made limit) s)
 
--- A test of the steps and the state of a run, for the rest of a run that has executed `made` steps.
+-- The test `test`, for the rest of a run that has executed `made` steps: these steps are added to `k`.
 abbrev pub behind_steps : ℕ → (ℕ → State → Bool) → ℕ → State → Bool
 behind_steps made test k s = test (made + k) s
 
--- The continuation of the last run stopped because it was out of memory.
+-- States that the continuation of the last run stopped because it was out of memory.
 abbrev pub GaveUpOn : List Breakpoint → Left → ℕ → Whole → Whole → Type 0
 GaveUpOn breaks Nothing limit m t = ⊥
 GaveUpOn breaks (AtBreak depth made watched) limit m t = ⊥
@@ -202,8 +209,8 @@ GaveUpOn breaks (Rest depth made watched) limit m t =
 
 -- ---- laws
 
--- Without breakpoints and watched words, a run is that of the machine, with as many steps and the same state. Its
--- reason is the last answer. This does not include a machine that has ended.
+-- States that a run without breakpoints and watched words is a run of the machine, with as many steps and the same last
+-- state. The reason is that of the last answer. The machine must not have ended before.
 abbrev pub GoIsRun : Type 0
 GoIsRun =
     (limit count : ℕ) (s t : State) (answer : Stop) → Ran limit s count answer t →

@@ -1,8 +1,9 @@
 -- A debugger has these parts:
 --
 -- - its machine,
--- - its breakpoints and watched addresses, in the order in which they were set,
--- - the rest of its last run, and the number of its passes,
+-- - its breakpoints and the addresses of its watched words, in the order in which they were set,
+-- - the rest of its last run, if its limit or a breakpoint stopped the run,
+-- - the number of passes: how many breakpoints its runs may still pass over,
 -- - whether a session shows what its commands add to the console.
 use Rattle.std.specs.Prelude.{◌≡◌, ℕ, Bool, List, None}
 use Rattle.pm_machine.specs.State.{State, Whole}
@@ -20,7 +21,8 @@ pub record Session : Type 0 where
   pub passes : ℕ
   pub shows_console : Bool
 
--- The debugger as contracts see it: its machine with its capacity for input and output, and the other parts unchanged.
+-- The debugger as contracts describe it. The machine has the capacities of its input and output. The other parts are as
+-- in the code.
 pub record Debugged : Type 0 where
   pub machine : Whole
   pub breaks : List Breakpoint
@@ -39,7 +41,8 @@ session_of d = record {
   shows_console = d.shows_console;
 }
 
--- The last run cannot be continued. Either it has no rest and nothing changes, or memory is out.
+-- States why the continuation of the last run was refused. Either the run cannot be continued and nothing has changed,
+-- or the continuation was out of memory.
 abbrev pub StopsShort : DebugRefusal → ℕ → Debugged → Debugged → Type 0
 StopsShort NothingLeft limit d e = (gone_on d.breaks d.left limit d.machine.state ≡ None) × (e ≡ d)
 StopsShort NoMemory limit d e = GaveUpOn d.breaks d.left limit d.machine e.machine

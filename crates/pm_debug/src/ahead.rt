@@ -1,4 +1,4 @@
-//! The instructions from an address on.
+//! The addresses of consecutive instructions from an address on.
 
 ghost use Rattle.std.specs.Prelude.{◌≡◌, ◌<◌, ◌+◌, IfOk, OnErr};
 ghost use Rattle.pm_words.specs.Words.{bytes_of};
@@ -8,7 +8,8 @@ use pm_opcode::decode;
 use pm_words::Memory;
 use std::alloc::{AllocError, Global};
 
-/// Returns the address after the instruction at `address`. A byte that begins no instruction counts as one of 1 byte.
+/// Returns the address after the instruction at `address`. If no instruction begins at `address`, its byte counts as an
+/// instruction of 1 byte.
 fn next_address(memory: &Memory, address: u16) -> u64
     ensures next { result ≡ next_address (bytes_of memory.now.words) address }
 {
@@ -19,8 +20,8 @@ fn next_address(memory: &Memory, address: u16) -> u64
     u64::from(address) + u64::from(size)
 }
 
-/// Returns the addresses of the instructions from `first` on, at most `limit` and none above 65,535. A `limit` of 0
-/// needs no memory.
+/// Returns the addresses of at most `limit` consecutive instructions, the first of which is at address `first`. No
+/// address is above 65,535. If `limit` is 0, no memory is needed.
 pub(crate) fn addresses_from(
     alloc: Global,
     memory: &Memory,

@@ -1,5 +1,5 @@
-//! Breakpoints. A run stops before a step at a position in the code, or before a step that writes or reads certain
-//! words. A breakpoint can have a condition.
+//! Breakpoints. A breakpoint has a spot: a position in the code, or certain words of memory. A run stops before a step
+//! at this position, or before a step that writes or reads these words. A breakpoint can have a condition.
 
 ghost use Rattle.std.specs.Prelude.{◌≡◌, ◌&&◌, Ok, IfErr, OnOk, OnErr, Err, map};
 ghost use Rattle.pm_debug.specs.Breaks.{bytes_from, can_be_asked, can_stand, holds, instead, is_at_break, is_met_from};
@@ -14,7 +14,7 @@ use pm_words::Memory;
 /// The maximum number of breakpoints.
 pub(crate) const MOST_BREAKS: usize = 64;
 
-/// A condition on the memory. It is true if the word at `address` is `word`.
+/// A condition on the memory. It is true if the word of memory at `address` is `word`.
 #[derive(Clone, Copy, Default)]
 pub struct Condition {
     /// The address of the word, which must be even.
@@ -67,10 +67,10 @@ impl Default for Spot {
     }
 }
 
-/// A breakpoint. It stops a run before a step of its `spot` if its condition is true or it has none.
+/// A breakpoint. It stops a run before each step that `spot` selects, provided that `condition` is true or `None`.
 #[derive(Clone, Copy, Default)]
 pub struct Breakpoint {
-    /// The steps before which it stops a run.
+    /// The steps before which the breakpoint stops a run.
     pub spot: Spot,
     /// The condition that must be true before the step.
     pub condition: Option<Condition>,
@@ -85,7 +85,7 @@ fn is_same_place(a: CodePlace, b: CodePlace) -> bool
     a.segment == b.segment && a.procedure == b.procedure && a.offset == b.offset
 }
 
-/// Whether two spots are the same position in the code, or the same words for the same kind of access.
+/// Whether `a` and `b` are the same position in the code, or the same words for the same kind of access.
 fn is_same(a: Spot, b: Spot) -> bool
     ensures same { result ≡ is_same a b }
 {
@@ -109,14 +109,14 @@ fn is_same(a: Spot, b: Spot) -> bool
     }
 }
 
-/// Whether a breakpoint is set at `wanted`.
+/// Whether one of `breaks` has the spot `wanted`.
 fn is_set(breaks: &[Breakpoint], wanted: Spot) -> bool
     ensures set { result ≡ is_set wanted breaks.now }
 {
     breaks.iter().any(|known| is_same(wanted, known.spot))
 }
 
-/// Whether the words of a spot begin at an even address. A position in the code has no words.
+/// Whether the words of `spot` begin at an even address. True for a position in the code, which has no words.
 fn can_stand(spot: Spot) -> bool
     ensures even { result ≡ can_stand spot }
 {
@@ -127,7 +127,7 @@ fn can_stand(spot: Spot) -> bool
     }
 }
 
-/// Whether the address of a condition is even. No condition is also accepted.
+/// Whether the address of `condition` is even. True for `None`.
 fn can_be_asked(condition: Option<Condition>) -> bool
     ensures even { result ≡ can_be_asked condition }
 {
@@ -137,7 +137,7 @@ fn can_be_asked(condition: Option<Condition>) -> bool
     }
 }
 
-/// Returns the breakpoints with `new` in place of the one at the same spot.
+/// Returns `breaks`, in which `new` replaces the breakpoint at the same spot.
 fn with_instead(breaks: &Breaks, new: Breakpoint) -> Breaks
     ensures breaks { result.items ≡ map (instead new) breaks.now.items }
 {
@@ -152,7 +152,7 @@ fn with_instead(breaks: &Breaks, new: Breakpoint) -> Breaks
     all
 }
 
-/// Sets a breakpoint. It replaces a breakpoint at the same spot.
+/// Adds the breakpoint `new` to `breaks`. If a breakpoint at the same spot exists, `new` replaces it.
 ///
 /// # Errors
 ///
@@ -180,7 +180,8 @@ pub(crate) fn set(breaks: &mut Breaks, new: Breakpoint) -> Result<(), DebugRefus
     Ok(())
 }
 
-/// Removes the breakpoint at `old`. If none is set there, returns `NotSet` and changes nothing.
+/// Removes the breakpoint at the spot `old` from `breaks`. If no breakpoint is at `old`, returns `NotSet` and changes
+/// nothing.
 #[tactic(auto, unfolding(crate::specs::Breaks::without_break))]
 pub(crate) fn clear(breaks: &mut Breaks, old: Spot) -> Result<(), DebugRefusal>
     ensures cleared { OnOk result (without_break old breaks.old.items ≡ Ok breaks.new.items) }
@@ -203,14 +204,14 @@ fn is_that(place: CodePlace, here: Option<CodePlace>) -> bool
     }
 }
 
-/// Whether a machine is at a position in the code.
+/// Whether `machine` is at the position `place` in the code.
 pub(crate) fn stands_at(machine: &Machine, place: CodePlace) -> bool
     ensures stands { result ≡ stands_at place machine.now.state }
 {
     is_that(place, place_in_code(machine))
 }
 
-/// Whether a condition is true in a memory. No condition is always true.
+/// Whether `condition` is true in `memory`. True for `None`.
 fn holds(condition: Option<Condition>, memory: &Memory) -> bool
     ensures holds { result ≡ holds condition memory.now.words }
 {
@@ -220,14 +221,16 @@ fn holds(condition: Option<Condition>, memory: &Memory) -> bool
     }
 }
 
-/// Returns the number of bytes of `words` words from `address` on that are in the memory, which ends with 65,535.
+/// Returns the number of bytes of those `words` words from `address` on that are in the memory. The last byte of the
+/// memory is 65,535.
 fn bytes_from(address: u16, words: u16) -> u32
     ensures bytes { result ≡ bytes_from address words }
 {
     (2 * u32::from(words)).min(65_536 - u32::from(address))
 }
 
-/// Whether a machine at `here` is at a position in the code, or writes or reads certain words in the next step.
+/// Whether `spot` selects the next step of `machine`, which is at the position `here`. It does if `here` is the
+/// position of the spot, or if the next step writes or reads words of the spot.
 fn is_met(spot: Spot, here: Option<CodePlace>, machine: &Machine) -> bool
     ensures met { result ≡ is_met_from here spot machine.now.state }
 {
@@ -238,7 +241,7 @@ fn is_met(spot: Spot, here: Option<CodePlace>, machine: &Machine) -> bool
     }
 }
 
-/// Whether a run stops for this breakpoint if the machine is at `here`.
+/// Whether a run of `machine`, which is at the position `here`, stops for the breakpoint `known`.
 fn stops_for(known: Breakpoint, here: Option<CodePlace>, machine: &Machine) -> bool
     ensures stops { result ≡ (is_met_from here known.spot machine.now.state
         && holds known.condition machine.now.state.memory) }
@@ -246,7 +249,7 @@ fn stops_for(known: Breakpoint, here: Option<CodePlace>, machine: &Machine) -> b
     is_met(known.spot, here, machine) && holds(known.condition, machine.memory())
 }
 
-/// Whether a run stops here for one of the breakpoints.
+/// Whether a run of `machine` stops before the next step for one of `breaks`.
 pub(crate) fn is_at_break(machine: &Machine, breaks: &[Breakpoint]) -> bool
     ensures matches { result ≡ is_at_break breaks.now machine.now.state }
 {

@@ -1,4 +1,4 @@
-//! The debugger.
+//! The debugger: a machine with breakpoints, watched words and views.
 
 ghost use Rattle.std.specs.Prelude.{◌≡◌, ◌<◌, ◌≤◌, ◌+◌, Some, None, [], false, Ok, Err};
 ghost use Rattle.std.specs.Prelude.{IfOk, IfErr, IfSome, IfNone, OnOk, OnErr};
@@ -37,15 +37,15 @@ use pm_words::layout::STACK_END;
 use std::alloc::{AllocError, Global};
 use std::marker::Model;
 
-/// A machine with a debugger. A debugger has these parts:
+/// A machine with a debugger. A watched word is a word of memory whose change stops a run. A debugger has these parts:
 ///
 /// - the machine,
-/// - the breakpoints and the watched addresses at which a run stops,
-/// - the rest of the last run,
-/// - the number of breakpoints that runs may still pass over,
+/// - the breakpoints and the addresses of the watched words, which stop runs,
+/// - the rest of the last run, if its limit or a breakpoint stopped it,
+/// - the number of passes: how many breakpoints runs may still pass over,
 /// - whether a session shows what its commands add to the console.
 ///
-/// Contracts see the machine as its state. The debugger shows this state as it is at the call.
+/// Contracts describe the machine by its state. The debugger shows this state as it is at the call.
 #[derive(Drop)]
 pub struct Debugger {
     machine: Machine,
@@ -74,7 +74,7 @@ impl Model for Debugger {
 }
 
 impl Debugger {
-    /// Creates a debugger of a machine, without breakpoints and watched words. Its session does not show the console.
+    /// Creates a debugger of `machine`, without breakpoints and watched words. Its session does not show the console.
     pub fn new(machine: Machine) -> Debugger
         ensures machine { result.machine ≡ machine }
         ensures breaks { result.breaks ≡ [] }
@@ -94,7 +94,7 @@ impl Debugger {
         }
     }
 
-    /// Borrows the machine. Changes of the borrowed machine are changes of the debugger's machine.
+    /// Borrows the machine. If the caller changes the borrowed machine, the debugger's machine has these changes.
     pub fn machine(&mut self) -> &mut Machine
         ensures* lends { sem 𝓛 (LendsMachine self.entry result) }
         ensures value { result.now ≡ self.old.machine }
@@ -118,9 +118,9 @@ impl Debugger {
     }
 
     /// Sets a breakpoint at a position in the code: a segment number, a procedure number and an offset in bytes from
-    /// the entry of the procedure. The run stops only if the condition is true, if there is one.
+    /// the entry of the procedure. If `condition` is not `None`, a run stops only if the condition is true.
     ///
-    /// A breakpoint at the same position is replaced, and its place in the list is unchanged. This is also possible
+    /// A breakpoint at the same position is replaced, and its index in the list is unchanged. This is also possible
     /// with 64 breakpoints.
     ///
     /// # Errors
@@ -152,10 +152,10 @@ impl Debugger {
         breaks::set(&mut self.breaks, Breakpoint { spot, condition })
     }
 
-    /// Sets a breakpoint at any spot: a position in the code, or words that a step writes or reads. The run stops only
-    /// if the condition is true, if there is one.
+    /// Sets a breakpoint at `spot`: a position in the code, or words that a step writes or reads. If `condition` is not
+    /// `None`, a run stops only if the condition is true.
     ///
-    /// A breakpoint at the same spot is replaced, and its place in the list is unchanged. This is also possible with 64
+    /// A breakpoint at the same spot is replaced, and its index in the list is unchanged. This is also possible with 64
     /// breakpoints.
     ///
     /// # Errors
@@ -179,8 +179,8 @@ impl Debugger {
         breaks::set(&mut self.breaks, new)
     }
 
-    /// Removes the breakpoint at a position in the code, with any condition. If none is set there, returns `NotSet` and
-    /// changes nothing.
+    /// Removes the breakpoint at a position in the code, regardless of its condition. If no breakpoint is at this
+    /// position, returns `NotSet` and changes nothing.
     pub fn clear_break(
         &mut self,
         segment: u8,
@@ -202,8 +202,8 @@ impl Debugger {
         breaks::clear(&mut self.breaks, Spot::Code(place))
     }
 
-    /// Removes the breakpoint at a spot, with any condition. Words must have the same address and number. If none is
-    /// set there, returns `NotSet` and changes nothing.
+    /// Removes the breakpoint at `spot`, regardless of its condition. The words of a spot must have the same address
+    /// and number. If no breakpoint is at `spot`, returns `NotSet` and changes nothing.
     pub fn clear_break_on(&mut self, spot: Spot) -> Result<(), DebugRefusal>
         ensures alone { self.new ≡ record self.old { breaks = self.new.breaks } }
         ensures cleared { OnOk result (without_break spot self.old.breaks ≡ Ok self.new.breaks) }
@@ -213,8 +213,8 @@ impl Debugger {
         breaks::clear(&mut self.breaks, spot)
     }
 
-    /// Watches the word at an even address. A run stops before a step, except its first, if this word has changed since
-    /// the run began. A word that is watched already remains watched.
+    /// Watches the word of memory at the even address `address`. A run stops before a step, except its first, if this
+    /// word has changed since the run began. A word that is watched already remains watched.
     ///
     /// The last run cannot be continued afterwards.
     ///
@@ -236,8 +236,8 @@ impl Debugger {
         Ok(())
     }
 
-    /// Stops watching the word at an address. The last run cannot be continued afterwards. If the word is not watched,
-    /// returns `NotSet` and changes nothing.
+    /// Stops watching the word of memory at `address`. The last run cannot be continued afterwards. If the word is not
+    /// watched, returns `NotSet` and changes nothing.
     pub fn clear_watch(&mut self, address: u16) -> Result<(), DebugRefusal>
         ensures alone { self.new ≡ record self.old { watches = self.new.watches; left = self.new.left } }
         ensures left { OnOk result (self.new.left ≡ Nothing) }
@@ -257,15 +257,15 @@ impl Debugger {
         self.shows_console = shows;
     }
 
-    /// Sets the number of breakpoints that runs may pass over. Each call of `pass` that passes over one uses one of
-    /// them.
+    /// Sets the number of passes: how many breakpoints runs may pass over. Each call of `pass` that passes over a
+    /// breakpoint uses one pass.
     pub fn set_passes(&mut self, passes: u32)
         ensures set { self.new ≡ record self.old { passes = passes } }
     {
         self.passes = passes;
     }
 
-    // Runs at most `limit` steps to a depth.
+    // Runs at most `limit` steps, until the machine is at the destination `depth`.
     #[tactic(auto, unfolding(crate::specs::Runs::gone_to), using(crate::proofs::OnLaws::gave_up_first))]
     fn run_to(&mut self, depth: Depth, limit: u64) -> Result<(u64, BreakReason), AllocError>
         ensures alone { self.new ≡ record self.old { machine = self.new.machine; left = self.new.left } }
@@ -292,13 +292,13 @@ impl Debugger {
     /// Runs at most `limit` steps. The run stops earlier in these cases:
     ///
     /// - A watched word has changed since the run began. This is checked before each step except the first.
-    /// - A breakpoint stops it. This is checked before each step except the first.
+    /// - A breakpoint stops the run. This is checked before each step except the first.
     /// - The program ends.
     /// - A step waits or fails.
     ///
     /// Returns the number of steps that succeeded or ended the program, and the reason of the stop. If several watched
-    /// words have changed, the reason is the first of them in the list. A changed word precedes a breakpoint. A change
-    /// or a breakpoint at the limit is not reported.
+    /// words have changed, the reason is the first of them in the list. If a word has changed and a breakpoint also
+    /// stops the run, the reason is the word. A change or a breakpoint at the limit is not reported.
     ///
     /// After `AllocError` the machine is in the state after the steps that succeeded, and the last run cannot be
     /// continued.
@@ -315,8 +315,9 @@ impl Debugger {
         self.run_to(Depth::Any, limit)
     }
 
-    /// Executes one instruction, and if it is a call, the whole called procedure. The run stops when the machine is in
-    /// the current frame again, or in a frame at a higher address. It also stops as `go` does, and after `limit` steps.
+    /// Executes one instruction. If this instruction is a call, executes the whole called procedure. The run stops when
+    /// the machine is in the current frame again, or in a frame at a higher address. It also stops as `go` does, and
+    /// after `limit` steps.
     pub fn step_over(&mut self, limit: u64) -> Result<(u64, BreakReason), AllocError>
         ensures alone { self.new ≡ record self.old { machine = self.new.machine; left = self.new.left } }
         ensures gone { IfOk result (λ r. gone_over self.old.breaks self.old.watches limit self.old.machine.state
@@ -332,7 +333,7 @@ impl Debugger {
     }
 
     /// Executes the rest of the running procedure and its return. The run stops when the machine is in a frame at a
-    /// higher address than the current one. It also stops as `go` does, and after `limit` steps.
+    /// higher address than the current frame. It also stops as `go` does, and after `limit` steps.
     pub fn finish(&mut self, limit: u64) -> Result<(u64, BreakReason), AllocError>
         ensures alone { self.new ≡ record self.old { machine = self.new.machine; left = self.new.left } }
         ensures gone { IfOk result (λ r. gone_out self.old.breaks self.old.watches limit self.old.machine.state
@@ -347,9 +348,9 @@ impl Debugger {
         self.run_to(depth, limit)
     }
 
-    /// Runs until the machine is at a position in the code, before the instruction there. The position is a segment
-    /// number, a procedure number and an offset in bytes, as of a breakpoint. It is not checked before the first step.
-    /// The run also stops as `go` does, and after `limit` steps.
+    /// Runs until the machine is at a position in the code, before the instruction at this position. The position is a
+    /// segment number, a procedure number and an offset in bytes, as for a breakpoint. It is not checked before the
+    /// first step. The run also stops as `go` does, and after `limit` steps.
     pub fn until(
         &mut self,
         segment: u8,
@@ -378,7 +379,7 @@ impl Debugger {
     /// Continues the last run, which its limit stopped, for at most `limit` more steps. The result is as if the run had
     /// not been stopped:
     ///
-    /// - The returned number is that of the steps of the whole run, at most 18,446,744,073,709,551,615.
+    /// - The returned number is the number of steps of the whole run, at most 18,446,744,073,709,551,615.
     /// - The breakpoints, the watched words and the destination are checked before each step except the first of the
     ///   whole run.
     /// - The watched words are compared with their values when the whole run began.
@@ -409,12 +410,12 @@ impl Debugger {
         }
     }
 
-    /// Passes over the breakpoint that stopped the last run, and uses one pass. The run continues without this stop, up
-    /// to `most` steps of the whole run, and stops at the next breakpoint. It stops at once if it is at its
-    /// destination.
+    /// Passes over the breakpoint that stopped the last run, and uses one pass. The run continues as if this breakpoint
+    /// had not stopped it, up to `most` steps of the whole run, and stops at the next breakpoint. If the machine is at
+    /// the destination of the run, no step is executed.
     ///
-    /// Returns `None` and changes nothing if no breakpoint stopped the last run or no pass is left. After `AllocError`
-    /// the machine is in the state after the steps that succeeded.
+    /// Returns `None` and changes nothing if no breakpoint stopped the last run or if no pass remains. After
+    /// `AllocError` the machine is in the state after the steps that succeeded.
     #[tactic(auto, unfolding(crate::specs::Passes::passed))]
     pub fn pass(&mut self, most: u64) -> Result<Option<(u64, BreakReason)>, AllocError>
         ensures alone { self.new ≡ record self.old {
@@ -446,7 +447,8 @@ impl Debugger {
         Ok(Some(ran))
     }
 
-    /// Returns the words of the stack from SP up, at most `n`, and none from 65,504 on. An `n` of 0 needs no memory.
+    /// Returns at most `n` words of the stack, from SP up. No word is at 65,504 or higher. If `n` is 0, no memory is
+    /// needed.
     #[tactic(auto, unfolding(crate::specs::Views::stack_words))]
     pub fn stack(&self, alloc: Global, n: u16) -> Result<Vec<u16>, AllocError>
         ensures words { IfOk result (λ words. words.items ≡ stack_words self.now.machine.state n) }
@@ -458,8 +460,8 @@ impl Debugger {
         Ok(words)
     }
 
-    /// Returns the frames from MP on along the static links, at most `limit`. If the chain reaches the system's frame
-    /// at 65,492, this frame is the last. A `limit` of 0 needs no memory.
+    /// Returns the addresses of at most `limit` frames. The first is MP, and each static link leads to the next one. If
+    /// the chain reaches the system's frame at 65,492, this frame is the last. If `limit` is 0, no memory is needed.
     ///
     /// # Errors
     ///
@@ -473,7 +475,8 @@ impl Debugger {
         chain(alloc, self.machine.memory(), STATIC_LINK, limit, frame)
     }
 
-    /// Returns the frames from MP on along the dynamic links, with the same limit and errors as `static_chain`.
+    /// Returns the addresses of at most `limit` frames. The first is MP, and each dynamic link leads to the next one.
+    /// The last frame and the errors are those of `static_chain`.
     pub fn dynamic_chain(&self, alloc: Global, limit: u16) -> Result<Vec<u16>, DebugRefusal>
         ensures frames { ShowsChain (λ frames. frames.items) result (dynamic_chain self.now.machine.state limit) }
         ensures wanted { OnErr result (0 < limit) }
@@ -482,8 +485,8 @@ impl Debugger {
         chain(alloc, self.machine.memory(), DYNAMIC_LINK, limit, frame)
     }
 
-    /// Returns variable `b` of the procedure that is `depth` static links up. The running procedure has `depth` 0.
-    /// Nothing changes.
+    /// Returns variable number `b` of the procedure that is `depth` static links up. The running procedure has `depth`
+    /// 0. The call changes nothing.
     ///
     /// # Errors
     ///
@@ -505,7 +508,8 @@ impl Debugger {
         }
     }
 
-    /// Returns the words from an even address on, at most `n`, and none above 65,534. An `n` of 0 needs no memory.
+    /// Returns at most `n` words from the even address `address` on. No word is above 65,534. If `n` is 0, no memory is
+    /// needed.
     ///
     /// # Errors
     ///
@@ -524,7 +528,7 @@ impl Debugger {
         Ok(words)
     }
 
-    /// Returns the bytes from an address on, at most `n`, and none above 65,535.
+    /// Returns at most `n` bytes from `address` on. No byte is above 65,535.
     #[tactic(auto, unfolding(pm_words::specs::Words::bytes_at), using(std::proofs::lemmas::List::take_min))]
     pub fn bytes(&self, address: u16, n: u16) -> &[u8]
         ensures bytes { result.now ≡ bytes_from self.now.machine.state address n }
@@ -533,7 +537,7 @@ impl Debugger {
         &bytes[..(n as usize).min(bytes.len())]
     }
 
-    /// Returns the last bytes of the console output, at most `n`.
+    /// Returns the last `n` bytes of the console output, or the whole output if it is shorter.
     #[tactic(auto, unfolding(crate::specs::Views::console_end))]
     pub fn console(&self, n: u16) -> &[u8]
         ensures bytes { result.now ≡ console_end self.now.machine.state n }
@@ -556,21 +560,21 @@ impl Debugger {
         self.breaks.as_slice()
     }
 
-    /// Returns the addresses of the watched words in the order in which they were set.
+    /// Returns the addresses of the watched words in the order in which they were added.
     pub fn watches(&self) -> &[u16]
         ensures watches { result.now ≡ self.now.watches }
     {
         self.watches.as_slice()
     }
 
-    /// Returns the number of breakpoints that runs may still pass over.
+    /// Returns the number of passes: how many breakpoints runs may still pass over.
     pub fn passes(&self) -> u32
         ensures passes { result ≡ self.now.passes }
     {
         self.passes
     }
 
-    /// Returns the number of steps of the last run if its limit or a breakpoint stopped it, and otherwise 0.
+    /// Returns the number of steps of the last run if its limit or a breakpoint stopped it. Otherwise returns 0.
     pub fn made(&self) -> u64
         ensures made { result ≡ made_of self.now.left }
     {
@@ -587,8 +591,8 @@ impl Debugger {
         self.shows_console
     }
 
-    /// Returns the frames from MP on along the dynamic links, as `dynamic_chain`, each with the position to which it
-    /// returns. A `limit` of 0 needs no memory.
+    /// Returns at most `limit` frames, in the order of `dynamic_chain`. Each frame has the position to which it
+    /// returns. If `limit` is 0, no memory is needed.
     ///
     /// # Errors
     ///
@@ -602,8 +606,8 @@ impl Debugger {
         frames(alloc, self.machine.memory(), limit, frame)
     }
 
-    /// Returns the addresses of the next instructions from IPC on, at most `limit` and none above 65,535. A byte that
-    /// begins no instruction counts as one. A `limit` of 0 needs no memory.
+    /// Returns the addresses of at most `limit` consecutive instructions, the first of which is at IPC. No address is
+    /// above 65,535. A byte that begins no instruction counts as one. If `limit` is 0, no memory is needed.
     pub fn addresses_ahead(&self, alloc: Global, limit: u16) -> Result<Vec<u16>, AllocError>
         ensures addresses { IfOk result (λ addresses.
             addresses.items ≡ addresses_ahead self.now.machine.state limit) }

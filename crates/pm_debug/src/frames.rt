@@ -25,11 +25,11 @@ const CALLER_IPC: u16 = 8;
 pub struct Frame {
     /// The address of the frame.
     pub address: u16,
-    /// The position in the code to which it returns, or `None` if its return ends the program.
+    /// The position in the code to which the frame returns, or `None` if its return ends the program.
     pub returns_to: Option<CodePlace>,
 }
 
-/// Returns the frame at an address, or `None` if the address, or the SEG or JTAB in the frame, is odd.
+/// Returns the frame at `address`, or `None` if `address`, or the SEG or JTAB in the frame, is odd.
 #[tactic(auto, unfolding(crate::specs::Frames::frame_at))]
 fn frame_at(memory: &Memory, address: u16) -> Option<Frame>
     ensures frame { result ≡ frame_at memory.now.words address }
@@ -50,7 +50,8 @@ fn frame_at(memory: &Memory, address: u16) -> Option<Frame>
     })
 }
 
-/// Returns the frames at these addresses, or `OddAddress` if an address has no frame. An empty list needs no memory.
+/// Returns the frames at the given `addresses`, or `OddAddress` if one of them has no frame. If `addresses` is empty,
+/// no memory is needed.
 fn frames_at(alloc: Global, memory: &Memory, addresses: &[u16]) -> Result<Vec<Frame>, DebugRefusal>
     ensures frames { ShowsChain (λ frames. frames.items) result (frames_at memory.now.words addresses.now) }
     ensures wanted { OnErr result (0 < length addresses.now) }
@@ -65,7 +66,8 @@ fn frames_at(alloc: Global, memory: &Memory, addresses: &[u16]) -> Result<Vec<Fr
     Ok(frames)
 }
 
-/// Returns the frames from `first` on along the dynamic links, at most `limit`. A `limit` of 0 needs no memory.
+/// Returns at most `limit` frames. The first is at address `first`, and each dynamic link leads to the next one. If
+/// `limit` is 0, no memory is needed.
 #[tactic(auto, unfolding(crate::specs::Views::chain, crate::specs::Frames::frames_at))]
 pub(crate) fn frames(
     alloc: Global,

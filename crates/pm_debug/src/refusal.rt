@@ -13,7 +13,7 @@ pub enum DebugRefusal {
     /// 1: 64 breakpoints, or 64 watched words, are set already.
     #[error("too many breakpoints or watched words")]
     Full,
-    /// 2: there is no such breakpoint or watched word.
+    /// 2: no such breakpoint or watched word is set.
     #[error("not set")]
     NotSet,
     /// 3: an address that must be read is odd.
@@ -22,10 +22,10 @@ pub enum DebugRefusal {
     /// 4: out of memory.
     #[error("out of memory")]
     NoMemory,
-    /// 5: more than 127 static links.
+    /// 5: more than 127 static links were to be followed.
     #[error("too many static links")]
     TooDeep,
-    /// 6: there is no run to continue.
+    /// 6: no run can be continued.
     #[error("there is no run to continue")]
     NothingLeft,
 }
@@ -66,7 +66,7 @@ impl<T: Drop> From<AllocFailed<T>> for DebugRefusal {
     }
 }
 
-/// Returns the refusal of a read that failed.
+/// Returns the refusal for `error`, the error of a read of memory.
 pub(crate) fn refusal_of(error: ExecError) -> DebugRefusal
     ensures refusal { result ≡ refusal_of error }
 {

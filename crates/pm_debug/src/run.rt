@@ -1,4 +1,5 @@
-//! Runs to a breakpoint, to a watched word that has changed, to a depth of calls, or to a position in the code.
+//! Runs of a machine that stop at a breakpoint, at a watched word that has changed, at a depth of calls, or at a
+//! position in the code.
 
 ghost use Rattle.std.specs.Prelude.{◌≡◌, ◌+◌, ◌-◌, ◌≤◌, List, IfOk, OnErr};
 ghost use Rattle.pm_machine.specs.Runs.{GaveUp};
@@ -17,13 +18,13 @@ use std::alloc::AllocError;
 /// The destination of a run: a depth of calls or a position in the code.
 #[derive(Clone, Copy)]
 pub(crate) enum Depth {
-    /// No destination: the run ends by its limit or by another stop.
+    /// No destination: the run ends at its limit or for another reason.
     Any,
-    /// Until the machine is in the frame at this address again, or in one at a higher address.
+    /// Runs until the machine is in the frame at this address again, or in a frame at a higher address.
     Back(u16),
-    /// Until the frame at this address is left.
+    /// Runs until the frame at this address is left.
     Left(u16),
-    /// Until the machine is at this position in the code.
+    /// Runs until the machine is at this position in the code.
     Place(CodePlace),
 }
 
@@ -32,13 +33,13 @@ pub(crate) enum Depth {
 pub(crate) enum LastRun {
     /// The run cannot be continued.
     Over,
-    /// Its limit stopped it. The fields are its destination and the number of steps executed.
+    /// The limit of the run stopped it. The fields are its destination and the number of steps executed.
     AtLimit(Depth, u64),
-    /// A breakpoint stopped it. The fields are its destination and the number of steps executed.
+    /// A breakpoint stopped the run. The fields are its destination and the number of steps executed.
     AtBreak(Depth, u64),
 }
 
-/// Whether a machine is at the destination of a run.
+/// Whether `machine` is at the destination `depth` of a run.
 fn is_there(machine: &Machine, depth: Depth) -> bool
     ensures there { result ≡ is_there depth machine.now.state }
 {
@@ -57,7 +58,7 @@ struct Stops<'a> {
     watched: &'a [WatchedWord],
     breaks: &'a [Breakpoint],
     depth: Depth,
-    /// The number of steps executed before.
+    /// The number of steps that the run executed before it was continued.
     made: u64,
 }
 
@@ -91,8 +92,8 @@ pub(crate) fn has_ended(status: Status) -> bool
     matches!(status, Status::Ended)
 }
 
-/// Returns the reason why a run stops before a step. A watched word that has changed precedes a breakpoint, and a
-/// breakpoint precedes the destination.
+/// Returns the reason why a run stops before the next step of `machine`. If a watched word has changed, the reason is
+/// this word. Otherwise the reason is a breakpoint if one stops the run, and else the destination.
 fn stopped_so(watched: &[WatchedWord], breaks: &[Breakpoint], machine: &Machine) -> BreakReason
     ensures reason { result ≡ stopped_so watched.now breaks.now machine.now.state }
 {
@@ -103,7 +104,7 @@ fn stopped_so(watched: &[WatchedWord], breaks: &[Breakpoint], machine: &Machine)
     }
 }
 
-/// Returns the reason why a run has ended.
+/// Returns the reason why a run has ended. `end` is how the run of the machine ended.
 fn reason_of(
     watched: &[WatchedWord],
     breaks: &[Breakpoint],
@@ -121,7 +122,8 @@ fn reason_of(
     }
 }
 
-/// Returns the outcome of a run. It can be continued if its limit or a breakpoint stopped it.
+/// Returns the outcome of a run with the destination `depth`. `ran` is its number of steps and the reason of its end.
+/// The run can be continued if its limit or a breakpoint stopped it.
 pub(crate) fn last_run(depth: Depth, ran: (u64, BreakReason)) -> LastRun
     ensures left { (watched : List WatchedWord) → left_seen result watched ≡ left_so depth watched ran.0 ran.1 }
 {
@@ -132,9 +134,9 @@ pub(crate) fn last_run(depth: Depth, ran: (u64, BreakReason)) -> LastRun
     }
 }
 
-/// Executes the rest of a run that has executed `made` steps, at most `limit` more. It stops earlier if a watched word
-/// has changed since the run began, at a breakpoint, or at its destination. The returned number is that of the steps of
-/// the whole run.
+/// Executes at most `limit` more steps of a run that has executed `made` steps. The run stops earlier if a watched word
+/// has changed since the run began, at a breakpoint, or at its destination. The returned number is the number of steps
+/// of the whole run.
 pub(crate) fn run(
     machine: &mut Machine,
     breaks: &[Breakpoint],

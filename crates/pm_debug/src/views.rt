@@ -1,4 +1,4 @@
-//! The stack and the chains of frames.
+//! The words of memory and the chains of frames, as lists.
 
 ghost use Rattle.std.specs.Prelude.{◌≡◌, ◌==◌, ◌||◌, ◌+◌, ◌*◌, ◌%◌, ◌<◌, ◌≤◌, Some, None, IfOk, OnErr, if◌then◌else◌};
 ghost use Rattle.pm_words.specs.Words.{word_at, words_at};
@@ -17,7 +17,7 @@ pub(crate) const STATIC_LINK: u16 = 0;
 /// The offset of MSDYN, the dynamic link, in a frame, in bytes.
 pub(crate) const DYNAMIC_LINK: u16 = 2;
 
-/// Returns `count` words from an even address on. A `count` of 0 needs no memory.
+/// Returns the `count` words of `memory` from the even address `start` on. If `count` is 0, no memory is needed.
 pub(crate) fn words_at(
     alloc: Global,
     memory: &Memory,
@@ -36,14 +36,15 @@ pub(crate) fn words_at(
     Ok(words)
 }
 
-// Whether a frame is the last of a chain of which `more` frames may follow.
+// Whether `frame` is the last frame of a chain of which at most `more` further frames are requested.
 fn is_last(frame: u16, more: u16) -> bool
     ensures last { result ≡ (more == 0 || frame == SYSTEM_FRAME) }
 {
     more == 0 || frame == SYSTEM_FRAME
 }
 
-/// Returns the control word of a frame at an even offset, or `None` if the frame is at an odd address.
+/// Returns the control word at the even offset `distance` of the frame at address `frame`. Returns `None` if `frame` is
+/// odd.
 pub(crate) fn control_word(memory: &Memory, frame: u16, distance: u16) -> Option<u16>
     requires even { distance % 2 ≡ 0 }
     ensures word { result ≡ (if is_even frame then Some
@@ -55,8 +56,8 @@ pub(crate) fn control_word(memory: &Memory, frame: u16, distance: u16) -> Option
     memory.word(frame.wrapping_add(distance))
 }
 
-/// Returns the frames from `first` on, at most `limit`. The word at the even offset `distance` in a frame is the
-/// address of the next frame. The frame of the system is the last.
+/// Returns the addresses of at most `limit` frames. The first is `first`. The word at the even offset `distance` of a
+/// frame is the address of the next frame. The system's frame is the last.
 pub(crate) fn chain(
     alloc: Global,
     memory: &Memory,

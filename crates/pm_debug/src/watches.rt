@@ -1,4 +1,4 @@
-//! Watched words.
+//! Watched words. A watched word is a word of memory whose change stops a run.
 
 ghost use Rattle.std.specs.Prelude.{◌≡◌, ◌≤◌, Ok, Err, IfErr, OnOk, OnErr, is_some, length};
 ghost use Rattle.pm_words.specs.Words.{word_at};
@@ -27,14 +27,14 @@ pub(crate) struct WatchedWord {
 /// The watched words with their values when a run began.
 pub(crate) type WatchedWords = ArrayVec<WatchedWord, MOST_WATCHES>;
 
-/// Whether the word at an address is watched.
+/// Whether the word at the address `wanted` is watched.
 fn is_watched(watches: &[u16], wanted: u16) -> bool
     ensures watched { result ≡ is_watched wanted watches.now }
 {
     watches.iter().any(|known| *known == wanted)
 }
 
-/// Watches the word at an even address. A word that is watched already remains watched.
+/// Adds the even address `new` to `watches`. If the list contains `new` already, it is unchanged.
 ///
 /// # Errors
 ///
@@ -61,7 +61,7 @@ pub(crate) fn set(watches: &mut Watches, new: u16) -> Result<(), DebugRefusal>
     Ok(())
 }
 
-/// Stops watching the word at an address. If it is not watched, returns `NotSet` and changes nothing.
+/// Removes the address `old` from `watches`. If the list does not contain `old`, returns `NotSet` and changes nothing.
 #[tactic(auto, unfolding(crate::specs::Watches::without_watch))]
 pub(crate) fn clear(watches: &mut Watches, old: u16) -> Result<(), DebugRefusal>
     ensures cleared { OnOk result (without_watch old watches.old.items ≡ Ok watches.new.items) }
@@ -75,7 +75,7 @@ pub(crate) fn clear(watches: &mut Watches, old: u16) -> Result<(), DebugRefusal>
     Ok(())
 }
 
-/// Returns the words at these addresses, with the addresses.
+/// Returns the words of `memory` at the addresses `watches`, with these addresses.
 pub(crate) fn watched_words(memory: &Memory, watches: &Watches) -> WatchedWords
     ensures words { result.items ≡ watched_words watches.now.items memory.now.words }
 {
@@ -89,7 +89,8 @@ pub(crate) fn watched_words(memory: &Memory, watches: &Watches) -> WatchedWords
     words
 }
 
-/// Returns the address of the first watched word that has changed.
+/// Returns the address of the first word of `watched` whose value in `memory` has changed, or `None` if none has
+/// changed.
 pub(crate) fn first_changed(watched: &[WatchedWord], memory: &Memory) -> Option<u16>
     ensures first { result ≡ first_changed watched.now memory.now.words }
 {

@@ -19,7 +19,7 @@ apart false b c d = refl
 abbrev Inside : List ℕ → Attributes → ℕ → ℕ → ℕ → Bool
 Inside segment a end at w = nat_le (a.enter + w) at && nat_le (at - w) end
 
--- The next entry and those after it.
+-- All targets from entry `k` on are inside the code if and only if the target of entry `k` is and those after it are.
 next_inside : (segment : List ℕ) (a : Attributes) (end k count w : ℕ) → k < count → w ≡ word_in segment (a.jtab - 10 - 2 * k)
     → are_inside segment a end a.jtab k (count - k) ≡ (Inside segment a end (a.jtab - 10 - 2 * k) w
     && are_inside segment a end a.jtab (k + 1) (count - (k + 1)))

@@ -1,4 +1,4 @@
--- The instruction at an offset of code.
+-- Lemmas about the instruction at an offset of code.
 use Rattle.std.proofs.Common.{◌≡◌, ◌<◌, ◌≤◌, ℕ, ◌+◌, ◌-◌, Bool, true, false, cond, List, ◌++◌, length, take, drop, replicate}
 use Rattle.std.proofs.Common.{Ok, Err, Some, None, refl, sym, ap, ◌∙◌, arith, inl, inr, length-append, length-drop, drop-drop}
 use Rattle.std.proofs.Math.Seq.{drop-append_seam}
@@ -15,11 +15,11 @@ use Rattle.pm_opcode.specs.Reading.{reading}
 use Rattle.pm_opcode.proofs.ReadAgain.{length-named, length-named_by, length-operands}
 use Rattle.pm_disasm.specs.Split.{front, has_zero_padding, item_of, standing_at}
 
--- The bytes from an offset on are those that were put there.
+-- The bytes from offset `at` of `standing_at at bytes` are `bytes`.
 pub drop_standing : (at : ℕ) (bytes : List ℕ) → drop at (standing_at at bytes) ≡ bytes
 drop_standing at bytes = ap (λ n. drop n (replicate at 0 ++ bytes)) (sym (length-replicate at 0)) ∙ drop-append_seam (replicate at 0) bytes
 
--- Only the bytes from the offset on determine the instruction.
+-- If `a` and `b` have the same bytes from offset `at` on, then the same instruction is read at `at`.
 pub same_reading : (a b : List ℕ) (at : ℕ) → drop at a ≡ drop at b → reading a at ≡ reading b at
 unfolding reading
 same_reading a b at e = rw e refl
@@ -40,7 +40,7 @@ clear_count Jumps i h = absurd (true≢false h)
 clear_count Typed i h = elim (cases_Bool (is_sized i.a)) [ inl e ↦ (rw e refl) | inr e ↦ (rw e refl) ]
 clear_count Unassigned i h = refl
 
--- The position of a decoded instruction.
+-- States that instruction `i` at offset `at` has at least one byte and ends inside `bytes`.
 pub record Bounds (bytes : List ℕ) (at : ℕ) (i : Instr) : Type 0 where
   pub some : 0 < i.len
   pub within : at + i.len ≤ length bytes
@@ -82,7 +82,8 @@ named_again bytes at i b = elim (cases_Bool (names_bytes (form_of i.op))) [
   | inr n ↦ rw n refl
 ]
 
--- The instruction at the beginning, if one was decoded.
+-- If instruction `i` was decoded at offset `at` and its padding is zero, then `i` is the instruction at the beginning
+-- of the bytes from `at` on. If its padding is not zero, then the result is `None`.
 pub front_read : (bytes : List ℕ) (at : ℕ) (i : Instr) → reading bytes at ≡ Ok i → IsSpelledAt bytes at i → front at (drop at bytes)
     ≡ cond (has_zero_padding (form_of i.op) (is_odd at) (drop at bytes))
     (Some (record { size = i.len; item = item_of (form_of i.op) i (named_by i bytes) (at + i.len) })) None

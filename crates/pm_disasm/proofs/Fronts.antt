@@ -1,4 +1,4 @@
--- The instruction at the beginning of bytes is an item of these bytes.
+-- The instruction at the beginning of bytes is an item that has these bytes.
 use Rattle.std.proofs.Common.{◌≡◌, ◌<◌, ◌≤◌, ℕ, zero, suc, ◌+◌, ◌-◌, ◌*◌, ◌/◌, ◌%◌, Bool, true, false, cond, ltb, eqb, List, [], ◌∷◌, ◌++◌, length, take}
 use Rattle.std.proofs.Common.{drop, refl, sym, ap, ◌∙◌, subst, arith, inl, inr, append_assoc, length-append, IfSome, IfOk, Option, Some, None, Result, Ok, Err}
 use Rattle.std.specs.Prelude.{◌&&◌, nat_le, ◌==◌}
@@ -27,7 +27,7 @@ use Rattle.pm_disasm.specs.Split.{Front, front, front_by, item_of, has_zero_padd
 use Rattle.pm_disasm.proofs.Read.{IsClear, drop-standing, no_count}
 use Rattle.pm_code.proofs.Sizes.{length-item}
 
--- The bytes of one library, as bytes of the other.
+-- If each element of `bs` is a byte, then this also holds by the definition of the other crate.
 pub as_bytes : (bs : List ℕ) → AllByRecursion IsByte bs → IsBytes bs
 as_bytes [] h = tt
 as_bytes (b ∷ bs) h = (h.0, as_bytes bs h.1)
@@ -50,7 +50,7 @@ standing-bytes : (at : ℕ) (bs : List ℕ) → AllByRecursion IsByte bs → All
 standing-bytes zero bs h = h
 standing-bytes (suc at) bs h = (omega arith, standing-bytes at bs h)
 
--- The first bytes are those of the item.
+-- States that `item` can be at offset `at`, and that its bytes are the first `n` of `bytes`.
 pub record Spells (at : ℕ) (bytes : List ℕ) (n : ℕ) (item : Item ℕ) : Type 0 where
   pub sound : IsItem at item
   pub spelled : item_bytes at item ≡ take n bytes
@@ -61,7 +61,7 @@ pub record Fronts (at : ℕ) (bytes : List ℕ) (f : Front) : Type 0 where
   pub within : f.size ≤ length bytes
   pub item : IfSome f.item (Spells at bytes f.size)
 
--- A padding byte of zero.
+-- If the padding byte `pad` is zero, then the operands are spelled as with padding 0.
 zero_padding : (form : Form) (odd : Bool) (op pad : ℕ) (i : Instr) (named rest : List ℕ)
     → has_zero_padding form odd (op ∷ (spelled_operands form odd pad i named ++ rest)) ≡ true
     → spelled_operands form odd pad i named ≡ spelled_operands form odd 0 i named
@@ -71,7 +71,7 @@ zero_padding forms.Jumps true op pad i named rest h = refl
 zero_padding forms.Jumps false op pad i named rest h = ap (λ n. spelled_operands forms.Jumps false n i named) (eqb-true _ _ h)
 zero_padding _ odd op pad i named rest h = refl
 
--- The position of an instruction does not change its bytes, its ranges and its fields.
+-- The bytes of an instruction do not depend on its position. The same holds for its ranges and its fields.
 alike : (form : Form) (odd : Bool) (i : Instr) (named : List ℕ) → spelled_operands form odd 0 (by_operands i) named ≡ spelled_operands form odd 0 i named
 alike forms.Plain odd i named = refl
 alike _ odd i named = refl
@@ -84,7 +84,7 @@ clear_alike : (form : Form) (i : Instr) → clear form (by_operands i) ≡ by_op
 clear_alike forms.Typed i = elim (cases_Bool (is_sized i.a)) [ inl s ↦ rw s refl | inr s ↦ rw s refl ]
 clear_alike _ i = refl
 
--- An operand that is read from bytes is a word.
+-- If the operands of `i` are bytes, and its form has no target, then `i.a` is a word.
 small_word : (form : Form) (odd : Bool) (i : Instr) (named rest : List ℕ) → names_place form ≡ false
     → AllByRecursion IsByte (spelled_operands form odd 0 i named ++ rest) → in_range form i ≡ true → clear form (by_operands i) ≡ by_operands i → i.a < 65536
 small_word forms.Plain odd i named rest n h r e = omega (arith, ap (λ (j : Instr). j.a) e)
@@ -95,7 +95,7 @@ small_word forms.Sb odd i named rest n h r e = absurd (true≢false n)
 small_word forms.Jumps odd i named rest n h r e = absurd (true≢false n)
 small_word _ odd i named rest n h r e = omega (arith, h.0)
 
--- The properties of an instruction at the beginning of bytes, and of the bytes that it names.
+-- The properties of instruction `i` at the beginning of `bytes`, and of the bytes `named` that belong to it.
 record Known (at : ℕ) (bytes : List ℕ) (i : Instr) (named : List ℕ) : Type 0 where
   rest : List ℕ
   whole : bytes ≡ spelling (is_odd at) 0 i named ++ rest
@@ -106,7 +106,7 @@ record Known (at : ℕ) (bytes : List ℕ) (i : Instr) (named : List ℕ) : Type
   names : AllByRecursion IsByte named
   text : AllByRecursion IsByte (spelling (is_odd at) 0 i named ++ rest)
 
--- Its bytes are the first ones.
+-- The bytes of such an instruction are the first `i.len` of `bytes`.
 known_text : (at : ℕ) (bytes : List ℕ) (i : Instr) (named : List ℕ) → Known at bytes i named → spelling (is_odd at) 0 i named ≡ take i.len bytes
 known_text at bytes i named k =
     let text : List ℕ = spelling (is_odd at) 0 i named in
@@ -132,7 +132,7 @@ plain_fronts at bytes i named n k =
       sized = ap length text ∙ sym k.len;
     }
 
--- The target of a byte has this byte.
+-- If the operand byte `b` has a target, then a short jump can lead to it, and its operand byte is `b`.
 pub target_named : (next b : ℕ) → b < 256 → IfSome (target_of next b) (λ t. IsNear next t × (jump_byte next t ≡ b))
 target_named next b h = elim (cases_lt b 128) [
   | inl low ↦ (let t : ltb b 128 ≡ true = lt-ltb _ _ low in rw t ((omega arith, omega arith), omega arith))
@@ -168,7 +168,7 @@ is_172 : (op : ℕ) → op < 256 → form_of op ≡ forms.Jumps → op ≡ 172
 unfolding is_case
 is_172 op h f = eqb-true op 172 (sym (only_case op h) ∙ ap is_case f)
 
--- The targets of a table have its words.
+-- The table with the targets of the words in `bs` has the bytes `bs`.
 words_named : (k at : ℕ) (bs : List ℕ) → length bs ≡ 2 * k → AllByRecursion IsByte bs → table_words at (table_places at (words_of bs)) ≡ bs
 unfolding words_of
 words_named k at [] n h = refl
@@ -245,7 +245,7 @@ item_fronts forms.Jumps at bytes i named f k = elim (cases_Bool (i.c % 256 == 18
 ]
 item_fronts _ at bytes i named f k = plain_fronts at bytes i named (ap names_place f) k
 
--- The properties of the instruction at an offset.
+-- If instruction `i` is spelled at offset `at` and has zero padding, then it has the properties of `Known`.
 read_known : (at : ℕ) (bytes : List ℕ) (i : Instr) → AllByRecursion IsByte bytes → IsSpelledAt (standing_at at bytes) at i
     → has_zero_padding (form_of i.op) (is_odd at) bytes ≡ true → Known at bytes i (named_by i (standing_at at bytes))
 read_known at bytes i h s z =
@@ -293,14 +293,14 @@ front_read at bytes (Ok i) h s = elim (cases_Bool (has_zero_padding (form_of i.o
   | inr z ↦ rw z tt
 ]
 
--- The instruction at the beginning of bytes is an item of them.
+-- If an instruction is at the beginning of `bytes`, then its item has the first bytes.
 pub fronts : (at : ℕ) (bytes : List ℕ) → AllByRecursion IsByte bytes → IfSome (front at bytes) (Fronts at bytes)
 unfolding front
 fronts at bytes h =
     front_read at bytes (reading (standing_at at bytes) at) h (reading_takes (standing_at at bytes) at
     (as_bytes (standing_at at bytes) (standing-bytes at bytes h)))
 
--- The bytes begin with an instruction that has only the fields of its form.
+-- States that `bytes` begin with an instruction that uses only the fields of its form.
 pub record IsRead (at : ℕ) (bytes : List ℕ) : Type 0 where
   pub instr : Instr
   pub named : List ℕ
@@ -325,7 +325,7 @@ is_read at bytes (Ok i) h s = elim (cases_Bool (has_zero_padding (form_of i.op) 
   | inr z ↦ rw z tt
 ]
 
--- If an instruction is read, the bytes begin with an instruction.
+-- If an instruction is read from `bytes`, then `IsRead` holds.
 pub reads : (at : ℕ) (bytes : List ℕ) → AllByRecursion IsByte bytes → IfSome (front at bytes) (λ f. IsRead at bytes)
 unfolding front
 reads at bytes h =

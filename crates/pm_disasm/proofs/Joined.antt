@@ -1,4 +1,4 @@
--- The items for code have its bytes.
+-- The items that are shown for code have the bytes of the code.
 use Rattle.std.proofs.Common.{◌≡◌, ℕ, zero, suc, ◌+◌, ◌-◌, Bool, true, false, cond, List, [], ◌∷◌, ◌++◌, length, map}
 use Rattle.std.proofs.Common.{take, drop, refl, sym, ap, ◌∙◌, subst, arith, append-nil, IfSome, Option, Some, None}
 use Rattle.std.specs.Prelude.{◌&&◌, nat_lt}
@@ -12,7 +12,7 @@ use Rattle.pm_disasm.specs.Split.{Front, front, uncut, taken, part_of, bytes_aft
 use Rattle.pm_code.proofs.Sizes.{code-append, end-append}
 use Rattle.pm_disasm.proofs.Fronts.{Fronts, Spells, fronts, take-bytes}
 
--- Items of bytes that begin at an offset.
+-- States that `items` have the bytes `bytes`, which begin at offset `at`.
 pub record Joins (at : ℕ) (bytes : List ℕ) (items : List (Item ℕ)) : Type 0 where
   pub sound : AreItems at items
   pub joined : code_bytes at items ≡ bytes
@@ -55,7 +55,7 @@ part_joins boundaries allowed at bytes n (Some item) b e h = chosen (leads bound
     chosen true = record { sound = (h.sound, tt); joined = append-nil (item_bytes at item) ∙ h.spelled; ends = omega (arith, h.sized, e) }
     chosen false = singles_join at (take n bytes) (take-bytes n bytes b)
 
--- The items for code from any offset on.
+-- The items for the parts of `bytes`, without the first `skip` bytes, have these bytes.
 pub joined : (forced boundaries : List ℕ) (allowed : Bool) (skip at : ℕ) (bytes : List ℕ) → AllByRecursion IsByte bytes
     → Joins (at + skip) (drop skip bytes) (written boundaries allowed (parts forced skip at bytes))
 joined forced boundaries allowed zero at [] h = record { sound = tt; joined = refl; ends = omega arith }
@@ -89,7 +89,7 @@ joined forced boundaries allowed zero at (b ∷ bytes) h =
         let zero_more : at ≡ at + 0 = omega arith in
         subst (λ n. Joins n (b ∷ bytes) (w ++ more)) zero_more (subst (λ bs. Joins at bs (w ++ more)) whole all)
 
--- The items for code.
+-- The items that are shown for `code` have the bytes of `code`.
 pub code_joined : (forced : List ℕ) (allowed : Bool) (at : ℕ) (code : List ℕ) → AllByRecursion IsByte code → Joins at code (items_in forced allowed at code)
 code_joined forced allowed at code h =
     let whole : List ℕ = ends_of (at + length code) (parts forced 0 at code) in

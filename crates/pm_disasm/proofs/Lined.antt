@@ -1,4 +1,4 @@
--- Lines of code, item by item.
+-- Lemmas about the lines of code, item by item.
 use Rattle.std.proofs.Common.{◌≡◌, ℕ, ◌+◌, Bool, true, false, List, [], ◌∷◌, ◌++◌, refl, sym}
 use Rattle.std.proofs.Common.{ap, ◌∙◌, append_assoc, append-nil, subst, IfSome, Option, Some, None}
 use Rattle.std.specs.Prelude.{codes, ◌==◌}
@@ -12,7 +12,7 @@ joined_put : (b : Bool) (x : List ℕ) (xs : List (List ℕ)) → joined (put_if
 joined_put true x xs = sym (append_assoc x (10 ∷ []) (joined xs))
 joined_put false x xs = refl
 
--- The lines of an offset, and the lines after them.
+-- The text of the lines at offset `at` and of `rest` is the text of these lines, followed by the text of `rest`.
 pub joined_at : (test : ℕ → Bool) (exit at : ℕ) (rest : List (List ℕ))
     → joined (lines_at_by test exit at rest) ≡ joined (lines_at_by test exit at []) ++ joined rest
 joined_at test exit at rest =
@@ -24,7 +24,7 @@ joined_at test exit at rest =
     ∙ sym (append_assoc (joined (put_if (test at) label [])) (joined mark) (joined rest))
     ∙ ap (λ u. u ++ joined rest) (sym (joined_put (test at) label mark))
 
--- One more item.
+-- If the lines of `item` are appended, then the written text followed by the lines of the remaining items is unchanged.
 pub item_joined : (test : ℕ → Bool) (exit at : ℕ) (before after : List ℕ) (item : Item ℕ) (rest : List (Item ℕ))
     → after ≡ (before ++ joined (lines_at_by test exit at [])) ++ (codes "  " ++ (shown_item item ++ 10 ∷ []))
     → after ++ joined (code_lines_by test exit (at + size at item) rest) ≡ before ++ joined (code_lines_by test exit at (item ∷ rest))
@@ -40,7 +40,7 @@ item_joined test exit at before after item rest e =
     ∙ ap (λ u. before ++ (here ++ u)) (sym split)
     ∙ ap (λ u. before ++ u) (sym (joined_at test exit at ((32 ∷ 32 ∷ shown_item item) ∷ code_lines_by test exit (at + size at item) rest)))
 
--- The item that is shown for a part is that of the part.
+-- If an item is shown for a part, then it is the item of the part.
 pub led_same : (test : ℕ → Bool) (allowed : Bool) (o : Option (Item ℕ)) (i : Item ℕ) → Some i ≡ item_led test allowed o → o ≡ Some i
 led_same test allowed None i e = absurd (cc)
 led_same test allowed (Some j) i e = go (leading test allowed j) refl
@@ -56,7 +56,8 @@ byte_line : (b : ℕ) → codes "  .BYTE " ++ (decimal b ++ 10 ∷ []) ≡ codes
 unfolding shown_item
 byte_line b = ap (λ u. codes "  .BYTE " ++ (u ++ 10 ∷ [])) (sym (append-nil (decimal b)))
 
--- One more byte.
+-- If the line of the byte `b` is appended, then the written text followed by the lines of the remaining items is
+-- unchanged.
 pub byte_joined : (test : ℕ → Bool) (exit at : ℕ) (before after : List ℕ) (b : ℕ) (rest : List (Item ℕ))
     → after ≡ (before ++ joined (lines_at_by test exit at [])) ++ (codes "  .BYTE " ++ (decimal b ++ 10 ∷ []))
     → after ++ joined (code_lines_by test exit (at + 1) rest) ≡ before ++ joined (code_lines_by test exit at (OneByte b ∷ rest))

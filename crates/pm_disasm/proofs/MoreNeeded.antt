@@ -1,4 +1,4 @@
--- Parts that use more entries than there are.
+-- Parts that use more jump table entries than the table has.
 use Rattle.std.proofs.Common.{◌≡◌, ℕ, Bool, true, max, List, [], ◌∷◌, ◌++◌, arith}
 use Rattle.pm_code.specs.Item.{Item}
 use Rattle.pm_code.specs.Program.{entries_needed}
@@ -9,7 +9,7 @@ both_need : (xs ys : List (Item ℕ)) → entries_needed (xs ++ ys) ≡ max (ent
 both_need [] ys = omega arith
 both_need (x ∷ xs) ys = omega (arith, both_need xs ys)
 
--- The entries that a part and the parts after it use.
+-- The number of entries that `p` and the parts `ps` after it need is the maximum of both numbers.
 pub part_needs : (test : ℕ → Bool) (p : Part) (ps : List Part)
     → entries_needed (written_by test true (p ∷ ps))
     ≡ max (entries_needed (items_or_bytes p.bytes (item_led test true p.item))) (entries_needed (written_by test true ps))

@@ -1,4 +1,4 @@
--- The items for parts, part by part.
+-- The number of entries that parts need, computed part by part.
 use Rattle.std.proofs.Common.{◌≡◌, ℕ, Bool, true, max, List, [], ◌∷◌, ◌++◌, map, refl, sym, ap, ◌∙◌, arith, Option, Some, None}
 use Rattle.pm_code.specs.Item.{Item}
 use Rattle.pm_code.specs.Item.Item.{OneByte}
@@ -18,7 +18,7 @@ items_need : (bs : List ℕ) (o : Option (Item ℕ)) (rest : List (Item ℕ)) �
 items_need bs None rest = omega (arith, bytes_need bs rest)
 items_need bs (Some item) rest = refl
 
--- One more part.
+-- If the number for part `p` is included, then the maximum with the number for the remaining parts is unchanged.
 pub needed_step : (test : ℕ → Bool) (p : Part) (ps : List Part) (n u whole : ℕ) (o : Option (Item ℕ)) → o ≡ item_led test true p.item → u ≡ used_by o
     → max n (entries_needed (written_by test true (p ∷ ps))) ≡ whole
     → max (max u n) (entries_needed (written_by test true ps)) ≡ whole

@@ -1,4 +1,4 @@
--- The lowest forced offset after an offset.
+-- Lemmas about the lowest forced offset after an offset.
 use Rattle.std.proofs.Common.{◌≡◌, ◌<◌, ◌≤◌, ◌^◌, ℕ, Bool, true, false, List, [], ◌∷◌, refl, sym, ap, ◌∙◌, ◌+◌, arith, inl, inr, Some, None}
 use Rattle.std.specs.Prelude.{◌&&◌, ◌||◌, nat_lt}
 use Rattle.std.specs.List.{list_any}
@@ -27,7 +27,8 @@ same_any (p ∷ forced) before at next end h l m =
     ap (λ b. b || list_any (lies at end) forced) (same_one before at next end p both.0 l m)
     ∙ ap (λ b. lies before end p || b) (same_any forced before at next end both.1 l m)
 
--- The lowest forced offset after an offset is also the lowest one after each offset before it.
+-- If `next` is the lowest forced offset after `before`, and `at` is from `before` to `next - 1`, then `next` is also
+-- the lowest one after `at`.
 pub still_next : (forced : List ℕ) (before at next : ℕ) → IsNextCut forced before next → before ≤ at → at < next → next < 2 ^ 64 → IsNextCut forced at next
 still_next forced before at next h l m w = λ end e.
     same_any forced before at next end (h next w ∙ le-ltb next next (omega arith)) l m ∙ h end e
@@ -36,7 +37,7 @@ or_more : (a b c : Bool) → ((a || b) || c) ≡ (a || (b || c))
 or_more true b c = refl
 or_more false b c = refl
 
--- A forced offset after `at` that is lower than the lowest one so far is the new lowest one.
+-- If `place` is after `at` and lower than `next`, then `place` replaces `next` as the lowest forced offset.
 pub less_next : (at place next end : ℕ) (rest : Bool) → at < place → place < next
     → (nat_lt place end || rest) ≡ (nat_lt next end || (lies at end place || rest))
 less_next at place next end rest a b =
@@ -49,7 +50,7 @@ less_next at place next end rest a b =
       | inr c ↦ (let t : nat_lt place end ≡ false = le-ltb _ _ c in let u : nat_lt next end ≡ false = le-ltb _ _ (omega (arith, c, b)) in rw (s, t, u) refl)
     ]
 
--- Other forced offsets change nothing.
+-- If `place` is not after `at`, or not lower than `next`, then `next` is still the lowest forced offset.
 pub same_next : (at place next end : ℕ) (rest : Bool) → (at < place → next ≤ place)
     → (nat_lt next end || rest) ≡ (nat_lt next end || (lies at end place || rest))
 same_next at place next end rest h = elim (cases_lt next end) [
@@ -60,7 +61,7 @@ same_next at place next end rest h = elim (cases_lt next end) [
   ])
 ]
 
--- An instruction is used unless the lowest forced offset after its own is before its end.
+-- If the lowest forced offset `next` is before the end of the instruction `f`, then `f` is not used.
 pub cut : (forced : List ℕ) (at next : ℕ) (f : Front) → IsNextCut forced at next → at + f.size < 2 ^ 64 → next < at + f.size → None ≡ uncut forced at (Some f)
 cut forced at next f h w l =
     let t : list_any (lies at (at + f.size)) forced ≡ true = h (at + f.size) w ∙ lt-ltb _ _ l in

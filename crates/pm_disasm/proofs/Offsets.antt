@@ -1,4 +1,5 @@
--- The instruction at the beginning of bytes is the same if more bytes follow, as long as it ends inside the first ones.
+-- If the instruction at the beginning of bytes ends inside the first `n` bytes, then the bytes after them do not
+-- matter.
 use Rattle.std.proofs.Common.{◌≡◌, ◌<◌, ◌≤◌, ℕ, zero, suc, ◌+◌, ◌-◌, Bool, true, false, List, [], ◌∷◌, ◌++◌, length, map, take}
 use Rattle.std.proofs.Common.{drop, get_or, refl, sym, ap, ◌∙◌, arith, append_assoc, length-take-le, Option, Some, None, option_map}
 use Rattle.std.specs.Prelude.{nat_le}
@@ -21,7 +22,7 @@ abbrev size_or : ℕ → Option Front → ℕ
 size_or n None = n
 size_or n (Some f) = f.size
 
--- Bytes that are followed by more bytes are read in the same way.
+-- If `more` follows the bytes of an instruction, then the same instruction is read.
 again : (at : ℕ) (bytes more : List ℕ) (o : Option Front) → IsRead at bytes → front at bytes ≡ o → front at (bytes ++ more) ≡ o
 again at bytes more o r e =
     let s : List ℕ = spelling (is_odd at) 0 r.instr r.named in
@@ -32,7 +33,7 @@ again at bytes more o r e =
     ∙ ap (front at) (sym r.whole)
     ∙ e
 
--- The same holds for the first bytes, if they include the instruction.
+-- If the instruction has at most `m` bytes, then it is also read from the first `m` bytes.
 cut_again : (at m : ℕ) (bytes : List ℕ) (f : Front) → IsRead at bytes → front at bytes ≡ Some f → f.size ≤ m → front at (take m bytes) ≡ Some f
 cut_again at m bytes f r e small =
     let s : List ℕ = spelling (is_odd at) 0 r.instr r.named in
@@ -47,7 +48,7 @@ cut_again at m bytes f r e small =
     ∙ ap (front at) (sym r.whole)
     ∙ e
 
--- The instruction in the first bytes is that in all bytes, if it ends inside the first ones.
+-- The instruction in the first `m` bytes is the one in all bytes if it has at most `m` bytes, else it is `None`.
 pub front_cut : (at m : ℕ) (bytes : List ℕ) → AllByRecursion IsByte bytes → front at (take m bytes) ≡ up_to m (front at bytes)
 front_cut at m bytes h = both (front at (take m bytes)) (front at bytes) refl refl
   where
@@ -79,14 +80,14 @@ pub length-fronts_of : (at : ℕ) (bytes : List ℕ) → length (fronts_of at by
 length-fronts_of at [] = refl
 length-fronts_of at (b ∷ bytes) = ap suc (length-fronts_of (at + 1) bytes)
 
--- The instruction at an offset.
+-- Element `k` of `fronts_of at bytes` is the instruction at byte `k`, whose offset is `at + k`.
 pub fronts_at : (at k : ℕ) (bytes : List ℕ) → k < length bytes → get_or (fronts_of at bytes) k None ≡ front (at + k) (drop k bytes)
 fronts_at at k [] h = absurd (omega (arith, h))
 fronts_at at zero (b ∷ bytes) h = ap (λ n. front n (b ∷ bytes)) (let e : at ≡ at + 0 = omega arith in e)
 fronts_at at (suc k) (b ∷ bytes) h =
     fronts_at (at + 1) k bytes (omega (arith, h)) ∙ ap (λ n. front n (drop k bytes)) (let e : at + 1 + k ≡ at + suc k = omega arith in e)
 
--- The instruction at each offset of a segment determines the instructions in code at the beginning of the segment.
+-- If `fs` has the instruction at each offset of `segment`, then `fs` determines those in the first `end` bytes.
 pub fronts_tell : (fs : List (Option code.Front)) (segment bytes : List ℕ) (end : ℕ) → AreFronts fs segment → AllByRecursion IsByte segment
     → end ≤ length segment → bytes ≡ take end segment → TellFronts fs bytes
 fronts_tell fs segment bytes end a h l e =
@@ -106,7 +107,7 @@ fronts_tell fs segment bytes end a h l e =
           ∙ sym (ap (front at) there ∙ front_cut at (end - at) (drop at segment) (drop-bytes at segment h));
     }
 
--- The instructions so far and the one at this offset, followed by the remaining ones.
+-- If the instruction at offset `at` is appended, then the list followed by the remaining instructions is unchanged.
 pub next_front : (segment : List ℕ) (at : ℕ) (fs : List (Option code.Front)) (f : Option code.Front) (more : List (Option code.Front)) → at < length segment
     → more ≡ fs ++ f ∷ [] → option_map front_seen f ≡ front at (drop at segment)
     → map (option_map front_seen) more ++ fronts_of (at + 1) (drop (at + 1) segment) ≡ map (option_map front_seen) fs ++ fronts_of at (drop at segment)

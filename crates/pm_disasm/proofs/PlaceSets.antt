@@ -1,4 +1,4 @@
--- Sets of offsets, one offset after another.
+-- Lemmas about sets of offsets to which offsets are added one after another.
 use Rattle.std.proofs.Common.{◌≡◌, ◌<◌, ◌≤◌, ℕ, ◌+◌, ◌-◌, ◌*◌, ◌/◌, ◌%◌, Bool, true, false, List, [], ◌∷◌, ◌++◌, length, map, drop}
 use Rattle.std.proofs.Common.{get_or, refl, sym, ap, ◌∙◌, arith, append-nil, append_assoc, zero, suc, Option, Some, None, inl, inr}
 use Rattle.std.specs.Prelude.{◌&&◌, ◌||◌, ◌==◌, nat_le}
@@ -20,7 +20,7 @@ past_end [] n h = refl
 past_end (b ∷ bs) zero h = absurd (omega arith)
 past_end (b ∷ bs) (suc n) h = past_end bs n (omega arith)
 
--- An offset in a set is in its range.
+-- If `place` is in the set `s`, then it is in the range of `s`.
 pub inside : (s : PlaceSet) (place : ℕ) → has s place ≡ true → IsInside s place
 inside s place h =
     let both = and_parts (nat_le s.begin place) (get_or s.marks.items (place - s.begin) false) h in
@@ -41,7 +41,7 @@ shuffle true true c = refl
 shuffle true false c = refl
 shuffle false b c = refl
 
--- One more target of a table.
+-- If the target of word `k` is added to the set, then the set with the remaining targets is unchanged.
 pub table_step : (bs : List ℕ) (at k p q : ℕ) (new old whole : Bool) → 2 * k + 1 < length bs
     → p ≡ (at + 2 * k + 65536 - (get_or bs (2 * k) 0 + 256 * get_or bs (2 * k + 1) 0)) % 65536 → new ≡ ((p == q) || old)
     → (is_among (table_places (at + 2 * k) (words_of (drop (2 * k) bs))) q || old) ≡ whole
@@ -54,7 +54,7 @@ table_step bs at k p q new old whole h e n i =
     ∙ ap (λ ps. is_among ps q || old) (sym (next_place bs at k h))
     ∙ i
 
--- The next target of a table whose targets are in a set, and those after it.
+-- If all targets from word `k` on pass `test`, then the target of word `k` passes it, and those after it do.
 pub table_within : (test : ℕ → Bool) (bs : List ℕ) (at k p : ℕ) → 2 * k + 1 < length bs
     → p ≡ (at + 2 * k + 65536 - (get_or bs (2 * k) 0 + 256 * get_or bs (2 * k + 1) 0)) % 65536
     → list_all test (table_places (at + 2 * k) (words_of (drop (2 * k) bs))) ≡ true
@@ -67,7 +67,7 @@ pub table_done : (bs : List ℕ) (at k q : ℕ) (now whole : Bool) → length bs
     → (is_among (table_places (at + 2 * k) (words_of (drop (2 * k) bs))) q || now) ≡ whole → now ≡ whole
 table_done bs at k q now whole h i = ap (λ ps. is_among ps q || now) (sym (no_place bs at k h)) ∙ i
 
--- One more entry.
+-- If the target `e` of an entry is added to the set, then the set with the remaining targets is unchanged.
 pub entry_step : (es : List ℕ) (e q : ℕ) (new old whole : Bool) → new ≡ ((e == q) || old) → (old || is_among (e ∷ es) q) ≡ whole
     → (new || is_among es q) ≡ whole
 entry_step es e q new old whole n i = ap (λ b. b || is_among es q) n ∙ swap (e == q) old (is_among es q) ∙ i
@@ -101,7 +101,7 @@ items_name : (bs : List ℕ) (o : Option (Item ℕ)) → named_places (items_or_
 items_name bs None = bytes_name bs
 items_name bs (Some item) = append-nil (item_places item)
 
--- One more part.
+-- If the targets of part `p` are added to the set, then the set with the targets of the remaining parts is unchanged.
 pub part_step : (test : ℕ → Bool) (allowed : Bool) (p : Part) (ps : List Part) (q : ℕ) (new old whole : Bool) (o : Option (Item ℕ))
     → o ≡ item_led test allowed p.item → new ≡ (is_among (places_by o) q || old)
     → (old || is_among (named_places (written_by test allowed (p ∷ ps))) q) ≡ whole → (new || is_among (named_places (written_by test allowed ps)) q) ≡ whole

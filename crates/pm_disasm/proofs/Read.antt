@@ -27,7 +27,7 @@ use Rattle.pm_code.proofs.Sizes.{length-table_words, length-item}
 pub drop-standing : (at : ℕ) (bytes : List ℕ) → drop at (standing_at at bytes) ≡ bytes
 drop-standing at bytes = ap (λ n. drop n (standing_at at bytes)) (sym (length-replicate at 0)) ∙ drop-append_seam (replicate at 0) bytes
 
--- A padding byte of zero is recognized.
+-- If an instruction is spelled with a padding byte of zero, then `has_zero_padding` is true.
 padded_zero : (form : Form) (odd : Bool) (i : Instr) (named rest : List ℕ)
     → has_zero_padding form odd (i.op ∷ (spelled_operands form odd 0 i named ++ rest)) ≡ true
 padded_zero forms.Words true i named rest = refl
@@ -36,7 +36,7 @@ padded_zero forms.Jumps true i named rest = refl
 padded_zero forms.Jumps false i named rest = refl
 padded_zero _ odd i named rest = refl
 
--- An instruction whose form names no bytes has none.
+-- If the form of instruction `i` has no bytes that belong to the instruction, then `i.count` is 0.
 pub no_count : (form : Form) (i : Instr) → names_bytes form ≡ false → clear form i ≡ i → i.count ≡ 0
 no_count forms.Chars i n e = absurd (true≢false n)
 no_count forms.Words i n e = absurd (true≢false n)
@@ -51,13 +51,13 @@ nothing_named : (named : List ℕ) → length named ≡ 0 → [] ≡ named
 nothing_named [] e = refl
 nothing_named (x ∷ named) e = absurd (omega arith)
 
--- An instruction with only the fields of its form, and the bytes that it names.
+-- States that instruction `i` uses only the fields of its form, and that the bytes `named` belong to it.
 pub record IsClear (i : Instr) (named : List ℕ) : Type 0 where
   pub ranges : in_range (form_of i.op) i ≡ true
   pub fields : clear (form_of i.op) i ≡ i
   pub count : length named ≡ i.count
 
--- The instruction at an offset.
+-- The instruction `i` with its position and its length, if it begins at offset `at`.
 abbrev pub placed : ℕ → Instr → List ℕ → Instr
 placed at i named = let len = length (spelling (is_odd at) 0 i named) in
     record i { start = cond (names_bytes (form_of i.op)) (at + len - i.count) 0; len = len }
@@ -72,7 +72,7 @@ placed_names at i named rest h =
       | inr n ↦ rw n (nothing_named named (h.count ∙ no_count (form_of i.op) i n h.fields))
     ]
 
--- The result of reading the bytes of such an instruction.
+-- The bytes of such an instruction are read as this instruction, for any bytes after it.
 pub clear_read : (at : ℕ) (i : Instr) (named rest : List ℕ) → IsClear i named
     → front at (spelling (is_odd at) 0 i named ++ rest) ≡ Some (record {
       size = length (spelling (is_odd at) 0 i named);
@@ -98,7 +98,7 @@ clear_read at i named rest h =
     ∙ rw (padded_zero (form_of i.op) (is_odd at) i named rest) (ap
     (λ names. Some (record { size = len; item = item_of (form_of i.op) (placed at i named) names (at + len) })) (placed_names at i named rest h))
 
--- The item of an instruction that names no offset.
+-- If the form of instruction `i` has no target, then its item is the instruction itself.
 plain_item : (form : Form) (i : Instr) (named : List ℕ) (end : ℕ) → names_place form ≡ false → item_of form i named end ≡ Some (Plain (by_operands i) named)
 plain_item forms.Sb i named end n = absurd (true≢false n)
 plain_item forms.Jumps i named end n = absurd (true≢false n)
@@ -107,7 +107,7 @@ plain_item _ i named end n = refl
 by_operands_alone : (i : Instr) → i.start ≡ 0 → i.len ≡ 0 → by_operands i ≡ i
 by_operands_alone i s l = ap (λ n. record i { start = n; len = 0 }) (sym s) ∙ ap (λ n. record i { len = n }) (sym l)
 
--- An item at the beginning of bytes.
+-- The result of reading `item` at the beginning of bytes at offset `at`.
 abbrev pub found : ℕ → Item ℕ → Option Front
 found at item = Some (record { size = size at item; item = Some item })
 
@@ -118,7 +118,7 @@ plain_read at i named rest h =
     ∙ ap (λ item. Some (record { size = len; item = item })) (plain_item (form_of i.op) (placed at i named) named (at + len) h.form
     ∙ ap (λ j. Some (Plain j named)) (by_operands_alone i h.nowhere.0 h.nowhere.1))
 
--- The byte of a target is read as this target.
+-- If a short jump can lead to `target`, then its operand byte is read as `target`.
 pub target_again : (next : ℕ) (target : Target ℕ) → IsNear next target → target_of next (jump_byte next target) ≡ Some target
 target_again next (To place) h =
     let t : ltb (place - next) 128 ≡ true = lt-ltb _ _ (omega (arith, h.0, h.1)) in
@@ -137,7 +137,7 @@ signed_byte-low b h = elim (cases_lt b 128) [
   | inr l ↦ (let t : ltb b 128 ≡ false = le-ltb _ _ l in rw t (omega (arith, h)))
 ]
 
--- A short jump as an instruction.
+-- The instruction of a short jump with the opcode `op` and the operand byte `b`.
 abbrev jump_instr : ℕ → ℕ → Instr
 jump_instr op b = record { op = op; a = signed_byte b; b = 0; c = 0; long = false; start = 0; count = 0; len = 0 }
 
@@ -158,7 +158,7 @@ pub case_form : form_of 172 ≡ forms.Jumps
 unfolding form_of groups
 case_form = refl
 
--- The words of a table lead to its targets.
+-- The words of a table with the targets `places` are read as `places`.
 pub places_again : (at : ℕ) (places : List ℕ) → AllByRecursion (λ place. place < 65536) places → table_places at (words_of (table_words at places)) ≡ places
 unfolding words_of
 places_again at [] h = refl
@@ -168,7 +168,7 @@ places_again at (place ∷ places) h =
     let p : (at + 65536 - w) % 65536 ≡ place = omega (arith, h.0) in
     rw (e, p) (ap (λ ps. place ∷ ps) (places_again (at + 2) places h.1))
 
--- A case jump as an instruction.
+-- The instruction of a case jump with the given bounds, the byte `b` of its UJP, and `count` bytes of its table.
 abbrev case_instr : ℕ → ℕ → ℕ → ℕ → Instr
 case_instr low high b count = record { op = 172; a = low; b = high; c = 185 + 256 * b; long = false; start = 0; count = count; len = 0 }
 

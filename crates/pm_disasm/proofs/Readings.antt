@@ -1,4 +1,4 @@
--- Code, read with a number of jump table entries.
+-- Lemmas about code that is decoded with a number of jump table entries.
 use Rattle.std.proofs.Common.{◌≡◌, ◌<◌, ◌≤◌, ℕ, zero, suc, ◌+◌, ◌-◌, ◌*◌, Bool, true, false, List, [], ◌∷◌, ◌++◌, length, map}
 use Rattle.std.proofs.Common.{take, drop, refl, sym, ap, ◌∙◌, arith, length-drop, length-take-le, subst, IfSome, Option, Some, None}
 use Rattle.std.specs.Prelude.{◌&&◌, ◌==◌, nat_le, codes}
@@ -17,13 +17,13 @@ use Rattle.pm_disasm.specs.Follow.{Follow, code_lines_by, item_led, items_or_byt
 use Rattle.pm_disasm.specs.Chosen.{IsReading, IsTable, are_inside, can_read, forced_with, parts_with}
 use Rattle.pm_disasm.specs.Views.{IsSetOf, has, part_seen}
 
--- The bytes from an offset to an end.
+-- The bytes of the segment from `a.enter` to the end of the code are the code of the procedure `a`.
 pub code_there : (segment : List ℕ) (a : Attributes) (t : ℕ) → a.enter ≤ end_with a t → drop a.enter (take (end_with a t) segment) ≡ code_with segment a t
 code_there segment a t h =
     let size : end_with a t ≡ a.enter + (end_with a t - a.enter) = omega (arith, h) in
     ap (λ n. drop a.enter (take n segment)) size ∙ drop-take a.enter (end_with a t - a.enter) segment
 
--- Each target is inside the code.
+-- If `are_inside` is true, then each target of the `count` entries from `k` on is inside the code.
 pub entries_inside : (segment : List ℕ) (a : Attributes) (end jtab k count : ℕ) → are_inside segment a end jtab k count ≡ true
     → AllByRecursion (λ place. (a.enter ≤ place) × (place ≤ end)) (entry_places segment jtab k count)
 entries_inside segment a end jtab k zero h = tt
@@ -53,7 +53,7 @@ same_part test ends allowed bytes (Some item) e = go (leading (is_among ends) al
     go true h = rw (same ∙ h, h) refl
     go false h = rw (same ∙ h, h) refl
 
--- The items by a test of the boundaries are those by the list of the boundaries.
+-- If `test` holds exactly for the offsets `ends`, then both definitions of the items of `ps` are equal.
 pub same_written : (test : ℕ → Bool) (ends : List ℕ) (allowed : Bool) (ps : List Part) → ((x : ℕ) → test x ≡ is_among ends x)
     → written_by test allowed ps ≡ written ends allowed ps
 same_written test ends allowed [] e = refl
@@ -72,7 +72,8 @@ same_lines test used exit at (item ∷ items) e =
     ap (λ ls. lines_at_by test exit at ((32 ∷ 32 ∷ shown_item item) ∷ ls)) (same_lines test used exit (at + size at item) items e)
     ∙ same_at test used exit at ((32 ∷ 32 ∷ shown_item item) ∷ code_lines used exit (at + size at item) items) e
 
--- The items for code that was read are those of the procedure.
+-- If `r` is the code decoded with `t` entries, then its items are those of the procedure that is decoded with `t`
+-- entries.
 pub items_read : (segment : List ℕ) (a : Attributes) (t : ℕ) (r : Reading) (allowed : Bool) → IsTable segment a → IsReading segment a t r
     → written_by (has r.code.boundaries) allowed (map part_seen r.code.parts.items) ≡ (procedure_with segment a allowed t).items
 items_read segment a t r allowed w h =
@@ -90,7 +91,7 @@ order true false true l n = refl
 order true false false l n = refl
 order false x f l n = refl
 
--- A number of entries fits if the code can be read with it and uses exactly that number.
+-- The number `t` fits if and only if the code can be decoded with `t` entries and its items use exactly `t` entries.
 pub fits_if : (segment : List ℕ) (a : Attributes) (t : ℕ) → a.enter ≤ a.exit
     → fits segment a t ≡ (can_read segment a t && (t == entries_needed (procedure_with segment a true t).items))
 fits_if segment a t h =
@@ -105,7 +106,7 @@ fits_if segment a t h =
 abbrev parts_from : List ℕ → ℕ → List ℕ → List Part
 parts_from fs begin bs = parts fs 0 begin (drop begin bs)
 
--- The parts of code that begins at an offset, with their offsets.
+-- States that `r` has the parts and the boundaries of the bytes `bs` from offset `begin` on.
 pub record Pieces (fs bs : List ℕ) (r : Reading) (begin : ℕ) : Type 0 where
   pub parts : map part_seen r.code.parts.items ≡ parts fs 0 begin (drop begin bs)
   pub boundaries : IsSetOf r.code.boundaries (ends_of (length bs) (parts_from fs begin bs))
@@ -140,7 +141,7 @@ reading_from segment a t r fs bs w short f e room within same_forced same_bytes 
           (entries_inside segment a (end_with a t) a.jtab 0 t within);
     }
 
--- The result of reading, from its parts.
+-- If `r` has the right forced offsets, end, parts and boundaries, then `r` is the code decoded with `t` entries.
 pub is_reading : (segment : List ℕ) (a : Attributes) (t : ℕ) (r : Reading) (fs bs : List ℕ) (begin : ℕ) → begin ≡ a.enter → IsTable segment a
     → length segment ≤ 65534 → r.forced.items ≡ forced_with segment a t → r.end ≡ end_with a t → a.enter + 8 + 2 * t ≤ a.jtab
     → are_inside segment a (end_with a t) a.jtab 0 t ≡ true
@@ -148,7 +149,7 @@ pub is_reading : (segment : List ℕ) (a : Attributes) (t : ℕ) (r : Reading) (
 is_reading segment a t r fs bs begin at w short f e room within same_forced same_bytes ps =
     reading_from segment a t r fs bs w short f e room within same_forced same_bytes (subst (Pieces fs bs r) at ps)
 
--- The lowest number of entries that fits.
+-- If no number below `k` fits and `k` fits, then the shown procedure is the one that is decoded with `k` entries.
 pub count_fits : (segment : List ℕ) (a : Attributes) (k : ℕ) → k < 61 → true ≡ fits segment a k → least_from segment a k (61 - k) ≡ least_from segment a 0 61
     → procedure_of segment a ≡ procedure_with segment a true k
 unfolding procedure_of
@@ -203,7 +204,7 @@ is_taken segment a t n r w h s c e d =
     let same : (t == entries_needed (procedure_with segment a true t).items) ≡ true = eq-eqb _ _ (sym d ∙ m) in
     sym (fits_if segment a t h ∙ rw (c, same) refl)
 
--- A number of entries does not fit if more are used for any test of boundaries.
+-- If the items use more than `t` entries for any test of boundaries, then `t` does not fit.
 pub more_taken : (segment : List ℕ) (a : Attributes) (t : ℕ) (fs bs : List ℕ) → a.enter ≤ a.exit → a.enter ≤ end_with a t
     → fs ≡ forced_with segment a t → bs ≡ take (end_with a t) segment
     → ((test : ℕ → Bool) → t < entries_needed (written_by test true (parts fs 0 a.enter (drop a.enter bs))))

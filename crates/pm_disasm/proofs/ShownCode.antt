@@ -1,4 +1,4 @@
--- The text of a procedure, from its pieces.
+-- The text of a procedure, composed of its pieces.
 use Rattle.std.proofs.Common.{◌≡◌, ◌≤◌, ℕ, Bool, List, [], ◌∷◌, ◌++◌, map, refl, sym, ap, ◌∙◌, arith, append_assoc}
 use Rattle.std.specs.Prelude.{codes, ◌||◌}
 use Rattle.std.specs.Fmt.{decimal}
@@ -19,7 +19,7 @@ pub joined-append : (xs ys : List (List ℕ)) → joined (xs ++ ys) ≡ joined x
 joined-append [] ys = refl
 joined-append (x ∷ xs) ys = ap (λ u. x ++ (10 ∷ u)) (joined-append xs ys) ∙ sym (append_assoc x (10 ∷ joined xs) (joined ys))
 
--- The targets of the entries are inside the range of the code.
+-- If `r` is the code decoded with `t` entries, then each target of these entries is in the range of `s`.
 pub inside_code : (segment : List ℕ) (a : Attributes) (t : ℕ) (r : Reading) (s : PlaceSet) → IsReading segment a t r → IsAlike s r.code.boundaries
     → AllByRecursion (IsInside s) (entry_places segment a.jtab 0 t)
 inside_code segment a t r s h e = go (entry_places segment a.jtab 0 t) h.inside
@@ -28,7 +28,8 @@ inside_code segment a t r s h e = go (entry_places segment a.jtab 0 t) h.inside
     go [] k = tt
     go (p ∷ ps) k = ((omega (arith, e.0, h.begin, k.0.0), omega (arith, e.0, e.1, h.begin, h.size, h.order, k.0.0, k.0.1)), go ps k.1)
 
--- The offsets that a procedure's text names.
+-- If the targets of the entries are added to the targets of the items, then the set has the labels of the procedure's
+-- text.
 pub places_read : (segment : List ℕ) (a : Attributes) (t : ℕ) (r : Reading) (allowed : Bool) (before after : PlaceSet) → IsTable segment a
     → IsReading segment a t r
     → ((p : ℕ) → has before p ≡ is_among (named_places (written_by (has r.code.boundaries) allowed (map part_seen r.code.parts.items))) p)
@@ -40,7 +41,7 @@ places_read segment a t r allowed before after w h b e place =
     ∙ ap (λ v. v || is_among entries place) (b place ∙ ap (λ items. is_among (named_places items) place) (items_read segment a t r allowed w h))
     ∙ sym (among-append (named_places (procedure_with segment a allowed t).items) entries place)
 
--- The whole text of a procedure.
+-- The text of a whole procedure is the header, the lines of its code, the lines of its entries, and `.END`.
 pub procedure_joined : (segment : List ℕ) (a : Attributes) (t number : ℕ) (r : Reading) (allowed : Bool) (named : PlaceSet) (header : List ℕ)
     → IsTable segment a → IsReading segment a t r
     → IsSetOf named (named_places (procedure_with segment a allowed t).items ++ (procedure_with segment a allowed t).entries)
@@ -61,7 +62,7 @@ procedure_joined segment a t number r allowed named header w h s e =
     ∙ ap (λ ls. header ++ (10 ∷ (joined ls ++ (joined entries ++ (codes ".END" ++ 10 ∷ []))))) (sym same)
     ∙ sym (append_assoc header (10 ∷ []) _)
 
--- Four pieces of text are appended.
+-- If four pieces are appended one after another, then their concatenation is appended.
 pub four_pieces : (t0 t1 t2 t3 t4 p1 p2 p3 p4 : List ℕ) → t1 ≡ t0 ++ p1 → t2 ≡ t1 ++ p2 → t3 ≡ t2 ++ p3 → t4 ≡ t3 ++ p4 → t4 ≡ t0 ++ (p1 ++ (p2 ++ (p3 ++ p4)))
 four_pieces t0 t1 t2 t3 t4 p1 p2 p3 p4 a b c d =
     d ∙ ap (λ t. t ++ p4) c ∙ append_assoc t2 p3 p4

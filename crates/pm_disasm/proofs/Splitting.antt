@@ -1,4 +1,4 @@
--- Code divided into parts.
+-- Lemmas about code that is divided into parts.
 use Rattle.std.proofs.Common.{◌≡◌, ◌<◌, ◌≤◌, ℕ, zero, suc, ◌+◌, ◌-◌, Bool, true, false, List, [], ◌∷◌, length, drop, get_or, refl}
 use Rattle.std.proofs.Common.{sym, ap, ◌∙◌, arith, drop-cons, drop-drop, take, subst, length-take-le, IfSome, Option, Some, None}
 use Rattle.std.specs.List.{AllByRecursion}
@@ -10,14 +10,14 @@ use Rattle.pm_disasm.proofs.Joined.{still}
 use Rattle.pm_code.specs.Program.{is_among}
 use Rattle.pm_disasm.specs.Split.{Front, Part, bytes_after_first, ends_of, front, part_of, parts, taken}
 
--- Bytes that belong to a part before are skipped.
+-- The parts without the first `skip` bytes are the parts of the bytes after them.
 pub parts_behind : (forced : List ℕ) (skip at : ℕ) (bytes : List ℕ) → parts forced skip at bytes ≡ parts forced 0 (at + skip) (drop skip bytes)
 parts_behind forced zero at bytes = ap (λ n. parts forced 0 n bytes) (let e : at ≡ at + 0 = omega arith in e)
 parts_behind forced (suc skip) at [] = refl
 parts_behind forced (suc skip) at (b ∷ bytes) =
     parts_behind forced skip (at + 1) bytes ∙ ap (λ n. parts forced 0 n (drop skip bytes)) (let e : at + 1 + skip ≡ at + suc skip = omega arith in e)
 
--- The parts from an offset on are the part there, followed by the parts after it.
+-- The parts from offset `at` on are the part at `at`, followed by the parts after it.
 pub next_part : (forced bytes : List ℕ) (at n : ℕ) (p : Part) → at < length bytes → p ≡ part_of at (drop at bytes) (taken forced at (drop at bytes))
     → bytes_after_first (taken forced at (drop at bytes)) + 1 ≡ n
     → parts forced 0 at (drop at bytes) ≡ p ∷ parts forced 0 (at + n) (drop (at + n) bytes)
@@ -43,7 +43,8 @@ shuffle true true c = refl
 shuffle true false c = refl
 shuffle false b c = refl
 
--- The offsets of these parts.
+-- If the offset of the part at `at` is added to the set, then the set with the offsets of the remaining parts is
+-- unchanged.
 pub next_places : (forced bytes : List ℕ) (at n end place : ℕ) (p : Part) (before : Bool) → p ≡ part_of at (drop at bytes) (taken forced at (drop at bytes))
     → parts forced 0 at (drop at bytes) ≡ p ∷ parts forced 0 (at + n) (drop (at + n) bytes)
     → (((at == place) || before) || is_among (ends_of end (parts forced 0 (at + n) (drop (at + n) bytes))) place)
@@ -55,7 +56,7 @@ next_places forced bytes at n end place p before same next =
     ∙ ap (λ k. before || ((k == place) || is_among (ends_of end rest) place)) (sym here)
     ∙ ap (λ ps. before || is_among (ends_of end ps) place) (sym next)
 
--- The parts are adjacent, and each item has the size of its bytes.
+-- The parts of `bytes` are adjacent, and each item has the size of the bytes of its part.
 pub parts_follow : (forced : List ℕ) (skip at : ℕ) (bytes : List ℕ) → AllByRecursion IsByte bytes → skip ≤ length bytes
     → Follow (at + skip) (at + length bytes) (parts forced skip at bytes)
 parts_follow forced zero at [] h s = refl

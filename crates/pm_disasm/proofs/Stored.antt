@@ -1,4 +1,4 @@
--- A jump table in a segment.
+-- Lemmas about a jump table in a segment.
 use Rattle.std.proofs.Common.{◌≡◌, ◌≤◌, ℕ, zero, suc, ◌+◌, ◌-◌, ◌*◌, ◌/◌, ◌%◌, true, List, [], ◌∷◌, ◌++◌, length, take}
 use Rattle.std.proofs.Common.{drop, get_or, reverse, refl, sym, ap, ◌∙◌, arith, append_assoc, length-drop, drop-drop}
 use Rattle.std.specs.Prelude.{nat_le}
@@ -27,7 +27,7 @@ word_first : (w : ℕ) (rest : List ℕ) → word_in (spelled_word w ++ rest) 0 
 unfolding word_in
 word_first w rest = omega arith
 
--- A word after other bytes.
+-- If the bytes of the word `w` follow `xs` in the segment, then the word at this offset is `w`.
 pub stored_word : (segment xs rest : List ℕ) (at p w : ℕ) → drop at segment ≡ xs ++ (spelled_word w ++ rest) → p ≡ at + length xs → word_in segment p ≡ w
 stored_word segment xs rest at p w e f =
     ap (word_in segment) f
@@ -37,12 +37,12 @@ stored_word segment xs rest at p w e f =
     ∙ word_in-right xs (spelled_word w ++ rest) (length xs) 0 refl
     ∙ word_first w rest
 
--- The jump table from entry `k` on, with the bytes after it, and its position.
+-- States that the segment has the jump table `places`, from entry `k` on, at offset `at`, and that `rest` follows it.
 pub record Table (segment : List ℕ) (at jtab k : ℕ) (places rest : List ℕ) : Type 0 where
   pub there : drop at segment ≡ entry_bytes at (reverse places) ++ rest
   pub ends : jtab ≡ at + 2 * length places + 8 + 2 * k
 
--- The first entry, and the table of the other entries.
+-- The first word of the table is the distance from its own offset to `place`.
 pub first_word : (segment : List ℕ) (at jtab k place : ℕ) (places rest : List ℕ) → Table segment at jtab k (place ∷ places) rest
     → word_in segment (jtab - 10 - 2 * k) ≡ (jtab - 10 - 2 * k) - place
 first_word segment at jtab k place places rest t =
@@ -62,7 +62,8 @@ other_words segment at jtab k place places rest t = record {
   ends = omega (arith, t.ends);
 }
 
--- The first entries of a table are read correctly.
+-- If the table contains `places`, and `t` is at most their number, then the first `t` entries are read as `take t
+-- places`.
 pub entries_read : (segment : List ℕ) (at jtab k t : ℕ) (places rest : List ℕ) → Table segment at jtab k places rest → t ≤ length places
     → AllByRecursion (λ place. place ≤ at) places → entry_places segment jtab k t ≡ take t places
 entries_read segment at jtab k zero places rest h n l = refl
@@ -73,7 +74,7 @@ entries_read segment at jtab k (suc t) (place ∷ places) rest h n l =
     rw one (ap (λ ps. place ∷ ps) (entries_read segment at jtab (k + 1) t places (back_to (at + 2 * length places) place ++ rest)
     (other_words segment at jtab k place places rest h) (omega arith) l.1))
 
--- No target is before the code.
+-- If each target is in the code, then no target of the first `t` entries is before the code.
 pub entries_after : (segment : List ℕ) (enter at jtab k t : ℕ) (places rest : List ℕ) → Table segment at jtab k places rest → t ≤ length places
     → AllByRecursion (λ place. (enter ≤ place) × (place ≤ at)) places → are_after segment enter jtab k t ≡ true
 entries_after segment enter at jtab k zero places rest h n l = refl
@@ -84,7 +85,7 @@ entries_after segment enter at jtab k (suc t) (place ∷ places) rest h n l =
     (entries_after segment enter at jtab (k + 1) t places (back_to (at + 2 * length places) place ++ rest) (other_words segment at jtab k place places rest h)
     (omega arith) l.1)
 
--- The bytes of a word are the word.
+-- The bytes of the word that is read from the first two of `bs` are these two bytes.
 word_of_bytes : (bs : List ℕ) → 2 ≤ length bs → AllByRecursion IsByte bs → spelled_word (word_in bs 0) ≡ take 2 bs
 unfolding word_in
 word_of_bytes [] n h = absurd (omega arith)
@@ -104,7 +105,7 @@ pub length-entry_places : (segment : List ℕ) (jtab k t : ℕ) → length (entr
 length-entry_places segment jtab k zero = refl
 length-entry_places segment jtab k (suc t) = omega (arith, length-entry_places segment jtab (k + 1) t)
 
--- Entries that are read have the bytes from which they are read.
+-- If `t` entries are read from a segment, then the bytes of these entries are the bytes from which they are read.
 pub entries_again : (segment : List ℕ) (enter at jtab k t : ℕ) → jtab ≡ at + 2 * t + 8 + 2 * k → jtab ≤ length segment → AllByRecursion IsByte segment
     → are_after segment enter jtab k t ≡ true → entry_bytes at (reverse (entry_places segment jtab k t)) ≡ take (2 * t) (drop at segment)
 entries_again segment enter at jtab k zero e n h a = refl

@@ -1,4 +1,4 @@
--- The listing of a code file, line by line.
+-- Lemmas about the listing of a code file, line by line.
 use Rattle.std.proofs.Common.{◌≡◌, ◌<◌, ℕ, zero, suc, ◌+◌, ◌-◌, ◌*◌, Bool, List, [], ◌∷◌}
 use Rattle.std.proofs.Common.{◌++◌, append_assoc, append-nil, arith, drop, get_or, length, map, refl, reverse, sym, ap, ◌∙◌, take}
 use Rattle.std.specs.Prelude.{codes}
@@ -20,12 +20,12 @@ use Rattle.pm_disasm.specs.Views.{has, part_seen}
 use Rattle.pm_disasm.proofs.Readings.{items_read}
 use Rattle.pm_disasm.proofs.Stored.{length-entry_places}
 
--- One more line.
+-- If `line` is appended, then the written text followed by the remaining lines is unchanged.
 pub line_stored : (slot : ℕ) (line : Listed) (before after : List ℕ) (rest : List Listed) → after ≡ before ++ listed_line slot line
     → after ++ listed_lines slot rest ≡ before ++ listed_lines slot (line ∷ rest)
 line_stored slot line before after rest e = ap (λ u. u ++ listed_lines slot rest) e ∙ append_assoc before (listed_line slot line) (listed_lines slot rest)
 
--- One more item.
+-- If the line of `item` is appended, then the written text followed by the lines of the remaining items is unchanged.
 pub item_stored : (slot : ℕ) (segment : List ℕ) (number at count : ℕ) (item : Item ℕ) (rest : List (Item ℕ)) (before after : List ℕ) → size at item ≡ count
     → after ≡ before ++ listed_line slot (stored segment number at count (shown_item item))
     → after ++ listed_lines slot (stored_items segment number (at + count) rest) ≡ before ++ listed_lines slot (stored_items segment number at (item ∷ rest))
@@ -33,14 +33,15 @@ item_stored slot segment number at count item rest before after sized e =
     line_stored slot (stored segment number at count (shown_item item)) before after (stored_items segment number (at + count) rest) e
     ∙ ap (λ n. before ++ listed_lines slot (stored segment number at n (shown_item item) ∷ stored_items segment number (at + n) rest)) (sym sized)
 
--- The lines of two lists.
+-- The text of the lines `xs ++ ys` is the text of `xs` followed by the text of `ys`.
 pub lines_joined : (slot : ℕ) (xs ys : List Listed) → listed_lines slot (xs ++ ys) ≡ listed_lines slot xs ++ listed_lines slot ys
 lines_joined slot [] ys = refl
 lines_joined slot (x ∷ xs) ys =
     ap (λ u. listed_line slot x ++ u) (lines_joined slot xs ys)
     ∙ sym (append_assoc (listed_line slot x) (listed_lines slot xs) (listed_lines slot ys))
 
--- One more entry.
+-- If the line of one entry is appended, then the written text followed by the lines of the remaining entries is
+-- unchanged.
 pub entry_stored : (slot : ℕ) (segment : List ℕ) (number at count done : ℕ) (entries : List ℕ) (before after whole : List ℕ) → done < count
     → count ≡ length entries
     → after ≡ before ++ listed_line slot (stored segment number (at + 2 * done) 2 (entry_line (get_or entries (count - 1 - done) 0)))
@@ -55,7 +56,8 @@ entry_stored slot segment number at count done entries before after whole more l
     ∙ ap (λ ps. before ++ listed_lines slot (stored_entries segment number (at + 2 * done) ps)) (sym (last_first entries count done more long))
     ∙ all
 
--- The lines of one more procedure.
+-- If the lines of one procedure are appended, then the written text followed by the lines of the remaining procedures
+-- is unchanged.
 pub next_listed : (slot : ℕ) (segment : List ℕ) (done count : ℕ) (after before whole lines : List ℕ) → done < count
     → table_listing_or slot segment (done + 1) (attributes_in segment (done + 1)) ≡ lines → after ≡ before ++ lines
     → before ++ tables_listing slot segment (done + 1) (count - done) ≡ whole
@@ -69,7 +71,8 @@ next_listed slot segment done count after before whole lines h e t i =
     ∙ ap (λ n. before ++ tables_listing slot segment (done + 1) n) (sym more)
     ∙ i
 
--- The lines of one more slot.
+-- If the lines of one slot are appended, then the written text followed by the lines of the remaining slots is
+-- unchanged.
 pub slot_listed : (file : List ℕ) (n : ℕ) (after before whole : List ℕ) → n < 16 → after ≡ before ++ slot_listing n (segment_in file n)
     → before ++ slots_listing file n (16 - n) ≡ whole → after ++ slots_listing file (n + 1) (16 - (n + 1)) ≡ whole
 slot_listed file n after before whole h t i =
@@ -81,7 +84,8 @@ slot_listed file n after before whole h t i =
     ∙ ap (λ k. before ++ slots_listing file n k) (sym more)
     ∙ i
 
--- The lines of a procedure, from those of its parts.
+-- If the lines of the items, of the jump table and of the attributes were appended, then all lines of the procedure
+-- were.
 pub procedure_stored : (slot : ℕ) (segment : List ℕ) (a : Attributes) (t : ℕ) (r : Reading) (allowed : Bool) (t0 t1 t2 t3 : List ℕ)
     → IsTable segment a → IsReading segment a t r
     → t1 ≡ t0 ++ listed_lines slot (stored_items segment a.procedure a.enter (written_by (has r.code.boundaries) allowed (map part_seen r.code.parts.items)))
@@ -114,7 +118,7 @@ taken zero xs = refl
 taken (suc n) [] = refl
 taken (suc n) (x ∷ xs) = ap (λ ys. x ∷ ys) (taken n xs)
 
--- A line whose bytes are in the segment at its offset.
+-- Is true if the bytes of line `l` are those of `segment` at the offset in the line.
 abbrev Stands : List ℕ → Listed → Type 0
 Stands segment l = l.bytes ≡ take (length l.bytes) (drop l.at segment)
 

@@ -1,4 +1,4 @@
--- An attribute table that is found is inside its segment.
+-- If an attribute table is found in a segment, then it is inside the segment.
 use Rattle.std.proofs.lemmas.List.{reverse-append, reverse-reverse, take_more}
 use Rattle.pm_disasm.specs.Shown.{cut, slot_lines, slots_lines, table_lines_or, tables_lines}
 use Rattle.pm_code.specs.Shown.{joined}
@@ -15,7 +15,7 @@ use Rattle.pm_codefile.specs.Dictionary.{segment_in, slot_in, word_in}
 use Rattle.pm_codefile.specs.Segments.{◌>>=◌, attributes_in, demanded, less_or_none, procedures_in}
 use Rattle.pm_disasm.specs.Chosen.{IsTable}
 
--- The result of a step after a step that succeeded.
+-- If `o >>= f` is `Some b`, then `o` is some `x`, and `f x` is `Some b`.
 bound : {A B : Type 0} (o : Option A) (f : A → Option B) (b : B) → (o >>= f) ≡ Some b → (x : A) × (o ≡ Some x) × (f x ≡ Some b)
 bound None f b e = absurd (cc)
 bound (Some x) f b e = (x, refl, e)
@@ -24,7 +24,7 @@ given_true : (b : Bool) (u : Unit {0}) → demanded b ≡ Some u → b ≡ true
 given_true true u e = refl
 given_true false u e = absurd (cc)
 
--- A difference that exists.
+-- If `less_or_none a b` is `Some c`, then `b` is at most `a`, and `c` is `a - b`.
 less_some : (a b c : ℕ) → less_or_none a b ≡ Some c → (b ≤ a) × (c ≡ a - b)
 less_some a b c e = go (nat_le b a) refl
   where
@@ -72,14 +72,14 @@ table_lies segment p a e =
           ∙ ap (λ j. cast_unsigned w8 (cast_signed w8 (slice_index segment (j + 1)))) jtab ∙ of_z-to_z w8 (slice_index segment (a.jtab + 1)) h;
     }
 
--- One space less.
+-- If character `n` is a space, then the first `n` and the first `n + 1` characters are equal without spaces at the end.
 pub cut_space : (xs : List ℕ) (n : ℕ) → n < length xs → get_or xs n 0 ≡ 32 → reverse (cut (reverse (take n xs))) ≡ reverse (cut (reverse (take (n + 1) xs)))
 cut_space xs n h e =
     let last : reverse (take (n + 1) xs) ≡ get_or xs n 0 ∷ reverse (take n xs) =
     ap reverse (take_more xs n 0 h) ∙ reverse-append (take n xs) (get_or xs n 0 ∷ []) in
     sym (ap (λ cs. reverse (cut cs)) (last ∙ ap (λ c. c ∷ reverse (take n xs)) e))
 
--- No space at the end.
+-- If character `n` is not a space, then the first `n + 1` characters have no space at their end.
 pub cut_none : (xs : List ℕ) (n : ℕ) → n < length xs → (get_or xs n 0 ≡ 32 → ⊥) → reverse (cut (reverse (take (n + 1) xs))) ≡ take (n + 1) xs
 cut_none xs n h e =
     let last : reverse (take (n + 1) xs) ≡ get_or xs n 0 ∷ reverse (take n xs) =
@@ -91,7 +91,8 @@ cut_none xs n h e =
     go true f = absurd (e (eqb-true _ _ f))
     go false f = rw f refl
 
--- The lines of one more procedure.
+-- If the lines of one procedure are appended, then the written text followed by the lines of the remaining procedures
+-- is unchanged.
 pub next_table : (segment : List ℕ) (done count : ℕ) (after before whole : List ℕ) (lines : List (List ℕ)) → done < count
     → table_lines_or segment (done + 1) (attributes_in segment (done + 1)) ≡ lines → after ≡ before ++ joined lines
     → before ++ joined (tables_lines segment (done + 1) (count - done)) ≡ whole
@@ -110,14 +111,15 @@ there : {A : Type 0} (b : Bool) (x : A) → b ≡ false → cond b None (Some x)
 there true x e f = absurd (cc)
 there false x e f = absurd (cc)
 
--- Each of the 16 slots exists.
+-- If `n` is below 16, then slot `n` exists.
 pub slot_there : (file : List ℕ) (n : ℕ) → n < 16 → slot_in file n ≡ None → ⊥
 unfolding slot_in
 slot_there file n h e =
     let low : nat_lt 15 n ≡ false = le-ltb _ _ (omega arith) in
     there (nat_lt 15 n) _ low e
 
--- The lines of one more slot.
+-- If the lines of one slot are appended, then the written text followed by the lines of the remaining slots is
+-- unchanged.
 pub next_slot : (file : List ℕ) (n : ℕ) (after before whole : List ℕ) → n < 16
     → after ≡ before ++ joined (slot_lines n (name_of (slot_in file n)) (segment_in file n))
     → before ++ joined (slots_lines file n (16 - n)) ≡ whole → after ++ joined (slots_lines file (n + 1) (16 - (n + 1))) ≡ whole

@@ -1,4 +1,4 @@
--- A number of entries that no instruction uses fits no procedure.
+-- If no instruction of a segment uses a number of entries, then this number fits no procedure of the segment.
 use Rattle.std.proofs.Common.{◌≡◌, ◌<◌, ◌≤◌, ℕ, zero, suc, ◌+◌, ◌-◌, ◌*◌, Bool, true, false, max, List, [], ◌∷◌, ◌++◌, length, map, take, drop, get_or}
 use Rattle.std.proofs.Common.{refl, sym, ap, ◌∙◌, subst, arith, drop-drop, length-drop, length-take-le, inl, inr, Option, Some, None, option_map}
 use Rattle.std.specs.Prelude.{◌&&◌, ◌==◌, nat_le, nat_lt}
@@ -19,7 +19,7 @@ use Rattle.pm_disasm.specs.Views.{front_seen, has}
 use Rattle.pm_disasm.proofs.Fronts.{drop-bytes}
 use Rattle.pm_disasm.proofs.Offsets.{front_cut, fronts_at, length-fronts_of}
 
--- `t` differs from the number of entries.
+-- Is true if `t` differs from `n`.
 abbrev Not : ℕ → ℕ → Type 0
 Not t n = n ≡ t → ⊥
 
@@ -53,7 +53,7 @@ written_not t ends (p ∷ ps) z h = part_not t ends p.bytes p.item (written ends
 
 -- ---- the parts
 
--- No instruction at an offset of the bytes uses `t` entries.
+-- Is true if no instruction at an offset of `bytes` uses exactly `t` entries.
 abbrev Nowhere : ℕ → ℕ → List ℕ → Type 0
 Nowhere t at bytes = (k : ℕ) → k < length bytes → Not t (front_count (front (at + k) (drop k bytes)))
 
@@ -89,7 +89,7 @@ up_to_not : (t n : ℕ) (o : Option Front) → Not t 0 → Not t (front_count o)
 up_to_not t n None z h = z
 up_to_not t n (Some f) z h = elim (cases_Bool (nat_le f.size n)) [ inl e ↦ rw e h | inr e ↦ rw e z ]
 
--- The code of a segment in which no instruction uses `t` entries.
+-- If no instruction of a segment uses `t` entries, then no instruction of the `m` bytes from `enter` on does.
 code_not : (t enter m : ℕ) (segment : List ℕ) → AllByRecursion IsByte segment → Not t 0 → Nowhere t 0 segment → enter + m ≤ length segment
     → Nowhere t enter (take m (drop enter segment))
 code_not t enter m segment b z h l k i =
@@ -124,7 +124,7 @@ needed_of segment a t h =
     let four = and_parts _ (t == entries_needed p.items) three.1 in
     (eqb-true _ _ four.1, omega (arith, leb-true _ _ one.0))
 
--- A number of entries from 0 to 60 that is not in the set fits no procedure of the segment.
+-- If a number `t` from 0 to 60 is not in the set of a decoded segment, then `t` fits no procedure of the segment.
 pub not_told : (d : Decoded) (segment : List ℕ) (a : Attributes) (t : ℕ) → IsDecoded d segment → AllByRecursion IsByte segment → IsTable segment a → t ≤ 60
     → has d.counts t ≡ false → false ≡ fits segment a t
 not_told d segment a t h b w few none = go (fits segment a t) refl

@@ -6,7 +6,7 @@ use Rattle.pm_words.specs.Words.{words_of}
 use Rattle.pm_code.proofs.Words.{none_left, words_at}
 use Rattle.pm_disasm.specs.Split.{table_places}
 
--- The targets of a table from its word `k` on.
+-- The targets from word `k` on are the target of word `k`, followed by the targets from word `k + 1` on.
 pub next_place : (bs : List ℕ) (at k : ℕ) → 2 * k + 1 < length bs → table_places (at + 2 * k) (words_of (drop (2 * k) bs))
     ≡ ((at + 2 * k + 65536 - (get_or bs (2 * k) 0 + 256 * get_or bs (2 * k + 1) 0)) % 65536)
     ∷ table_places (at + 2 * (k + 1)) (words_of (drop (2 * (k + 1)) bs))
@@ -19,7 +19,7 @@ next_place bs at k h =
 pub no_place : (bs : List ℕ) (at k : ℕ) → length bs / 2 ≤ k → table_places (at + 2 * k) (words_of (drop (2 * k) bs)) ≡ []
 no_place bs at k h = ap (table_places (at + 2 * k)) (none_left (drop (2 * k) bs) (omega (arith, length-drop (2 * k) bs)))
 
--- A test of all targets of a table, one after another.
+-- If the target of word `k` fails the test, then not all targets of the table pass it.
 pub table_out : (test : ℕ → Bool) (bs : List ℕ) (at k p : ℕ) (whole : Bool) → 2 * k + 1 < length bs
     → p ≡ (at + 2 * k + 65536 - (get_or bs (2 * k) 0 + 256 * get_or bs (2 * k + 1) 0)) % 65536 → test p ≡ false
     → list_all test (table_places (at + 2 * k) (words_of (drop (2 * k) bs))) ≡ whole → false ≡ whole

@@ -1,4 +1,5 @@
--- The listing of a code file: its own bytes at their own offsets, for any layout of the file.
+-- The listing of a code file. It shows the bytes of the file at their offsets in their segments, for any layout of the
+-- file.
 use Rattle.std.specs.Prelude.{◌≡◌, ◌≤◌, ℕ, zero, suc, ◌+◌, ◌-◌, ◌*◌, List, [], ◌∷◌, ◌++◌, codes, drop, length, reverse}
 use Rattle.std.specs.Prelude.{take, nat_lt, if◌then◌else◌, Option, Some, None}
 use Rattle.std.specs.List.{AllByRecursion}
@@ -12,32 +13,34 @@ use Rattle.pm_code.specs.Shown.{entry_line, joined, shown_item}
 use Rattle.pm_disasm.specs.Shown.{missing_line}
 use Rattle.pm_disasm.specs.Split.{procedure_of}
 
--- A line of a segment: `count` of its bytes from offset `at`, and their description.
+-- A line of the listing of a segment: `count` bytes of the segment from offset `at`, and their description `what`.
 abbrev pub stored : List ℕ → ℕ → ℕ → ℕ → List ℕ → Listed
 stored segment procedure at count what =
     record { procedure = procedure; at = at; bytes = take count (drop at segment); what = what }
 
--- Adjacent items from offset `at` on.
+-- The lines of adjacent items, the first of which is at offset `at`.
 abbrev pub stored_items : List ℕ → ℕ → ℕ → List (Item ℕ) → List Listed
 stored_items segment number at [] = []
 stored_items segment number at (item ∷ items) =
     stored segment number at (size at item) (shown_item item)
     ∷ stored_items segment number (at + size at item) items
 
--- A jump table from its lowest word upward. The last entry comes first.
+-- The lines of a jump table, from its lowest word at offset `at` upward. The last entry comes first.
 abbrev pub stored_entries : List ℕ → ℕ → ℕ → List ℕ → List Listed
 stored_entries segment number at [] = []
 stored_entries segment number at (place ∷ places) =
     stored segment number at 2 (entry_line place) ∷ stored_entries segment number (at + 2) places
 
--- The procedure of an attribute table, with the number in it: its items, its jump table and its attributes.
+-- The lines of procedure `p`, which has the attribute table `a`: its items, its jump table and its attributes. Each
+-- line has the procedure number of the table.
 abbrev pub stored_procedure : List ℕ → Attributes → Procedure → List Listed
 stored_procedure segment a p =
     stored_items segment a.procedure a.enter p.items
     ++ (stored_entries segment a.procedure (a.jtab - 8 - 2 * length p.entries) (reverse p.entries)
     ++ stored segment a.procedure (a.jtab - 8) 10 (codes ".ATTR") ∷ [])
 
--- The listing of a procedure from its attribute table. If its exit code is before its code, it is only the comment.
+-- The listing of the procedure with the attribute table `a`. If its exit code is before its code, the listing is only a
+-- comment.
 abbrev pub table_listing : ℕ → List ℕ → Attributes → List ℕ
 table_listing slot segment a =
     if nat_lt a.exit a.enter then joined (missing_line a.procedure)
@@ -53,13 +56,13 @@ tables_listing slot segment p zero = []
 tables_listing slot segment p (suc count) =
     table_listing_or slot segment p (attributes_in segment p) ++ tables_listing slot segment (p + 1) count
 
--- The dictionary of a segment with the highest word.
+-- The line of the dictionary of `segment`, which includes the highest word.
 abbrev pub stored_dictionary : List ℕ → Listed
 stored_dictionary segment =
     let at = length segment - (2 + 2 * procedures_in segment) in
     stored segment 0 at (length segment - at) (codes ".DICT")
 
--- The segment of a slot, if it has one.
+-- The listing of the segment in slot `n`. It is empty if the slot has no segment.
 abbrev pub slot_listing : ℕ → Option (List ℕ) → List ℕ
 slot_listing n None = []
 slot_listing n (Some segment) =
@@ -74,13 +77,14 @@ slots_listing file n (suc count) = slot_listing n (segment_in file n) ++ slots_l
 unfoldable pub file_listing : List ℕ → List ℕ
 file_listing file = slots_listing file 0 16
 
--- The bytes of each line of a procedure are those of its segment at the offset in the line.
+-- States that the bytes of each line of a procedure are those of its segment at the offset in the line.
 abbrev pub LinesAreStored : Type 0
 LinesAreStored = (segment : List ℕ) (a : Attributes)
     → AllByRecursion (λ l. l.bytes ≡ take (length l.bytes) (drop l.at segment))
     (stored_procedure segment a (procedure_of segment a))
 
--- The listing of the bytes of a program's segment is that of the program, if all its items are instructions.
+-- States that the listing of the bytes of a program's segment is the listing of the program's segment, if all its items
+-- are instructions.
 abbrev pub ListingIsProgrammed : Type 0
 ListingIsProgrammed = (s : Segment) → IsSegment s → length (segment_bytes s) ≤ 65534
     → AllByRecursion (λ p. AreInstructions p.items) s.procedures

@@ -15,27 +15,29 @@ abbrev pub fronts_of : ℕ → List ℕ → List (Option split.Front)
 fronts_of at [] = []
 fronts_of at (b ∷ bytes) = split.front at (b ∷ bytes) ∷ fronts_of (at + 1) bytes
 
--- The list contains the instruction at each offset of a segment.
+-- Is true if `fronts` contains the instruction at each offset of `segment`.
 abbrev pub AreFronts : List (Option Front) → List ℕ → Type 0
 AreFronts fronts segment = map (option_map front_seen) fronts ≡ fronts_of 0 segment
 
--- An instruction, if it has at most `n` bytes.
+-- The given instruction if it has at most `n` bytes, else `None`.
 abbrev pub up_to : ℕ → Option split.Front → Option split.Front
 up_to n None = None
 up_to n (Some f) = if nat_le f.size n then Some f else None
 
--- The instruction at an offset of `bytes` is that in the list at the same offset, if it ends inside `bytes`.
+-- States that `fronts` determines the instruction at each offset of `bytes`: it is the element at this offset if that
+-- instruction ends inside `bytes`, else `None`.
 pub record TellFronts (fronts : List (Option Front)) (bytes : List ℕ) : Type 0 where
   pub long : length bytes ≤ length fronts
   pub each : (at : ℕ) → at < length bytes → up_to (length bytes - at) (option_map front_seen (get_or fronts at None))
       ≡ split.front at (drop at bytes)
 
--- A forced offset is strictly between `at` and `end` if and only if `next` is before `end`.
+-- Is true if `next` summarizes the offsets `forced` after `at`. For any `end`, an offset of `forced` is strictly
+-- between `at` and `end` if and only if `next` is before `end`.
 abbrev pub IsNextCut : List ℕ → ℕ → ℕ → Type 0
 IsNextCut forced at next =
     (end : ℕ) → end < 2 ^ 64 → list_any (λ place. nat_lt at place && nat_lt place end) forced ≡ nat_lt next end
 
--- The number of entries that a jump table needs for the instruction at an offset.
+-- The number of entries that a jump table must have for an item, or 0 if no item is given.
 abbrev pub item_count : Option (Item ℕ) → ℕ
 item_count None = 0
 item_count (Some item) = entries_used item
@@ -44,13 +46,13 @@ abbrev pub front_count : Option split.Front → ℕ
 front_count None = 0
 front_count (Some f) = item_count f.item
 
--- The set contains the numbers of entries up to 60 that the instructions before the offset `end` use.
+-- States that `counts` contains each number of entries up to 60 that an instruction before the offset `end` uses.
 abbrev pub HasCounts : PlaceSet → List (Option Front) → ℕ → Type 0
 HasCounts counts fronts end =
     (at : ℕ) → at < end → front_count (option_map front_seen (get_or fronts at None)) ≤ 60
     → has counts (front_count (option_map front_seen (get_or fronts at None))) ≡ true
 
--- The instructions of a segment, and the numbers of entries that they use.
+-- States that `d` has the instructions of `segment`, and the numbers of entries that they use.
 pub record IsDecoded (d : Decoded) (segment : List ℕ) : Type 0 where
   pub fronts : AreFronts d.fronts.items segment
   pub counts : HasCounts d.counts d.fronts.items (length d.fronts.items)

@@ -15,13 +15,14 @@ use Rattle.pm_code.specs.Laws.{name_of}
 abbrev pub missing_line : ℕ → List (List ℕ)
 missing_line number = (codes "; procedure " ++ decimal number) ∷ []
 
--- The lines of a procedure from its attribute table. If its exit code is before its code, it is a comment with its
--- number.
+-- The lines of the procedure that has the attribute table `a`. If its exit code is before its code, it is shown as a
+-- comment with its number.
 abbrev pub table_lines : List ℕ → Attributes → List (List ℕ)
 table_lines segment a =
     if nat_lt a.exit a.enter then missing_line a.procedure else procedure_lines a.procedure (procedure_of segment a)
 
--- The lines of procedure `p` of a segment. If it has no attribute table, it is a comment with its number.
+-- The lines of procedure `p` of `segment`. If the procedure has no attribute table, it is shown as a comment with its
+-- number.
 abbrev pub table_lines_or : List ℕ → ℕ → Option Attributes → List (List ℕ)
 table_lines_or segment p None = missing_line p
 table_lines_or segment p (Some a) = table_lines segment a
@@ -32,8 +33,8 @@ tables_lines segment p zero = []
 tables_lines segment p (suc count) =
     table_lines_or segment p (attributes_in segment p) ++ tables_lines segment (p + 1) count
 
--- A name in a code file without the spaces at its end. Bytes that are not allowed are shown as question marks. An empty
--- name is shown as one question mark.
+-- Removes the spaces at the beginning of a name that is in reverse order. So a name in a code file loses the spaces at
+-- its end. The definitions that follow show an empty name, and each byte that is not allowed, as a question mark.
 abbrev pub cut : List ℕ → List ℕ
 cut [] = []
 cut (c ∷ cs) = if c == 32 then cut cs else c ∷ cs
@@ -45,12 +46,12 @@ or_mark (c ∷ cs) = c ∷ cs
 abbrev pub shown_name : List ℕ → List ℕ
 shown_name name = or_mark (map (λ c. if is_name_character c then c else 63) (reverse (cut (reverse name))))
 
--- The segment of a slot, if it has one.
+-- The lines of the segment in slot `n`. The list is empty if the slot has no segment.
 abbrev pub slot_lines : ℕ → List ℕ → Option (List ℕ) → List (List ℕ)
 slot_lines n name None = []
 slot_lines n name (Some segment) = segment_line n (shown_name name) ∷ tables_lines segment 1 (procedures_in segment)
 
--- The first line of the segment of slot `n`, with a line feed. Without a segment it is empty.
+-- The first line of the segment in slot `n`, with a line feed. It is empty if the slot has no segment.
 abbrev pub slot_head : ℕ → List ℕ → Option (List ℕ) → List ℕ
 slot_head n name None = []
 slot_head n name (Some segment) = joined (segment_line n (shown_name name) ∷ [])

@@ -4,6 +4,6 @@ use Rattle.pm_disasm.specs.declared.shown_tables.ShownTable.{ShownTable}
 use Rattle.pm_code.specs.Shown.{joined}
 use Rattle.pm_disasm.specs.Shown.{table_lines}
 
--- The text of an attribute table is that of its procedure in this segment.
+-- Is true if the text in `s` is the text of the procedure in `segment` that has the attribute table of `s`.
 abbrev pub IsShownTable : List ℕ → ShownTable → Type 0
 IsShownTable segment s = string_bytes s.text ≡ joined (table_lines segment s.table)

@@ -1,4 +1,4 @@
--- The values of the code, as values of the specification.
+-- The models of the values of the code: how contracts describe sets of offsets, items, instructions and parts of src/.
 use Rattle.std.specs.Prelude.{◌≡◌, ◌<◌, ◌≤◌, ℕ, ◌+◌, ◌-◌, length, Bool, false, nat_le, ◌&&◌, get_or, List, option_map}
 use Rattle.pm_words.specs.Words.{words_of}
 use Rattle.pm_disasm.specs.declared.found.Found.{Found}
@@ -24,18 +24,18 @@ front_seen f = record { size = f.size; item = option_map found_seen f.item }
 abbrev pub part_seen : Part → split.Part
 part_seen p = record { at = p.at; bytes = p.bytes.now; item = option_map found_seen p.item }
 
--- Whether an offset is in a set.
+-- Is true if the offset `place` is in the set `s`.
 abbrev pub has : PlaceSet → ℕ → Bool
 has s place = nat_le s.begin place && get_or s.marks.items (place - s.begin) false
 
--- A set contains exactly the offsets of a list.
+-- Is true if the set `s` contains exactly the offsets `places`.
 abbrev pub IsSetOf : PlaceSet → List ℕ → Type 0
 IsSetOf s places = (place : ℕ) → has s place ≡ is_among places place
 
--- An offset that a set can contain.
+-- Is true if the set `s` can contain the offset `place`.
 abbrev pub IsInside : PlaceSet → ℕ → Type 0
 IsInside s place = (s.begin ≤ place) × (place < s.begin + length s.marks.items)
 
--- Two sets for the same range of offsets.
+-- Is true if the sets `s` and `t` can contain the same range of offsets.
 abbrev pub IsAlike : PlaceSet → PlaceSet → Type 0
 IsAlike s t = (s.begin ≡ t.begin) × (length s.marks.items ≡ length t.marks.items)

@@ -1,4 +1,5 @@
-//! The number of entries of a procedure's jump table, which the code file does not store.
+//! The number of entries of a procedure's jump table, which the code file does not store. No instruction may extend
+//! over a forced offset: that of the exit code, or the target of an entry.
 
 ghost use Rattle.std.specs.Prelude.{◌≡◌, ◌<◌, ◌≤◌, ◌^◌, ◌+◌, ◌-◌, ◌*◌, ◌∷◌, [], ◌&&◌};
 ghost use Rattle.std.specs.Prelude.{ℕ, nat_le, true, false, is_some, length, IfOk, IfSome};
@@ -15,18 +16,18 @@ use byteorder::{ByteOrder, LittleEndian};
 use pm_codefile::Attributes;
 use std::alloc::{AllocError, Global};
 
-/// A procedure's code, read under the assumption of a number of jump table entries.
+/// The code of a procedure, decoded under the assumption that its jump table has a certain number of entries.
 #[derive(Drop)]
 pub(crate) struct Reading<'a> {
-    /// The offset of the exit code, followed by the targets of the entries.
+    /// The forced offsets: the offset of the exit code, followed by the targets of the entries.
     pub forced: Vec<u16>,
     /// The offset after the code.
     pub end: usize,
-    /// The code, divided into parts.
+    /// The code, divided into instructions and single bytes.
     pub code: Code<'a>,
 }
 
-/// Returns the word at `place`, whose low byte is first.
+/// Returns the word of `bytes` at offset `place`, whose low byte is first.
 #[tactic(auto, unfolding(pm_codefile::specs::Dictionary::word_in))]
 fn word(bytes: &[u8], place: usize) -> u16
     requires within { place + 2 ≤ length bytes.now }
@@ -35,15 +36,15 @@ fn word(bytes: &[u8], place: usize) -> u16
     LittleEndian::read_u16(&bytes[place..])
 }
 
-/// Whether the offset `at - distance` is in the code from `enter` to `end`.
+/// Whether the offset `at - distance` is in the code, from `enter` to `end`.
 fn leads_inside(enter: u16, end: u16, at: u16, distance: u16) -> bool
     ensures inside { result ≡ (nat_le (enter + distance) at && nat_le (at - distance) end) }
 {
     u32::from(enter) + u32::from(distance) <= u32::from(at) && at - distance <= end
 }
 
-/// Returns the offset of the exit code, followed by the targets of the first `count` jump table entries. Returns `None`
-/// if a target is before the code or after its end.
+/// Returns the offset of the exit code, followed by the targets of the first `count` jump table entries of the
+/// procedure `a`. Returns `None` if a target is before the code or after its end.
 fn forced_places(
     alloc: Global,
     segment: &[u8],
@@ -70,8 +71,9 @@ fn forced_places(
     Ok(Some(forced))
 }
 
-/// Returns the offset of the exit code, followed by the targets of `count` entries. Returns `None` if the table does
-/// not fit, if a target is outside the code, or if the exit code is after the end of the code.
+/// Returns the offset of the exit code, followed by the targets of `count` jump table entries of the procedure `a`.
+/// Returns `None` if the table does not fit, if a target is outside the code, or if the exit code is after the end of
+/// the code.
 fn places_within(
     alloc: Global,
     segment: &[u8],
@@ -91,8 +93,8 @@ fn places_within(
     forced_places(alloc, segment, a, count)
 }
 
-/// Returns the code, read with `count` entries whose offsets are `forced`. Returns `None` if a short jump uses an entry
-/// after these.
+/// Returns the code of the procedure `a`, decoded with the `count` entries whose targets are in `forced`. Returns
+/// `None` if a short jump uses a higher entry.
 fn read_with<'a>(
     alloc: Global,
     segment: &'a [u8],
@@ -120,8 +122,8 @@ fn read_with<'a>(
     Ok(Some(Reading { forced, end, code }))
 }
 
-/// Returns the code, read with `count` entries, if this count fits. It fits if the resulting items use exactly `count`
-/// entries.
+/// Returns the code of the procedure `a`, decoded with `count` entries, if this count fits. The count fits if the
+/// resulting items use exactly `count` entries.
 fn fitting<'a>(
     alloc: Global,
     segment: &'a [u8],
@@ -153,17 +155,18 @@ fn fitting<'a>(
     Ok(Some(reading))
 }
 
-/// A procedure's code as it is shown.
+/// The code of a procedure as its text shows it.
 #[derive(Drop)]
 pub(crate) struct Shown<'a> {
-    /// The code.
+    /// The code, decoded with the chosen number of entries.
     pub reading: Reading<'a>,
-    /// Whether jumps through an entry are shown as instructions.
+    /// Whether jumps through an entry are shown as instructions. If false, they are shown as bytes.
     pub allowed: bool,
 }
 
-/// Returns the code as it is shown. It is read with the lowest number of entries from 0 to 60 that fits. If no number
-/// fits, it is read without entries, and jumps through an entry are shown as bytes.
+/// Returns the code of the procedure `a` as its text shows it. The code is decoded with the lowest number of entries
+/// from 0 to 60 that fits. If no number fits, the code is decoded without entries, and jumps through an entry are shown
+/// as bytes.
 pub(crate) fn shown_code<'a>(
     alloc: Global,
     segment: &'a [u8],

@@ -1,4 +1,5 @@
-//! The instruction at each offset of a segment.
+//! The instruction at each offset of a segment. Each offset is decoded, because the code file does not store where
+//! instructions begin.
 
 ghost use Rattle.std.specs.Prelude.{◌≡◌, ◌<◌, ◌≤◌, ◌+◌, true, drop, length, option_map, IfOk, IfSome};
 ghost use Rattle.pm_disasm.specs.Offsets.{AreFronts, HasCounts, IsDecoded, TellFronts, front_count};
@@ -13,13 +14,13 @@ use std::alloc::{AllocError, Global};
 /// A decoded segment.
 #[derive(Drop)]
 pub struct Decoded<'a> {
-    /// The instruction at each offset, also where there is no code.
+    /// The instruction at each offset, even at an offset without code. `None` if no instruction can be decoded there.
     pub(crate) fronts: Vec<Option<Front<'a>>>,
-    /// The numbers of entries that instructions of the segment use, and 0. No other number fits a procedure.
+    /// The numbers of jump table entries that instructions of the segment use, and 0. No other number fits a procedure.
     pub(crate) counts: PlaceSet,
 }
 
-/// Returns the instruction at each offset of a segment.
+/// Returns the instruction at each offset of `segment`.
 fn fronts_of(alloc: Global, segment: &[u8]) -> Result<Vec<Option<Front<'_>>>, AllocError>
     requires short { length segment.now ≤ 65534 }
     ensures fronts { IfOk result (λ fronts. AreFronts fronts.items segment.now) }
@@ -31,7 +32,7 @@ fn fronts_of(alloc: Global, segment: &[u8]) -> Result<Vec<Option<Front<'_>>>, Al
     Ok(fronts)
 }
 
-/// Returns the number of entries that a jump table needs for an instruction.
+/// Returns the number of entries that a jump table must have for the instruction `front`.
 fn front_count(front: Option<Front<'_>>) -> usize
     ensures count { result ≡ front_count (option_map front_seen front.entry) }
 {
@@ -46,7 +47,8 @@ fn front_count(front: Option<Front<'_>>) -> usize
     }
 }
 
-/// Returns the numbers of entries up to 60 that the instructions use, and 0.
+/// Returns the set of the numbers of jump table entries, up to 60, that the instructions `fronts` use. The set contains
+/// 0.
 fn counts_of(alloc: Global, fronts: &[Option<Front<'_>>]) -> Result<PlaceSet, AllocError>
     ensures counts { IfOk result (λ counts. HasCounts counts fronts.now (length fronts.now)) }
     ensures none { IfOk result (λ counts. has counts 0 ≡ true) }
@@ -62,8 +64,8 @@ fn counts_of(alloc: Global, fronts: &[Option<Front<'_>>]) -> Result<PlaceSet, Al
     Ok(counts)
 }
 
-/// Decodes a segment: returns the instruction at each offset, and the numbers of entries that these use. The segment
-/// may have at most 65,534 bytes.
+/// Decodes `segment`, which may have at most 65,534 bytes. Returns the instruction at each offset, and the numbers of
+/// jump table entries that these instructions use.
 pub fn decode_segment(alloc: Global, segment: &[u8]) -> Result<Decoded<'_>, AllocError>
     requires short { length segment.now ≤ 65534 }
     ensures decoded { IfOk result (λ decoded. IsDecoded decoded segment.now) }
@@ -73,8 +75,8 @@ pub fn decode_segment(alloc: Global, segment: &[u8]) -> Result<Decoded<'_>, Allo
     Ok(Decoded { fronts, counts })
 }
 
-/// Returns the instruction at `at` in code that ends with `bytes`, if there is one. `fronts` contains the instruction
-/// at each offset.
+/// Returns the instruction at offset `at`, or `None` if no instruction is at `at`. `bytes` are the bytes of the segment
+/// up to the end of the code. `fronts` contains the instruction at each offset.
 pub(crate) fn front_in<'a>(
     bytes: &[u8],
     fronts: &[Option<Front<'a>>],

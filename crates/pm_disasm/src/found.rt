@@ -1,4 +1,4 @@
-//! Instructions found in code.
+//! Instructions that were decoded in code.
 
 ghost use Rattle.std.specs.Prelude.{◌≡◌, ◌<◌, ◌%◌, ◌+◌, ◌-◌, ◌*◌, ◌^◌, IfOk};
 ghost use Rattle.pm_code.specs.Views.{placed_item};
@@ -13,13 +13,14 @@ use std::alloc::{AllocError, Global};
 /// The table of a case jump.
 #[derive(Clone, Copy)]
 pub(crate) struct Table<'a> {
-    /// The offset of its first word in the segment.
+    /// The offset of the table's first word in the segment.
     pub at: u32,
-    /// The bytes of its words.
+    /// The bytes of the table's words.
     pub words: &'a [u8],
 }
 
-/// Returns the target of a table word: `word` bytes before the word itself, modulo 65,536.
+/// Returns the target of the word with the number `index` (from 0) in the table at offset `at`. The target is `word`
+/// bytes before the word itself, modulo 65,536.
 pub(crate) fn table_place(at: u32, index: usize, word: u16) -> usize
     requires index { 2 * index < 2 ^ 63 }
     ensures place { result ≡ (at + 2 * index + 65536 - word) % 65536 }
@@ -28,7 +29,7 @@ pub(crate) fn table_place(at: u32, index: usize, word: u16) -> usize
 }
 
 impl Table<'_> {
-    /// Returns the targets of its words.
+    /// Returns the targets of the words of this table.
     fn places(self, alloc: Global) -> Result<Vec<usize>, AllocError>
         ensures places { IfOk result (λ places. places.items
             ≡ table_places self.entry.at (words_of self.entry.words.now)) }
@@ -44,10 +45,11 @@ impl Table<'_> {
     }
 }
 
-/// An instruction found in code. It is shown as an item if its jumps can be shown. It borrows the bytes that it names.
+/// An instruction that was decoded in code. It is shown as an item if its jumps can be shown. It borrows the bytes that
+/// belong to the instruction.
 #[derive(Clone, Copy)]
 pub(crate) enum Found<'a> {
-    /// An instruction that names no offset, and the bytes that it names.
+    /// An instruction that does not jump, and the bytes that belong to it.
     Plain(Instr, &'a [u8]),
     /// A short jump: its opcode and its target.
     Jump(u8, Target<usize>),

@@ -19,12 +19,15 @@ use pm_opcode::{Form, Instr, decode, form_at};
 pub(crate) struct Front<'a> {
     /// The size of the instruction, in bytes.
     pub size: usize,
-    /// The instruction as an item. `None` if a jump of it leads neither forward nor through an entry, or if it is a
-    /// case jump whose third word is no UJP.
+    /// The instruction as an item. `None` in two cases:
+    ///
+    /// - A jump of the instruction leads neither forward nor through a jump table entry.
+    /// - The instruction is a case jump whose third word is not a UJP.
     pub item: Option<Found<'a>>,
 }
 
-/// Returns the target of a short jump from its distance byte. `next` is the offset of the next instruction.
+/// Returns the target of a short jump from its operand byte `byte`, or `None` if the target can have no text. `next` is
+/// the offset of the next instruction.
 fn target_of(next: usize, byte: u8) -> Option<Target<usize>>
     requires next { next < 2 ^ 32 }
     ensures target { option_map placed_target result ≡ target_of next byte }
@@ -38,7 +41,8 @@ fn target_of(next: usize, byte: u8) -> Option<Target<usize>>
     None
 }
 
-/// Whether the padding byte of an instruction is zero, if it has one.
+/// Whether the padding byte of the instruction `instr` at offset `at` of `bytes` is zero. True if the instruction has
+/// no padding byte.
 fn has_zero_padding(instr: Instr, bytes: &[u8], at: usize) -> bool
     requires at { at < 2 ^ 32 }
     ensures zero { result ≡ has_zero_padding (form_of instr.op) (is_odd at) (drop at bytes.now) }
@@ -51,14 +55,15 @@ fn has_zero_padding(instr: Instr, bytes: &[u8], at: usize) -> bool
     }
 }
 
-/// Returns the byte at `place`, or 0 after the end.
+/// Returns the byte of `bytes` at offset `place`, or 0 if `place` is after the end.
 fn byte_or_zero(bytes: &[u8], place: usize) -> u8
     ensures byte { result ≡ slice_index bytes.now place }
 {
     bytes.get(place).copied().unwrap_or(0)
 }
 
-/// Returns the item of a case jump whose bytes end before the offset `end`.
+/// Returns the item of the case jump `instr`, whose table has the bytes `named`. `end` is the offset after the
+/// instruction.
 fn case_of<'a>(instr: Instr, named: &'a [u8], end: usize) -> Option<Found<'a>>
     requires end { end < 2 ^ 32 }
     requires table { instr.count ≤ end }
@@ -77,7 +82,8 @@ fn case_of<'a>(instr: Instr, named: &'a [u8], end: usize) -> Option<Found<'a>>
     Some(Found::Case(instr.a, instr.b, otherwise, words))
 }
 
-/// Returns the item of an instruction that names the bytes `named` and ends before the offset `end`.
+/// Returns the item of the instruction `instr`, to which the bytes `named` belong. `end` is the offset after the
+/// instruction.
 fn item_of<'a>(instr: Instr, named: &'a [u8], end: usize) -> Option<Found<'a>>
     requires end { end < 2 ^ 32 }
     requires table { instr.count ≤ end }
@@ -100,7 +106,8 @@ fn item_of<'a>(instr: Instr, named: &'a [u8], end: usize) -> Option<Found<'a>>
     }
 }
 
-/// Returns the instruction at `at` in code that ends with `bytes`, if there is one.
+/// Returns the instruction at offset `at`, or `None` if no instruction is at `at`. `bytes` are the bytes of the segment
+/// up to the end of the code.
 pub(crate) fn front_at(bytes: &[u8], at: usize) -> Option<Front<'_>>
     requires short { length bytes.now < 2 ^ 32 }
     ensures front { option_map front_seen result ≡ front at (drop at bytes.now) }

@@ -1,4 +1,5 @@
-//! Procedures as items.
+//! Procedures as items. The code of a procedure is divided into parts: a part is an instruction, or one byte that is
+//! not part of an instruction.
 
 ghost use Rattle.std.specs.Prelude.{◌≡◌, ◌≤◌, ◌++◌, ℕ, Some, length, map, option_map, IfOk, OnOk};
 ghost use Rattle.pm_code.specs.Item.Item.{OneByte};
@@ -20,7 +21,7 @@ use pm_code::{Item, Procedure};
 use pm_codefile::Attributes;
 use std::alloc::{AllocError, Global};
 
-/// Appends each byte as an item.
+/// Appends each of `bytes` to `items` as an item.
 fn add_bytes(items: &mut Vec<Item<usize>>, bytes: &[u8]) -> Result<(), AllocError>
     ensures items { OnOk result (map placed_item items.new.items
         ≡ map placed_item items.old.items ++ map OneByte bytes.now) }
@@ -31,7 +32,7 @@ fn add_bytes(items: &mut Vec<Item<usize>>, bytes: &[u8]) -> Result<(), AllocErro
     Ok(())
 }
 
-/// Appends the item `found`, or the bytes if there is none.
+/// Appends the item `found` to `items`. If `found` is `None`, appends each of `bytes` as an item.
 fn add_part(
     alloc: Global,
     items: &mut Vec<Item<usize>>,
@@ -49,7 +50,8 @@ fn add_part(
     Ok(())
 }
 
-/// Returns the items for parts.
+/// Returns the items that are shown for `parts`. A jump is shown only if it leads to one of `boundaries`, or through an
+/// entry if `allowed` is true.
 fn items_of(
     alloc: Global,
     parts: &[Part<'_>],
@@ -67,7 +69,7 @@ fn items_of(
     Ok(items)
 }
 
-/// Returns offsets as `usize`.
+/// Returns the offsets `places` as `usize`.
 fn offsets_of(alloc: Global, places: &[u16]) -> Result<Vec<usize>, AllocError>
     ensures offsets { IfOk result (λ offsets. offsets.items ≡ places.now) }
 {
@@ -78,14 +80,16 @@ fn offsets_of(alloc: Global, places: &[u16]) -> Result<Vec<usize>, AllocError>
     Ok(offsets)
 }
 
-/// Returns a procedure of a segment from its attribute table, as its text shows it. It is read with the lowest number
-/// of jump table entries that fits, or without entries if no number from 0 to 60 fits.
+/// Returns the procedure of `segment` that has the attribute table `attributes`, as its text shows it. The procedure is
+/// decoded with the lowest number of jump table entries from 0 to 60 that fits. If no number fits, it is decoded
+/// without entries.
 ///
-/// Bytes that are no instruction are shown as bytes. The same holds for jumps that lead neither to the beginning of a
-/// part nor to the end of the code.
+/// Bytes that are not part of an instruction are shown as bytes. The same holds for a jump that leads neither to the
+/// beginning of a part nor to the end of the code. A part is an instruction, or one byte that is not part of an
+/// instruction.
 ///
-/// `attributes` must be those of a procedure of the segment, and the exit code must not be before the code. The segment
-/// may have at most 65,534 bytes. `decoded` is the result of `decode_segment` for the segment.
+/// `attributes` must be those of a procedure of `segment`, and the exit code must not be before the code. `segment` may
+/// have at most 65,534 bytes. `decoded` is the result of `decode_segment` for `segment`.
 pub fn code<'a>(
     alloc: Global,
     segment: &'a [u8],

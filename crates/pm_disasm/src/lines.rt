@@ -1,4 +1,4 @@
-//! The lines of code.
+//! The lines of the text of code.
 
 ghost use Rattle.std.specs.Prelude.{◌≡◌, ◌<◌, ◌^◌, ◌+◌, ◌++◌, [], ◌∷◌, List, ℕ, length};
 ghost use Rattle.std.specs.Prelude.{map, string_bytes, option_map, IfSome, OnOk};
@@ -16,16 +16,17 @@ use pm_code::Label;
 use std::alloc::{AllocError, Global};
 use std::fmt::Write;
 
-/// The offsets that have additional lines.
+/// The offsets that have additional lines: a label or `.EXIT`.
 #[derive(Clone, Copy)]
 pub(crate) struct Marks<'a> {
-    /// The offsets with a label.
+    /// The offsets at which a label is shown.
     pub named: &'a PlaceSet,
     /// The offset of the exit code.
     pub exit: usize,
 }
 
-/// Appends the label of an offset, if it has one, and `.EXIT` if the exit code is there.
+/// Appends the lines before offset `place`: its label if it is in `marks.named`, and `.EXIT` if the exit code begins at
+/// it.
 fn push_place(text: &mut String, place: usize, marks: Marks<'_>) -> Result<(), AllocError>
     ensures text { OnOk result (string_bytes text.new
         ≡ string_bytes text.old ++ joined (lines_at_by (has marks.entry.named.now) marks.entry.exit place [])) }
@@ -40,7 +41,7 @@ fn push_place(text: &mut String, place: usize, marks: Marks<'_>) -> Result<(), A
     Ok(())
 }
 
-/// Appends the lines of bytes, the first of which is at offset `at`.
+/// Appends a `.BYTE` line for each of `bytes`, the first of which is at offset `at`, with the lines of `marks`.
 fn push_bytes(
     text: &mut String,
     bytes: &[u8],
@@ -62,7 +63,7 @@ fn push_bytes(
     Ok(())
 }
 
-/// Appends the line of an instruction at offset `at`.
+/// Appends the line of the instruction `found` at offset `at`, with the lines of `marks`.
 fn push_item(
     alloc: Global,
     text: &mut String,
@@ -82,7 +83,7 @@ fn push_item(
     Ok(())
 }
 
-/// Appends the lines of the item or of the bytes of a part.
+/// Appends the lines of `part`. If `item` is not `None`, it is shown; otherwise each byte of the part is shown.
 fn push_part(
     alloc: Global,
     text: &mut String,
@@ -105,7 +106,7 @@ fn push_part(
     Ok(())
 }
 
-/// Appends the lines of code. `end` is the offset after the code.
+/// Appends the lines of the code that consists of `parts`. `end` is the offset after the code.
 pub(crate) fn push_code(
     alloc: Global,
     text: &mut String,

@@ -1,4 +1,5 @@
-//! The listing of a code file: its own bytes at their own offsets, for any layout of the file.
+//! The listing of a code file. It shows the bytes of the file at their offsets in their segments, for any layout of the
+//! file.
 
 ghost use Rattle.std.specs.Prelude.{◌≡◌, ◌<◌, ◌≤◌, ◌+◌, ◌*◌, ◌%◌, ◌++◌, ◌∷◌, [], List, ℕ, Some};
 ghost use Rattle.std.specs.Prelude.{IfOk, IfSome, OnOk, length, map, option_map, reverse, string_bytes};
@@ -30,7 +31,7 @@ use pm_codefile::{Attributes, CodeFile, attributes, procedures};
 use std::alloc::{AllocError, Global};
 use std::fmt::{self, Write};
 
-/// A segment, its slot, and the number of the procedure of a line.
+/// The values that the lines of a procedure share: the segment, its slot, and the number of the procedure.
 #[derive(Clone, Copy)]
 struct Stored<'a> {
     segment: &'a [u8],
@@ -38,7 +39,7 @@ struct Stored<'a> {
     procedure: u8,
 }
 
-/// Returns a hexadecimal digit, in upper case.
+/// Returns the character of the hexadecimal digit `value`, which is below 16. Letters are capitals.
 fn upper_digit(value: u8) -> u8
     requires digit { value < 16 }
     ensures digit { result ≡ upper_digit value }
@@ -47,7 +48,7 @@ fn upper_digit(value: u8) -> u8
     if value < 10 { 48 + value } else { 55 + value }
 }
 
-/// Appends each byte as a space and two hexadecimal digits.
+/// Appends each of `bytes` as a space and two hexadecimal digits.
 fn push_pairs(text: &mut String, bytes: &[u8]) -> Result<(), AllocError>
     ensures text { OnOk result (string_bytes text.new ≡ string_bytes text.old ++ pairs_text bytes.now) }
 {
@@ -79,7 +80,7 @@ impl fmt::Display for Columns {
     }
 }
 
-/// Appends the beginning of a line for `count` bytes from offset `at`: its columns and its bytes. The description and a
+/// Appends the beginning of a line for `count` bytes from offset `at`: the columns and the bytes. The description and a
 /// line feed must follow.
 fn push_front(
     text: &mut String,
@@ -103,7 +104,7 @@ fn push_front(
     Ok(())
 }
 
-/// Appends the line of an item.
+/// Appends the line of an item that has `count` bytes from offset `at`.
 fn list_item(
     text: &mut String,
     from: Stored<'_>,
@@ -120,7 +121,7 @@ fn list_item(
     Ok(())
 }
 
-/// Appends the lines of bytes that are no instruction.
+/// Appends the lines of `bytes`, which are not part of an instruction. The first one is at offset `at`.
 fn list_bytes(
     text: &mut String,
     from: Stored<'_>,
@@ -141,7 +142,7 @@ fn list_bytes(
     Ok(())
 }
 
-/// Appends the lines of the item or of the bytes of a part.
+/// Appends the lines of `part`: the line of its item if the item is shown, else a line for each byte.
 fn list_part(
     alloc: Global,
     text: &mut String,
@@ -168,7 +169,7 @@ fn list_part(
     Ok(())
 }
 
-/// Appends the lines of code.
+/// Appends the lines of the parts of `code`.
 fn list_code(
     alloc: Global,
     text: &mut String,
@@ -190,7 +191,8 @@ fn list_code(
     Ok(())
 }
 
-/// Appends the lines of a jump table that begins at offset `at`. The last entry comes first.
+/// Appends the lines of the jump table that begins at offset `at` and whose targets are `entries`. The last entry comes
+/// first.
 fn list_entries(
     text: &mut String,
     from: Stored<'_>,
@@ -210,7 +212,7 @@ fn list_entries(
     Ok(())
 }
 
-/// Appends the lines of a procedure whose exit code is not before its code.
+/// Appends the lines of a procedure whose exit code is not before its code, from its attribute table.
 fn list_shown<'a>(
     alloc: Global,
     text: &mut String,
@@ -235,7 +237,7 @@ fn list_shown<'a>(
     Ok(())
 }
 
-/// Appends the listing of a procedure from its attribute table.
+/// Appends the listing of the procedure of `segment` that has the given attribute table.
 fn list_table<'a>(
     alloc: Global,
     text: &mut String,
@@ -263,8 +265,8 @@ fn list_table<'a>(
     list_shown(alloc, text, from, decoded, a)
 }
 
-/// Appends the listing of a procedure from its attribute table, and stores it. If the same table was listed before, the
-/// stored listing is copied.
+/// Appends the listing of the procedure that has the given attribute table, and stores this listing. If the same table
+/// was listed before, the stored listing is copied.
 fn list_table_once<'a>(
     alloc: Global,
     text: &mut String,
@@ -297,7 +299,7 @@ fn list_table_once<'a>(
     Ok(())
 }
 
-/// Appends the lines of a segment's procedures.
+/// Appends the lines of all procedures of `segment`, which is in slot `slot`.
 fn list_tables(alloc: Global, text: &mut String, segment: &[u8], slot: u8) -> Result<(), AllocError>
     requires even { length segment.now % 2 ≡ 0 }
     requires short { length segment.now ≤ 65534 }
@@ -316,7 +318,7 @@ fn list_tables(alloc: Global, text: &mut String, segment: &[u8], slot: u8) -> Re
     Ok(())
 }
 
-/// Appends the line of a segment's dictionary, including its highest word.
+/// Appends the line of the dictionary of `segment`, including its highest word.
 fn list_dictionary(text: &mut String, segment: &[u8], slot: u8) -> Result<(), AllocError>
     ensures text { OnOk result (string_bytes text.new
         ≡ string_bytes text.old ++ listed_line slot (stored_dictionary segment.now)) }
@@ -334,7 +336,7 @@ fn list_dictionary(text: &mut String, segment: &[u8], slot: u8) -> Result<(), Al
     Ok(())
 }
 
-/// Appends the lines of the segment of slot `n`, if it has one.
+/// Appends the lines of the segment in slot `n` of `file`. Appends nothing if the slot has no segment.
 fn list_slot(alloc: Global, text: &mut String, file: &CodeFile<'_>, n: u8) -> Result<(), AllocError>
     requires slot { n < 16 }
     ensures text { OnOk result (string_bytes text.new
@@ -347,8 +349,9 @@ fn list_slot(alloc: Global, text: &mut String, file: &CodeFile<'_>, n: u8) -> Re
     list_dictionary(text, segment, n)
 }
 
-/// Returns the lines of one procedure in [`listing`]. The segment must be decoded. A caller that writes the procedures
-/// of a segment one after another decodes it only once, and needs memory for one text at a time.
+/// Returns the lines of one procedure in [`listing`]. `decoded` must be the result of `decode_segment` for `segment`.
+/// So a caller that writes the procedures of a segment one after another decodes the segment only once, and needs
+/// memory for one text at a time.
 ///
 /// # Errors
 ///
@@ -370,7 +373,7 @@ pub fn procedure_listing<'a>(
     Ok(text)
 }
 
-/// Returns the line of a segment's dictionary, including its highest word, in [`listing`].
+/// Returns the line of the dictionary of `segment`, including its highest word, as in [`listing`].
 ///
 /// # Errors
 ///

@@ -1,4 +1,4 @@
-//! The offsets that code names.
+//! The offsets to which code jumps. The text of the code has a label at each of them.
 
 ghost use Rattle.std.specs.Prelude.{◌≡◌, ◌<◌, ◌≤◌, ◌^◌, ◌+◌, ◌-◌, ◌*◌, ◌||◌, ◌++◌, ℕ, true, length, map, IfOk};
 ghost use Rattle.std.specs.List.{AllByRecursion, list_all};
@@ -17,7 +17,7 @@ use crate::written::item_led;
 use pm_code::Target;
 use std::alloc::{AllocError, Global};
 
-/// Adds the target of a jump, if it is a label.
+/// Adds the target of a jump to `named` if the target is an offset. A jump through an entry adds nothing.
 fn add_target(named: &mut PlaceSet, boundaries: &PlaceSet, target: Target<usize>)
     requires alike { IsAlike named.old boundaries.now }
     requires leads { list_all (has boundaries.now) (target_places (placed_target target)) ≡ true }
@@ -29,7 +29,7 @@ fn add_target(named: &mut PlaceSet, boundaries: &PlaceSet, target: Target<usize>
     }
 }
 
-/// Adds the targets of a table.
+/// Adds the targets of the case table `table` to `named`.
 fn add_table(named: &mut PlaceSet, boundaries: &PlaceSet, table: Table<'_>)
     requires alike { IsAlike named.old boundaries.now }
     requires leads { list_all (has boundaries.now) (table_places table.at (words_of table.words.now)) ≡ true }
@@ -45,7 +45,7 @@ fn add_table(named: &mut PlaceSet, boundaries: &PlaceSet, table: Table<'_>)
     }
 }
 
-/// Adds the offsets that an item names.
+/// Adds the offsets to which `item` jumps to `named`.
 fn add_item(named: &mut PlaceSet, boundaries: &PlaceSet, item: Found<'_>)
     requires alike { IsAlike named.old boundaries.now }
     requires leads { list_all (has boundaries.now) (item_places (found_seen item)) ≡ true }
@@ -62,7 +62,7 @@ fn add_item(named: &mut PlaceSet, boundaries: &PlaceSet, item: Found<'_>)
     }
 }
 
-/// Returns the offsets that the items of parts name.
+/// Returns the set of the offsets to which the items of `parts` jump. Only items that are shown count.
 pub(crate) fn places_named(
     alloc: Global,
     parts: &[Part<'_>],
@@ -86,7 +86,7 @@ pub(crate) fn places_named(
     Ok(named)
 }
 
-/// Adds the targets of a jump table.
+/// Adds the targets `entries` of a jump table to `named`.
 pub(crate) fn add_entries(named: &mut PlaceSet, entries: &[u16])
     requires inside { AllByRecursion (IsInside named.old) entries.now }
     ensures has { (p : ℕ) → has named.new p ≡ (has named.old p || is_among entries.now p) }

@@ -1,4 +1,4 @@
-//! Code divided into parts.
+//! Code divided into parts. A part is an instruction, or one byte that is not part of an instruction.
 
 ghost use Rattle.std.specs.Prelude.{◌≡◌, ◌<◌, ◌≤◌, ◌^◌, ◌+◌, ◌-◌, drop, length, map, option_map, IfOk, IfSome};
 ghost use Rattle.pm_disasm.specs.Follow.{Follow};
@@ -13,18 +13,20 @@ use crate::front::Front;
 use crate::places::PlaceSet;
 use std::alloc::{AllocError, Global};
 
-/// A part of code.
+/// A part of code: an instruction, or one byte that is not part of an instruction.
 #[derive(Clone, Copy)]
 pub(crate) struct Part<'a> {
-    /// Its offset.
+    /// The offset of the part in the segment.
     pub at: usize,
-    /// Its bytes.
+    /// The bytes of the part.
     pub bytes: &'a [u8],
-    /// Its item, which is shown if all its jumps lead to boundaries. Without an item, the part is shown as bytes.
+    /// The item of the part. It is shown if all its jumps lead to boundaries. Otherwise, and if it is `None`, bytes are
+    /// shown.
     pub item: Option<Found<'a>>,
 }
 
-/// Returns the instruction at an offset, unless a forced offset is strictly inside it.
+/// Returns the instruction at offset `at`, or `None` if no instruction is at `at` or a forced offset is strictly inside
+/// it.
 fn taken<'a>(
     bytes: &'a [u8],
     fronts: &[Option<Front<'a>>],
@@ -45,7 +47,7 @@ fn taken<'a>(
     Some(front)
 }
 
-/// Returns the part at an offset: the instruction there, or one byte if there is none.
+/// Returns the part at offset `at`: the instruction at `at`, or one byte if no instruction is at `at`.
 pub(crate) fn part_at<'a>(
     bytes: &'a [u8],
     fronts: &[Option<Front<'a>>],
@@ -76,17 +78,17 @@ pub(crate) fn part_at<'a>(
     }
 }
 
-/// Code divided into parts.
+/// Code divided into parts, with the boundaries of the parts.
 #[derive(Drop)]
 pub(crate) struct Code<'a> {
-    /// The adjacent parts.
+    /// The parts in the order of their offsets. Each part begins where the one before ends.
     pub parts: Vec<Part<'a>>,
     /// The boundaries: the offsets at which parts begin, and the end of the code.
     pub boundaries: PlaceSet,
 }
 
-/// Divides code into parts. The code begins at `begin` and ends with `bytes`. `fronts` contains the instruction at each
-/// offset.
+/// Divides code into parts. The code begins at offset `begin`. `bytes` are the bytes of the segment up to the end of
+/// the code. `fronts` contains the instruction at each offset. No part extends over one of the offsets `forced`.
 pub(crate) fn split<'a>(
     alloc: Global,
     bytes: &'a [u8],

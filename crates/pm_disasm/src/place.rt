@@ -9,8 +9,8 @@ use pm_opcode::{Form, Instr, decode, form_at};
 use pm_words::Memory;
 use std::fmt;
 
-/// The text of an address in memory: the instruction that begins there, or `.BYTE` with the byte if there is no
-/// instruction.
+/// The text of an address in memory: the instruction that begins at the address, or `.BYTE` with the byte if no
+/// instruction begins there.
 #[derive(Clone, Copy)]
 pub struct Line<'a> {
     /// The memory.
@@ -20,7 +20,7 @@ pub struct Line<'a> {
 }
 
 impl<'a> Line<'a> {
-    /// Creates the line of an address.
+    /// Creates the line of `address` in `memory`.
     pub fn new(memory: &'a Memory, address: u16) -> Line<'a>
         ensures memory { result.memory.now ≡ memory.now }
         ensures address { result.address ≡ address }
@@ -50,7 +50,7 @@ impl fmt::Display for Line<'_> {
     }
 }
 
-/// Returns the bytes that an instruction names.
+/// Returns the bytes of `bytes` that belong to the instruction `instr`, such as the characters of LSA.
 pub(crate) fn named_bytes<'a>(instr: &Instr, bytes: &'a [u8]) -> &'a [u8]
     requires spelling { IsTrue (has_spelling instr.now (length bytes.now)) }
     ensures named { result.now ≡ named_by instr.now bytes.now }

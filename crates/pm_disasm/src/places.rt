@@ -5,17 +5,17 @@ ghost use Rattle.pm_disasm.specs.Views.{IsAlike, IsInside, has};
 
 use std::alloc::{AllocError, Global};
 
-/// A set of offsets from the beginning of code to its end.
+/// A set of offsets, which can contain each offset of some code, from its beginning to its end.
 #[derive(Drop)]
 pub(crate) struct PlaceSet {
     /// The lowest offset that the set can contain.
     pub begin: usize,
-    /// Whether each offset from `begin` on is in the set.
+    /// Element `k` is true if the offset `begin + k` is in the set.
     pub marks: Vec<bool>,
 }
 
 impl PlaceSet {
-    /// Creates an empty set for the offsets from `begin` to `end`.
+    /// Creates an empty set that can contain the offsets from `begin` to `end`.
     pub fn new(alloc: Global, begin: usize, end: usize) -> Result<PlaceSet, AllocError>
         requires order { begin ≤ end }
         requires end { end < 2 ^ 32 }
@@ -27,7 +27,7 @@ impl PlaceSet {
         Ok(PlaceSet { begin, marks })
     }
 
-    /// Whether an offset is in the set.
+    /// Whether the offset `place` is in the set.
     pub fn contains(&self, place: usize) -> bool
         ensures has { result ≡ has self.now place }
     {
@@ -37,7 +37,7 @@ impl PlaceSet {
         self.marks.get(place - self.begin).copied().unwrap_or(false)
     }
 
-    /// Adds an offset.
+    /// Adds the offset `place`, which must be in the range of the set.
     pub fn add(&mut self, place: usize)
         requires inside { IsInside self.old place }
         ensures has { (p : ℕ) → has self.new p ≡ ((place == p) || has self.old p) }

@@ -43,7 +43,7 @@ impl fmt::Display for Level {
     }
 }
 
-/// The content of a `.PROC` line.
+/// The values of a `.PROC` line.
 #[derive(Clone, Copy)]
 struct Header {
     number: u8,
@@ -65,7 +65,8 @@ impl fmt::Display for Header {
     }
 }
 
-/// Returns the targets of the entries from the forced offsets: all except the first, which is that of the exit code.
+/// Returns the targets of the jump table entries: all offsets of `forced` except the first one, which is that of the
+/// exit code.
 pub(crate) fn entries_of(forced: &[u16]) -> &[u16]
     ensures entries { result.now ≡ drop 1 forced.now }
 {
@@ -75,7 +76,7 @@ pub(crate) fn entries_of(forced: &[u16]) -> &[u16]
     }
 }
 
-/// Appends the lines of jump table entries.
+/// Appends the lines of the jump table entries that lead to the offsets `entries`.
 fn push_entries(text: &mut String, entries: &[u16]) -> Result<(), AllocError>
     ensures text { OnOk result (string_bytes text.new ≡ string_bytes text.old ++ joined (map entry_line entries.now)) }
 {
@@ -86,7 +87,7 @@ fn push_entries(text: &mut String, entries: &[u16]) -> Result<(), AllocError>
     Ok(())
 }
 
-/// Returns the offsets that the items of a procedure and its entries name.
+/// Returns the set of the offsets to which the items and the jump table entries of a procedure lead.
 fn places_shown(
     alloc: Global,
     segment: &[u8],
@@ -106,7 +107,7 @@ fn places_shown(
     Ok(named)
 }
 
-/// Appends a procedure whose exit code is not before its code.
+/// Appends the lines of a procedure whose exit code is not before its code.
 fn push_shown<'a>(
     alloc: Global,
     text: &mut String,
@@ -148,8 +149,8 @@ fn push_shown<'a>(
     Ok(())
 }
 
-/// Appends the lines of a procedure from its attribute table. If its exit code is before its code, it is a comment with
-/// its number.
+/// Appends the lines of the procedure that has the given attribute table. If its exit code is before its code, it is
+/// shown as a comment with its number.
 pub(crate) fn push_table<'a>(
     alloc: Global,
     text: &mut String,

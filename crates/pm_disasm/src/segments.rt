@@ -21,7 +21,7 @@ use pm_codefile::{Attributes, CodeFile, attributes, procedures};
 use std::alloc::{AllocError, Global};
 use std::fmt::Write;
 
-/// Returns a name without the spaces at its end.
+/// Returns `name` without the spaces at its end.
 fn without_spaces(name: &[u8]) -> &[u8]
     ensures cut { result.now ≡ reverse (cut (reverse name.now)) }
 {
@@ -32,7 +32,7 @@ fn without_spaces(name: &[u8]) -> &[u8]
     &name[..count]
 }
 
-/// Appends the bytes of a name. Bytes that are not allowed in a name are shown as question marks.
+/// Appends the bytes of `name`. A byte that is not allowed in a name is shown as a question mark.
 fn push_marked(text: &mut String, name: &[u8]) -> Result<(), AllocError>
     ensures text { OnOk result (string_bytes text.new
         ≡ string_bytes text.old ++ map (λ c. if is_name_character c then c else 63) name.now) }
@@ -48,7 +48,8 @@ fn push_marked(text: &mut String, name: &[u8]) -> Result<(), AllocError>
     Ok(())
 }
 
-/// Appends a segment's name from a code file. An empty name is shown as a question mark.
+/// Appends the name of a segment from a code file, without the spaces at its end. An empty name is shown as a question
+/// mark.
 fn push_name(text: &mut String, name: &[u8]) -> Result<(), AllocError>
     ensures text { OnOk result (string_bytes text.new ≡ string_bytes text.old ++ shown_name name.now) }
 {
@@ -59,7 +60,7 @@ fn push_name(text: &mut String, name: &[u8]) -> Result<(), AllocError>
     push_marked(text, name)
 }
 
-/// Appends the procedures of a segment.
+/// Appends the lines of all procedures of `segment`.
 fn push_tables(alloc: Global, text: &mut String, segment: &[u8]) -> Result<(), AllocError>
     requires even { length segment.now % 2 ≡ 0 }
     requires short { length segment.now ≤ 65534 }
@@ -78,8 +79,8 @@ fn push_tables(alloc: Global, text: &mut String, segment: &[u8]) -> Result<(), A
     Ok(())
 }
 
-/// Returns the first line of the segment of slot `n`: `.SEG`, the slot and the segment's name, with a line feed. `n`
-/// must be less than 16. Without a segment the text is empty.
+/// Returns the first line of the segment in slot `n`: `.SEG`, the slot and the segment's name, with a line feed. `n`
+/// must be less than 16. If the slot has no segment, the text is empty.
 ///
 /// # Errors
 ///
@@ -102,7 +103,7 @@ pub fn slot_line(alloc: Global, file: &CodeFile<'_>, n: u8) -> Result<String, Al
     Ok(text)
 }
 
-/// Appends the segment of slot `n`, if it has one.
+/// Appends the lines of the segment in slot `n` of `file`. Appends nothing if the slot has no segment.
 fn push_slot(alloc: Global, text: &mut String, file: &CodeFile<'_>, n: u8) -> Result<(), AllocError>
     requires slot { n < 16 }
     ensures text { OnOk result (string_bytes text.new
@@ -116,8 +117,8 @@ fn push_slot(alloc: Global, text: &mut String, file: &CodeFile<'_>, n: u8) -> Re
     push_tables(alloc, text, segment)
 }
 
-/// Returns the text of a code file: its segments in ascending order of their slots, each with its procedures. A slot
-/// without a segment has no text.
+/// Returns the text of `file`: its segments in ascending order of their slots, each with its procedures. A slot without
+/// a segment has no text.
 ///
 /// A procedure is shown as a comment with its number if it has no readable attribute table, or if its exit code is
 /// before its code.
@@ -132,10 +133,10 @@ pub fn file(alloc: Global, file: &CodeFile<'_>) -> Result<String, AllocError>
     Ok(text)
 }
 
-/// Returns the text of a procedure from its attribute table: its lines from `.PROC` to `.END`, each with a line feed.
-/// If its exit code is before its code, the text is a comment with the number in the table.
+/// Returns the text of the procedure that has the attribute table `attributes`: its lines from `.PROC` to `.END`, each
+/// with a line feed. If its exit code is before its code, the text is a comment with the number in the table.
 ///
-/// `attributes` must be those of a procedure of the segment, which may have at most 65,534 bytes.
+/// `attributes` must be those of a procedure of `segment`, which may have at most 65,534 bytes.
 #[tactic(auto, unfolding(crate::specs::Shown::procedure_text))]
 pub fn procedure(
     alloc: Global,
@@ -152,8 +153,9 @@ pub fn procedure(
     Ok(text)
 }
 
-/// Returns the text of a procedure as [`procedure`] does, for a segment that is already decoded. A caller that writes
-/// the procedures of a segment one after another decodes it only once, and needs memory for one text at a time.
+/// Returns the text of a procedure as [`procedure`] does, for a segment that is already decoded. So a caller that
+/// writes the procedures of a segment one after another decodes the segment only once, and needs memory for one text at
+/// a time.
 ///
 /// # Errors
 ///
@@ -175,11 +177,11 @@ pub fn decoded_procedure<'a>(
     Ok(text)
 }
 
-/// Returns the text of the instruction at an offset of a segment, without leading spaces and without a line feed. A
+/// Returns the text of the instruction at offset `at` of `segment`, without leading spaces and without a line feed. A
 /// short jump is shown with its label or its entry, as in the text of a procedure.
 ///
-/// There must be an instruction at the offset that the text of a procedure can show. The segment must have fewer than
-/// 2^32 bytes.
+/// An instruction that the text of a procedure can show must be at this offset. `segment` must have fewer than 2^32
+/// bytes.
 #[tactic(auto, unfolding(crate::specs::Laws::item_at))]
 pub fn item(alloc: Global, segment: &[u8], at: u16) -> Result<String, AllocError>
     requires short { length segment.now < 2 ^ 32 }

@@ -1,4 +1,4 @@
-//! Attribute tables of a segment that were already shown.
+//! The texts of procedures of a segment that were already shown, by their attribute tables.
 
 ghost use Rattle.std.specs.Prelude.{◌≡◌, ◌≤◌, ◌++◌, List, ℕ, length, string_bytes, IfSome, OnOk};
 ghost use Rattle.std.specs.List.{AllByRecursion};
@@ -14,16 +14,16 @@ use crate::procedures::push_table;
 use pm_codefile::Attributes;
 use std::alloc::{AllocError, Global};
 
-/// A procedure's attribute table, and its text.
+/// The attribute table of a procedure that was already shown, and the text of this procedure.
 #[derive(Drop)]
 pub(crate) struct ShownTable {
     /// The attribute table.
     pub table: Attributes,
-    /// The text of its procedure.
+    /// The text of the procedure that has this attribute table.
     pub text: String,
 }
 
-/// Returns the text of an attribute table if it was already shown.
+/// Returns the text that is stored in `shown` for the attribute table `a`, or `None` if no text is stored for it.
 pub(crate) fn text_of<'a>(shown: &'a [ShownTable], a: &Attributes) -> Option<&'a str>
     ensures text { (shows : Attributes → List ℕ) → AllByRecursion (λ s. string_bytes s.text ≡ shows s.table) shown.now
         → IfSome result (λ text. text.now ≡ shows a.now) }
@@ -36,8 +36,8 @@ pub(crate) fn text_of<'a>(shown: &'a [ShownTable], a: &Attributes) -> Option<&'a
     None
 }
 
-/// Appends the text of a procedure from its attribute table, and stores it. If the same table was shown before, the
-/// stored text is copied. Several words of a dictionary may refer to one table.
+/// Appends the text of the procedure that has the given attribute table, and stores this text. If the same table was
+/// shown before, the stored text is copied. Several words of a dictionary may refer to one table.
 pub(crate) fn push_table_once<'a>(
     alloc: Global,
     text: &mut String,

@@ -1,4 +1,4 @@
-//! A fast check, before parts are stored, whether code uses more jump table entries than there are.
+//! A fast check whether code uses a jump table entry that is too high. It runs before parts of the code are stored.
 
 ghost use Rattle.std.specs.Prelude.{◌≡◌, ◌<◌, ◌≤◌, ◌^◌, ◌-◌, ℕ, Bool, List, true, drop, length, option_map};
 ghost use Rattle.pm_code.specs.Program.{entries_needed};
@@ -13,8 +13,8 @@ use crate::front::Front;
 use crate::parts::part_at;
 use pm_code::Target;
 
-/// Returns the number of entries that a jump table needs for a short jump through an entry. Such a jump is shown for
-/// any boundaries. Returns 0 for all other items.
+/// Returns the number of entries that a jump table must have for `item`, if it is a short jump through an entry. Such a
+/// jump is shown for any boundaries. Returns 0 for all other items.
 fn surely_used(item: Option<Found<'_>>) -> usize
     ensures used { (test : ℕ → Bool) (bytes : List ℕ) → result ≤ entries_needed
         (items_or_bytes bytes (item_led test true (option_map found_seen item.entry))) }
@@ -25,8 +25,9 @@ fn surely_used(item: Option<Found<'_>>) -> usize
     }
 }
 
-/// Whether a short jump in code uses an entry after the first `count` ones. In this case, `count` entries do not fit.
-/// The code begins at `begin` and ends with `bytes`. Other instructions are not checked.
+/// Whether a short jump in code uses an entry after the first `count` ones. If true, `count` entries do not fit. The
+/// code begins at offset `begin`, and `bytes` are the bytes of the segment up to its end. Other instructions are not
+/// checked.
 pub(crate) fn takes_more<'a>(
     bytes: &'a [u8],
     fronts: &[Option<Front<'a>>],

@@ -17,7 +17,8 @@ use crate::parts::Part;
 use crate::places::PlaceSet;
 use pm_code::Target;
 
-/// Whether a jump can be shown: by a label at a boundary, or through an entry if `allowed` is true.
+/// Whether a jump to `target` can be shown. The target must be an offset in `boundaries`, or an entry of the jump table
+/// if `allowed` is true.
 fn target_leads(target: Target<usize>, boundaries: &PlaceSet, allowed: bool) -> bool
     ensures leads { result ≡ (is_allowed allowed (placed_target target)
         && list_all (has boundaries.now) (target_places (placed_target target))) }
@@ -28,7 +29,7 @@ fn target_leads(target: Target<usize>, boundaries: &PlaceSet, allowed: bool) -> 
     }
 }
 
-/// Whether all targets of a table are boundaries.
+/// Whether all targets of the case table `table` are in `boundaries`.
 fn table_leads(table: Table<'_>, boundaries: &PlaceSet) -> bool
     ensures leads { result ≡ list_all (has boundaries.now)
         (table_places table.entry.at (words_of table.entry.words.now)) }
@@ -44,7 +45,8 @@ fn table_leads(table: Table<'_>, boundaries: &PlaceSet) -> bool
     true
 }
 
-/// Whether the jumps of an item can be shown.
+/// Whether all jumps of `item` can be shown: each leads to one of `boundaries`, or through an entry if `allowed` is
+/// true.
 fn leads(item: Found<'_>, boundaries: &PlaceSet, allowed: bool) -> bool
     ensures leads { result ≡ leading (has boundaries.now) allowed (found_seen item.entry) }
 {
@@ -57,7 +59,7 @@ fn leads(item: Found<'_>, boundaries: &PlaceSet, allowed: bool) -> bool
     }
 }
 
-/// Returns the item that is shown for a part, or `None` if the part is shown as bytes.
+/// Returns the item that is shown for `part`, or `None` if the part is shown as bytes.
 pub(crate) fn item_led<'a>(
     part: Part<'a>,
     boundaries: &PlaceSet,
@@ -73,7 +75,7 @@ pub(crate) fn item_led<'a>(
     Some(item)
 }
 
-/// Returns the number of entries that a jump table needs for an item.
+/// Returns the number of entries that a jump table must have for `item`.
 pub(crate) fn entries_used(item: Found<'_>) -> usize
     ensures entries { result ≡ entries_used (found_seen item.entry) }
 {
@@ -84,7 +86,7 @@ pub(crate) fn entries_used(item: Found<'_>) -> usize
     }
 }
 
-/// Returns the number of entries that a jump table needs for a jump.
+/// Returns the number of entries that a jump table must have for a jump to `target`.
 fn entries_for(target: Target<usize>) -> usize
     ensures entries { result ≡ entries_for (placed_target target) }
 {
@@ -94,7 +96,7 @@ fn entries_for(target: Target<usize>) -> usize
     }
 }
 
-/// Returns the number of entries that a jump table needs for the jumps that are shown.
+/// Returns the number of entries that a jump table must have for those jumps of `parts` that are shown.
 pub(crate) fn entries_needed(parts: &[Part<'_>], boundaries: &PlaceSet) -> usize
     ensures entries { result ≡ entries_needed (written_by (has boundaries.now) true (map part_seen parts.now)) }
 {

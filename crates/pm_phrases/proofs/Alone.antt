@@ -9,7 +9,7 @@ use Rattle.pm_phrases.specs.Missing.{share_text, stand_in}
 use Rattle.pm_phrases.specs.Sets as texts
 use Rattle.pm_phrases.specs.Shown.{Shown, standing, value, value_text}
 
--- An operand with another text and form.
+-- The operand `a` with the text and the form replaced.
 abbrev with_text : Shown → List ℕ → Form → Shown
 with_text a text form = record { text = text; form = form; words = a.words }
 

@@ -3,7 +3,7 @@ use Rattle.std.proofs.Common.{◌≡◌, ◌≤◌, ◌<◌, ℕ, ◌+◌, ◌/�
 use Rattle.std.specs.Fmt.{decimal}
 use Rattle.std.proofs.lemmas.Fmt.{decimal_step}
 
--- The digits of `n / 10`, followed by the last digit, are the digits of `n`.
+-- If the digits of `n / 10` and then the last digit of `n` were appended, then the digits of `n` were appended.
 pub digit_added : (n : ℕ) (old tens new : List ℕ) → 10 ≤ n → n < 2 ^ 64 → tens ≡ old ++ decimal (n / 10)
     → new ≡ tens ++ ((48 + n % 10) ∷ []) → new ≡ old ++ decimal n
 digit_added n old tens new high small front behind =

@@ -1,4 +1,4 @@
--- The members of a set, with one number more.
+-- Lemmas about the text of the members of a set, to which the next number is added.
 use Rattle.std.proofs.Common.{◌≡◌, ◌<◌, ◌∙◌, ℕ, suc, ◌+◌, ◌-◌, ◌++◌, Bool, List, ap, append_assoc, arith, sym}
 use Rattle.pm_phrases.specs.declared.sets.Behind.{Behind}
 use Rattle.pm_phrases.specs.Sets.{behind_next, is_member, member_text, members_from}
@@ -17,7 +17,8 @@ known_members bytes done whole b e n less so =
     (members_from bytes (behind_next b (is_member bytes e)) (e + 1) (n - (e + 1)))
     ∙ ap (λ t. done ++ t) (sym (next_members bytes b e n less)) ∙ so
 
--- Appending the text of one number does not change the written text followed by the remaining text.
+-- If the text of number `e` is appended, then the written text followed by the text of the remaining numbers is
+-- unchanged.
 pub one_more : (bytes done whole : List ℕ) (b after : Behind) (this next : Bool) (e n : ℕ) → e < n → this ≡ is_member bytes e
     → next ≡ is_member bytes (e + 1) → after ≡ behind_next b this → done ++ members_from bytes b e (n - e) ≡ whole
     → (done ++ member_text b this next e) ++ members_from bytes after (e + 1) (n - (e + 1)) ≡ whole

@@ -7,7 +7,7 @@ use Rattle.std.specs.Fmt.{decimal}
 use Rattle.std.proofs.lemmas.Fmt.{decimal_digit, decimal_step}
 use Rattle.pm_code.specs.Shown.{padded}
 
--- Two appended texts, joined.
+-- If `first` and then `second` were appended to `old`, then `first ++ second` was appended.
 pub text_joined : (old middle new first second : List ℕ) → middle ≡ old ++ first → new ≡ middle ++ second → new ≡ old ++ (first ++ second)
 text_joined old middle new first second e f = f ∙ ap (λ t. t ++ second) e ∙ append_assoc old first second
 
@@ -18,7 +18,8 @@ zero_behind : (k : ℕ) → replicate k zero_digit ++ (zero_digit ∷ []) ≡ ze
 zero_behind zero = refl
 zero_behind (suc k) = ap (λ cs. zero_digit ∷ cs) (zero_behind k)
 
--- The last digit of a padded number, after its other digits.
+-- The padded text of a number `n` below 10 is the padded text of `n / 10` with one digit fewer, followed by the last
+-- digit.
 low_digit : (v n : ℕ) → n < 10 → padded (suc (suc v)) n ≡ padded (suc v) (n / 10) ++ ((48 + n % 10) ∷ [])
 unfolding padded
 low_digit v n low =
@@ -58,7 +59,7 @@ one_digit : (n : ℕ) → n < 10 → padded 1 n ≡ (48 + n) ∷ []
 unfolding padded
 one_digit n low = ap (λ cs. replicate (1 - length cs) 48 ++ cs) (decimal_digit n low)
 
--- The five digits of an offset.
+-- If `n` has at most five digits, then its padded text consists of these five digits.
 five_digits : (n : ℕ) → n ≤ 99999 → padded 5 n ≡ (48 + n / 10 / 10 / 10 / 10) ∷ (48 + n / 10 / 10 / 10 % 10)
     ∷ (48 + n / 10 / 10 % 10) ∷ (48 + n / 10 % 10) ∷ (48 + n % 10) ∷ []
 five_digits n low =
@@ -68,7 +69,7 @@ five_digits n low =
     ∙ ap (λ cs. cs ++ ((48 + n / 10 / 10 % 10) ∷ [])) (last_digit 0 (n / 10 / 10 / 10) (omega (arith, low))
     ∙ ap (λ cs. cs ++ ((48 + n / 10 / 10 / 10 % 10) ∷ [])) (one_digit (n / 10 / 10 / 10 / 10) (omega (arith, low))))))
 
--- The digits, appended one after another.
+-- If the five digits of `n` were appended one after another, then the padded text of `n` was appended.
 pub offset_added : (n : ℕ) (old a b c d e : List ℕ) → n ≤ 99999 → a ≡ old ++ ((48 + n / 10 / 10 / 10 / 10) ∷ [])
     → b ≡ a ++ ((48 + n / 10 / 10 / 10 % 10) ∷ []) → c ≡ b ++ ((48 + n / 10 / 10 % 10) ∷ [])
     → d ≡ c ++ ((48 + n / 10 % 10) ∷ []) → e ≡ d ++ ((48 + n % 10) ∷ []) → e ≡ old ++ padded 5 n

@@ -1,4 +1,4 @@
--- Operations on words as integers.
+-- The texts of operations on words as integers.
 use Rattle.std.specs.Prelude.{ℕ, ◌+◌, List, ◌++◌, codes, Option, Some, None}
 use Rattle.pm_families.specs.declared.families.Arithmetic.{Arithmetic}
 use Rattle.pm_families.specs.declared.families.Arithmetic.TheVariants as arithmetic
@@ -14,29 +14,29 @@ use Rattle.pm_phrases.specs.Shown.{Shown, constant_strength, standing, value, va
 use Rattle.pm_phrases.specs.Signs.{binary_sign, binary_strength, relation_sign}
 use Rattle.pm_phrases.specs.Spelled.{marks}
 
--- An operator between its operands. The right operand needs a higher precedence, because operators of equal precedence
--- are applied from left to right.
+-- The text of an operator between `a` and `b`. The right operand needs a higher precedence, because operators of equal
+-- precedence are applied from left to right.
 unfoldable pub between : Shown → List ℕ → ℕ → Shown → Shown
 between a sign strength b =
     value strength (value_text a strength ++ (codes " " ++ (sign ++ (codes " " ++ value_text b (strength + 1)))))
 
--- A comparison. A number that is compared with a byte may be shown as a character.
+-- The text of a comparison of `a` and `b`. A number that is compared with a byte may be shown as a character.
 unfoldable pub compared : Shown → List ℕ → Shown → Shown
 compared a sign b =
     value 1 (beside b.form a 1 ++ (codes " " ++ (sign ++ (codes " " ++ beside a.form b 2))))
 
--- The form of a number `w`. It is a constant only in its shortest encoding.
+-- The form of the number `w`. It is a constant only in its shortest encoding.
 abbrev pub constant_form : Spelling → ℕ → Form
 constant_form spelling.Shortest w = form.Constant w
 constant_form _ w = form.Value (constant_strength w)
 
--- SLDC, LDCI, LDCN
+-- The text of SLDC, LDCI or LDCN, which have no operands.
 unfoldable pub arithmetic_alone : Spelling → Arithmetic → Option Shown
 arithmetic_alone s (arithmetic.Constant w) = Some (standing (constant_form s w) (signed_text w ++ marks s))
 arithmetic_alone s arithmetic.Nil = Some (value 9 (codes "NIL"))
 arithmetic_alone s _ = None
 
--- ABI, NGI, SQI, LNOT
+-- The text of ABI, NGI, SQI or LNOT with the operand `a`.
 unfoldable pub unary_on : Unary → Shown → Shown
 unary_on unary.Absolute a = value 9 (codes "ABS(" ++ (value_text a 0 ++ codes ")"))
 unary_on unary.Negate a = value 4 (codes "-(" ++ (value_text a 0 ++ codes ")"))
@@ -56,11 +56,12 @@ abbrev pub unless_set : Form → Option Shown → Option Shown
 unless_set (form.Set k) shown = None
 unless_set _ shown = shown
 
--- ADI and similar, EQUI and similar. Sets are excluded, because the same operators have another meaning for them.
+-- The text of ADI and similar, or of EQUI and similar, with the operands `a` and `b`. If `a` is a set, the result is
+-- `None`, because the same operators have another meaning for sets.
 unfoldable pub arithmetic_two : Arithmetic → Shown → Shown → Option Shown
 arithmetic_two o a b = unless_set a.form (words_two o a b)
 
--- CHK
+-- The text of CHK with the value `a` and the bounds `b` and `c`.
 unfoldable pub arithmetic_three : Arithmetic → Shown → Shown → Shown → Option Shown
 arithmetic_three arithmetic.Check a b c =
     Some (value 9 (codes "CHECK("

@@ -1,4 +1,4 @@
--- Comparisons of strings, truth values, sets, bytes and words.
+-- The texts of comparisons of strings, truth values, sets, bytes and words.
 use Rattle.std.specs.Prelude.{ℕ, List, ◌++◌, codes}
 use Rattle.pm_families.specs.declared.families.Kind.{Kind}
 use Rattle.pm_families.specs.declared.families.Kind.TheVariants as kind
@@ -8,7 +8,7 @@ use Rattle.pm_phrases.specs.Shown.{Shown, place_text, value, value_text}
 use Rattle.pm_phrases.specs.Signs.{relation_sign}
 use Rattle.pm_phrases.specs.Spelled.{marked}
 
--- The kind of a comparison, with its size if it has one.
+-- The name of the kind of a comparison. The sizes of bytes and words follow, with the marks of their encoding.
 unfoldable pub kind_text : Spelling → Kind → List ℕ
 kind_text s kind.Real = codes "real"
 kind_text s kind.String = codes "str"
@@ -26,8 +26,8 @@ values_compared name r a b = compared name r (value_text a 2) (value_text b 2)
 unfoldable pub places_compared : List ℕ → Relation → Shown → Shown → Shown
 places_compared name r a b = compared name r (place_text a) (place_text b)
 
--- EQU and similar. Real numbers, truth values and sets are compared as values. The other kinds are compared through
--- their addresses.
+-- The text of the comparison `r` of `a` and `b` (EQU and similar). Real numbers, truth values and sets are operands
+-- themselves. The operands of the other kinds are addresses, and the text shows what is at these addresses.
 unfoldable pub compare_two : Spelling → Relation → Kind → Shown → Shown → Shown
 compare_two s r kind.Real a b = values_compared (kind_text s kind.Real) r a b
 compare_two s r kind.Boolean a b = values_compared (kind_text s kind.Boolean) r a b

@@ -1,5 +1,5 @@
--- The text of an item, by the number of its operands and by family. The result is `None` if the item has no text of its
--- own.
+-- The text of an item, selected by the number of its operands and by the family of its operation. A family is a group
+-- of instructions that do similar things. The result is `None` if the item has no special text.
 use Rattle.std.specs.Prelude.{ℕ, List, [], ◌∷◌, Option, Some, None}
 use Rattle.pm_families.specs.declared.families.Value.TheVariants as value
 use Rattle.pm_opcode.specs.declared.instr.Instr.{Instr}
@@ -26,7 +26,7 @@ use Rattle.pm_phrases.specs.Shown.{Shown}
 use Rattle.pm_phrases.specs.Spelled.{spelling_of}
 use Rattle.pm_phrases.specs.Variables.{variable_alone, variable_one}
 
--- An operation without operands. `named` contains the bytes that it names.
+-- The text of an operation without operands. The bytes `named` belong to its instruction.
 abbrev pub alone_by : Around → Spelling → List ℕ → Operation → Option Shown
 alone_by around s named (operation.Arithmetic o) = arithmetic_alone s o
 alone_by around s named (operation.Variable o) = variable_alone around s o
@@ -65,7 +65,8 @@ four_by a b c d (operation.Value (value.Field o)) = field_four o a b c d
 four_by a b c d (operation.Value (value.Set o)) = set_four o a b c d
 four_by a b c d _ = None
 
--- Instructions, by their operation and encoding.
+-- The text of instruction `i` without operands. It depends on the operation and the encoding of `i`. The definitions
+-- that follow are for one operand and more.
 unfoldable pub plain_none : Around → Instr → List ℕ → Option Shown
 plain_none around i named = alone_by around (spelling_of i (operation_of i)) named (operation_of i)
 
@@ -110,7 +111,7 @@ by_count around item (a ∷ b ∷ c ∷ []) = of_three item a b c
 by_count around item (a ∷ b ∷ c ∷ d ∷ []) = of_four item a b c d
 by_count around item (a ∷ b ∷ c ∷ d ∷ e ∷ more) = None
 
--- The stand-ins for missing operands, the first one first.
+-- The stand-ins for missing operands as a list, the first one first.
 abbrev pub in_order : Pops → List Shown
 in_order pops.None = []
 in_order (pops.One p) = p.now ∷ []

@@ -1,4 +1,4 @@
--- Jumps.
+-- The texts of jumps.
 use Rattle.std.specs.Prelude.{ℕ, List, ◌++◌, codes, Option, Some, None}
 use Rattle.pm_families.specs.declared.families.Condition.{Condition}
 use Rattle.pm_families.specs.declared.families.Condition.TheVariants as condition
@@ -15,7 +15,7 @@ abbrev pub condition_in : Operation → Option Condition
 condition_in (operation.Jump (jump.Short c offset)) = Some c
 condition_in _ = None
 
--- The condition of the short jump with this opcode.
+-- The condition of the short jump with the opcode `op`, or `None` if `op` is not the opcode of a short jump.
 unfoldable pub condition_of : ℕ → Option Condition
 condition_of op = condition_in (operation_of (bare op))
 
@@ -37,14 +37,14 @@ two_on target a b (Some condition.IfDifferent) = Some (compared (codes " <> ") t
 two_on target a b (Some condition.IfEqual) = Some (compared (codes " = ") target a b)
 two_on target a b _ = None
 
--- UJP
+-- The text of UJP, which has no operands.
 unfoldable pub jump_alone : ℕ → Target ℕ → Option Shown
 jump_alone op target = alone_on target (condition_of op)
 
--- FJP
+-- The text of FJP with the operand `a`.
 unfoldable pub jump_one : ℕ → Target ℕ → Shown → Option Shown
 jump_one op target a = one_on target a (condition_of op)
 
--- EFJ, NFJ
+-- The text of EFJ or NFJ with the operands `a` and `b`.
 unfoldable pub jump_two : ℕ → Target ℕ → Shown → Shown → Option Shown
 jump_two op target a b = two_on target a b (condition_of op)

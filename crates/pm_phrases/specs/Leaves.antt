@@ -1,4 +1,4 @@
--- Texts that are generated when they are appended.
+-- The texts of leaves. A leaf is a text that is generated when it is appended to another text.
 use Rattle.std.specs.Prelude.{ℕ, Bool, List, [], string_bytes}
 use Rattle.pm_code.specs.Item.{Item}
 use Rattle.pm_code.specs.Item.Item.{Plain, OneByte}
@@ -13,7 +13,7 @@ use Rattle.pm_phrases.specs.Missing.{share_text, stand_ins}
 use Rattle.pm_phrases.specs.Shown.{braced}
 use Rattle.pm_phrases.specs.Variables.{variable_text}
 
--- An instruction that names no bytes.
+-- An instruction to which no bytes belong.
 abbrev pub instruction : ℕ → ℕ → ℕ → Bool → Item ℕ
 instruction op a b long =
     Plain (record { op = op; a = a; b = b; c = 0; long = long; start = 0; count = 0; len = 0 }) []

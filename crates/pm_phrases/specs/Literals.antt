@@ -1,4 +1,4 @@
--- Constants that are stored in the code.
+-- The texts of constants that are stored in the code.
 use Rattle.std.specs.Prelude.{ℕ, ◌/◌, ◌%◌, Bool, false, ◌==◌, ◌&&◌, ◌||◌, nat_le, nat_lt, if◌then◌else◌}
 use Rattle.std.specs.Prelude.{List, [], ◌∷◌, ◌++◌, codes, Option, Some, None}
 use Rattle.std.specs.List.{flat_map}
@@ -14,15 +14,15 @@ use Rattle.pm_phrases.specs.declared.operand.Form.{Form}
 use Rattle.pm_phrases.specs.declared.operand.Form.TheVariants as form
 use Rattle.pm_phrases.specs.Shown.{Shown, standing, value_text}
 
--- Bytes 32 to 126, except the apostrophe and the backslash, are shown unchanged between apostrophes.
+-- Is true if `byte` is shown unchanged between apostrophes: 32 to 126, except the apostrophe and the backslash.
 abbrev pub is_own : ℕ → Bool
 is_own byte = if (byte == 39) || (byte == 92) then false else nat_le 32 byte && nat_le byte 126
 
--- A backslash and two hexadecimal digits.
+-- The text of `byte` as a backslash and two hexadecimal digits.
 unfoldable pub escape : ℕ → List ℕ
 escape byte = 92 ∷ hex_digit (byte / 16) ∷ hex_digit (byte % 16) ∷ []
 
--- An apostrophe is doubled.
+-- The text of `byte` between apostrophes. An apostrophe is doubled.
 abbrev pub apostrophed : ℕ → List ℕ
 apostrophed byte =
     if is_own byte then byte ∷ []
@@ -32,7 +32,7 @@ apostrophed byte =
 abbrev pub apostrophes : List ℕ → List ℕ
 apostrophes bytes = 39 ∷ flat_map apostrophed bytes ++ 39 ∷ []
 
--- LSA, LPA
+-- The text of LSA or LPA, to which the characters `named` belong.
 unfoldable pub literal_alone : List ℕ → Literal → Option Shown
 literal_alone named (literal.String start) = Some (standing form.Literal (apostrophes named))
 literal_alone named (literal.Characters start) = Some (standing form.Literal (quoted named))
@@ -42,7 +42,7 @@ abbrev pub words_by : Operation → List ℕ → Option (List ℕ)
 words_by (operation.Literal (literal.Words start count)) named = Some named
 words_by _ named = None
 
--- The bytes of the words of LDC.
+-- The bytes of the words of an item if it is an LDC, else `None`.
 abbrev pub words_in : Item ℕ → Option (List ℕ)
 words_in (Plain i named) = words_by (operation_of i) named
 words_in _ = None
@@ -52,8 +52,8 @@ character_by (form.Constant c) s strength =
     if nat_lt c 256 && is_own c then codes "CHR'" ++ c ∷ codes "'" else value_text s strength
 character_by _ s strength = value_text s strength
 
--- An operand of an operation whose other operand has the given form. Next to a byte, a constant is shown as a character
--- if it is printable.
+-- The text of operand `s` next to an operator whose other operand has the given form. Next to a byte, a constant is
+-- shown as a character if it is printable.
 unfoldable pub beside : Form → Shown → ℕ → List ℕ
 beside form.Byte s strength = character_by s.form s strength
 beside _ s strength = value_text s strength

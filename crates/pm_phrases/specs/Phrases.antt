@@ -11,11 +11,11 @@ use Rattle.pm_phrases.specs.Missing.{stand_ins}
 use Rattle.pm_phrases.specs.declared.operand.Form.TheVariants as form
 use Rattle.pm_phrases.specs.Shown.{Shown, braced}
 
--- The text of an item that has one of its own. A call has any number of operands.
+-- The special text of `item` with these operands, or `None` if it has none. A call has any number of operands.
 unfoldable pub template : Around → Item ℕ → List Shown → Option Shown
 template around item operands = option_or (called (operation_in item) operands) (by_count around item operands)
 
--- An item without a text of its own is shown in braces as in the disassembly, followed by its operands.
+-- The given text if it exists. Otherwise `item` in braces as in the disassembly, followed by its operands.
 abbrev pub or_braced : Item ℕ → List Shown → Option Shown → Shown
 or_braced item operands (Some s) = s
 or_braced item operands None = record {
@@ -24,8 +24,8 @@ or_braced item operands None = record {
   words = words_in item;
 }
 
--- The text of an operation applied to its operands, the first one first. The stand-ins for what is missing precede
--- them. If the input is not known, its only stand-in is `?`.
+-- The text of `item` applied to `operands`, the first one first. Stand-ins for `missing` precede the operands. If the
+-- input is not known (`known` is false), the only stand-in is `?`.
 unfoldable pub phrase_of : Around → Item ℕ → Bool → Missing → List Shown → Shown
 phrase_of around item known missing operands =
     let all = stand_ins known missing ++ operands in or_braced item all (template around item all)

@@ -1,5 +1,4 @@
--- Sets. A set on the stack is one operand. Otherwise a set is given by its words and their count, which are two
--- operands if the words are one operand.
+-- The texts of sets. A set is either one operand, or two operands: its words and their count.
 use Rattle.std.specs.Prelude.{ℕ, zero, suc, ◌+◌, ◌-◌, ◌*◌, ◌/◌, ◌%◌, ◌^◌, ◌==◌, ◌&&◌, ◌||◌, nat_le, nat_lt}
 use Rattle.std.specs.Prelude.{Bool, true, false, if◌then◌else◌, length, slice_index_or}
 use Rattle.std.specs.Prelude.{List, [], ◌++◌, codes, Option, Some, None}
@@ -15,8 +14,8 @@ use Rattle.pm_phrases.specs.Shown.{Shown, standing, value, value_text}
 
 -- ---- sets that are constants
 
--- Whether `e` is a member of the set with these bytes. It is bit `e` mod 16 of a word, counted backwards from the last
--- word by `e` div 16. The last word is pushed last and contains the lowest numbers.
+-- Is true if `e` is a member of the set with the words `bytes`. Number `e` is bit `e` mod 16 of a word. This word is
+-- `e` div 16 words before the last word. The last word is pushed last and contains the lowest numbers.
 unfoldable pub is_member : List ℕ → ℕ → Bool
 is_member bytes e = nat_lt (e / 8) (length bytes)
     && (slice_index_or bytes (2 * (length bytes / 2 - (e / 16 + 1)) + e / 8 % 2) 0 / 2 ^ (e % 8) % 2 == 1)
@@ -26,7 +25,7 @@ behind_next b true = behind.Member
 behind_next behind.Nothing false = behind.Nothing
 behind_next _ false = behind.Gap
 
--- The text of the number `e` in a list of members. Of consecutive members, the first is shown, and the last is shown
+-- The text of the number `e` in a list of members. The first of consecutive members is shown. The last of them is shown
 -- after `..`.
 abbrev pub member_text : Behind → Bool → Bool → ℕ → List ℕ
 member_text behind.Nothing true next e = decimal e
@@ -37,18 +36,19 @@ member_text _ _ _ e = []
 abbrev pub no_member : Behind
 no_member = behind.Nothing
 
--- The members among the `n` numbers from `e`.
+-- The text of the members among the `n` numbers from `e`.
 abbrev pub members_from : List ℕ → Behind → ℕ → ℕ → List ℕ
 members_from bytes before e zero = []
 members_from bytes before e (suc n) = member_text before (is_member bytes e) (is_member bytes (e + 1)) e
     ++ members_from bytes (behind_next before (is_member bytes e)) (e + 1) n
 
--- The size in words, if the highest word is 0, so that fewer words would suffice.
+-- The size `n` in words after `#` if the highest word of the set is 0. Without it, the text would denote a set of fewer
+-- words.
 abbrev pub count_text : List ℕ → ℕ → List ℕ
 count_text bytes n =
     if (slice_index_or bytes 0 0 == 0) && (slice_index_or bytes 1 0 == 0) then codes "#" ++ decimal n else []
 
--- A set of `n` words, shown by its members.
+-- The text of a set of `n` words: the list of its members.
 unfoldable pub members_text : List ℕ → ℕ → List ℕ
 members_text bytes n =
     codes "[" ++ (members_from bytes no_member 0 (16 * n) ++ (codes "]" ++ count_text bytes n))
@@ -62,8 +62,8 @@ constant_by None (form.Constant w) (form.Constant n) =
     if n == 1 then Some (members_text (to_le_bytes w16 w) 1) else None
 constant_by _ _ _ = None
 
--- The set that is given by words and their count, if both are constants. One word is a number. Several words are those
--- of LDC.
+-- The text of the set with these words and their count `n` if both are constants, else `None`. If the set has one word,
+-- `words` is a number. If the set has several words, they are the words of an LDC.
 abbrev pub constant_set : Shown → Shown → Option (List ℕ)
 constant_set words n = constant_by words.words words.form n.form
 
@@ -71,7 +71,7 @@ abbrev pub or_counted : Option (List ℕ) → Shown → Shown → List ℕ
 or_counted (Some text) words n = text
 or_counted None words n = codes "SET(" ++ (value_text words 0 ++ (codes ", " ++ (value_text n 0 ++ codes ")")))
 
--- A set that is given by its words and their count.
+-- The text of the set whose words are the operand `words`, and whose count of words is the operand `n`.
 unfoldable pub counted_text : Shown → Shown → List ℕ
 counted_text words n = or_counted (constant_set words n) words n
 
@@ -79,7 +79,8 @@ abbrev pub is_constant : Form → Bool
 is_constant (form.Constant w) = true
 is_constant _ = false
 
--- A set that is computed from constants is marked with `!`. Without the mark its text would be that of a constant set.
+-- The mark of a set that is computed from operands of these two forms: `!` if both are constants. Without the mark, the
+-- text would be that of a constant set.
 abbrev pub constant_mark : Form → Form → List ℕ
 constant_mark a b = if is_constant a && is_constant b then codes "!" else []
 
@@ -87,7 +88,7 @@ abbrev pub is_no_words : Form → Bool
 is_no_words (form.Constant w) = w == 0
 is_no_words _ = false
 
--- A set that is one operand. The number 0 is the empty set.
+-- The text of the set `s`, which is one operand, next to an operator of precedence `k`. The number 0 is the empty set.
 unfoldable pub set_text : Shown → ℕ → List ℕ
 set_text s k = if is_no_words s.form then codes "[]" else value_text s k
 
@@ -97,7 +98,7 @@ is_set f = is_no_words f
 
 -- ---- operations
 
--- The operator of an operation that makes a set of two sets.
+-- The operator of an operation that computes a set from two sets, or `None` for other operations.
 abbrev pub set_sign : Set → Option (List ℕ)
 set_sign set.Union = Some (codes "+")
 set_sign set.Difference = Some (codes "-")
@@ -108,11 +109,11 @@ abbrev pub set_strength : Set → ℕ
 set_strength set.Intersection = 3
 set_strength _ = 2
 
--- The text of two sets with an operator.
+-- The text of the sets `a` and `b` with the operator `sign` between them.
 abbrev pub joined : ℕ → List ℕ → List ℕ → List ℕ → Shown
 joined strength a sign b = standing (form.Set strength) (a ++ (codes " " ++ (sign ++ (codes " " ++ b))))
 
--- SGS, ADJ
+-- The text of SGS or ADJ with one operand.
 unfoldable pub set_one : Set → Shown → Option Shown
 set_one set.Singleton a =
     Some (standing (form.Set 9) (codes "[" ++ (value_text a 0 ++ (codes "]" ++ constant_mark a.form a.form))))
@@ -125,11 +126,12 @@ joined_by k a b (Some sign) = if is_set a.form && is_set b.form
     else None
 joined_by k a b None = None
 
--- Both operands must be sets, because the operators of integers look the same.
+-- The text of an operator on the sets `a` and `b`, or `None`. Both operands must be sets, because the operators of
+-- integers look the same.
 unfoldable pub sets_joined : Set → Shown → Shown → Option Shown
 sets_joined o a b = joined_by (set_strength o) a b (set_sign o)
 
--- INN, SRS, ADJ, UNI, DIF, INT
+-- The text of INN, SRS, ADJ, UNI, DIF or INT with two operands.
 unfoldable pub set_two : Set → Shown → Shown → Option Shown
 set_two set.Member a b = Some (value 1 (value_text a 2 ++ (codes " IN " ++ set_text b 2)))
 set_two set.Subrange a b =
@@ -143,7 +145,8 @@ counted_by k a b c (Some sign) (form.Set m) _ = Some (joined k (value_text a k) 
 counted_by k a b c (Some sign) _ (form.Set n) = Some (joined k (counted_text a b) sign (value_text c (k + 1)))
 counted_by k a b c _ _ _ = None
 
--- An operation on two sets: one set is a single operand, and the other set is words and their count.
+-- The text of an operation on two sets with three operands. One set is a single operand, and the other set is words and
+-- their count.
 unfoldable pub one_counted : Set → Shown → Shown → Shown → Option Shown
 one_counted o a b c = counted_by (set_strength o) a b c (set_sign o) a.form c.form
 
@@ -155,8 +158,8 @@ abbrev pub four_by : ℕ → Shown → Shown → Shown → Shown → Option (Lis
 four_by k a b c d (Some sign) = Some (joined k (counted_text a b) sign (counted_text c d))
 four_by k a b c d None = None
 
--- An operation on two sets, both given by words and their count. If the first or the last operand is a set, there is no
--- text: the words of the other set are two operands.
+-- The text of an operation on two sets, both given by words and their count: four operands. If the first or the last
+-- operand is a set, the result is `None`, because then the words of the other set are two operands.
 unfoldable pub set_four : Set → Shown → Shown → Shown → Shown → Option Shown
 set_four o a b c d =
     if is_set a.form || is_set d.form then None else four_by (set_strength o) a b c d (set_sign o)

@@ -17,11 +17,12 @@ marks spelling.Shortest = []
 marks spelling.Longer = codes "!"
 marks spelling.Longest = codes "!!"
 
--- A number with the marks of its encoding.
+-- The text of the number `n` with the marks of its encoding.
 abbrev pub marked : ℕ → Spelling → List ℕ
 marked n s = decimal n ++ marks s
 
--- SLDC includes 0 to 127 in its opcode, SLDL and SLDO include 1 to 16, and SIND includes 0 to 7.
+-- Is true if an opcode exists that includes the number of this operation. SLDC includes 0 to 127 in its opcode, SLDL
+-- and SLDO include 1 to 16, and SIND includes 0 to 7.
 unfoldable pub fits_opcode : Operation → Bool
 fits_opcode (operation.Arithmetic (arithmetic.Constant n)) = nat_lt n 128
 fits_opcode (operation.Variable (variable.Load scope.Global n)) = nat_le 1 n && nat_le n 16
@@ -37,7 +38,9 @@ spelling_by false false = spelling.Shortest
 spelling_by true true = spelling.Longest
 spelling_by _ _ = spelling.Longer
 
--- The encoding of an instruction whose operation is `what`. One mark is for a number in two bytes although one
--- suffices. One mark is for an opcode with an operand although one without exists.
+-- The encoding of the instruction `i`, whose operation is `what`. It is not the shortest encoding in two cases:
+--
+-- - The number has two bytes although one suffices.
+-- - The opcode has an operand although an opcode without one exists.
 unfoldable pub spelling_of : Instr → Operation → Spelling
 spelling_of i what = spelling_by i.long (has_shorter i what)

@@ -9,33 +9,34 @@ use Rattle.pm_phrases.specs.declared.around.Missing.{Missing}
 use Rattle.pm_phrases.specs.Phrases.{phrase_of}
 use Rattle.pm_phrases.specs.Shown.{Shown}
 
--- An instruction with two operands. `long` states whether its number is in two bytes although one suffices.
+-- An instruction with the opcode `op` and the operands `a` and `b`. `long` states whether its number is in two bytes
+-- although one suffices.
 abbrev pub spelled : Bool → ℕ → ℕ → ℕ → Item ℕ
 spelled long op a b = Plain record { op = op; a = a; b = b; c = 0; long = long; start = 0; count = 0; len = 0 } []
 
 abbrev pub coded : ℕ → ℕ → ℕ → Item ℕ
 coded op a b = spelled false op a b
 
--- In a procedure with three words of parameters.
+-- A procedure with three words of parameters.
 abbrev pub three_parameters : Around
 three_parameters = record { parameters = 3 }
 
 abbrev pub words_missing : ℕ → Missing
 words_missing n = record { below = share.Words 0; top = share.Words n }
 
--- With all of its operands.
+-- The text of `item` with all of its operands, in a procedure with three words of parameters.
 abbrev pub on : Item ℕ → List Shown → Shown
 on item operands = phrase_of three_parameters item true (words_missing 0) operands
 
--- With `n` words missing.
+-- The text of `item` if `n` words of its input are missing.
 abbrev pub lacking : ℕ → Item ℕ → List Shown → Shown
 lacking n item operands = phrase_of three_parameters item true (words_missing n) operands
 
--- With an input that is not known.
+-- The text of `item` if its input is not known.
 abbrev pub unknown : Item ℕ → Shown
 unknown item = phrase_of three_parameters item false (words_missing 0) []
 
--- SLDC, SLDL, SLDO
+-- The texts of SLDC, SLDL and SLDO.
 abbrev pub constant : ℕ → Shown
 constant n = on (coded n 0 0) []
 
@@ -45,7 +46,7 @@ local n = on (coded (215 + n) 0 0) []
 abbrev pub global : ℕ → Shown
 global n = on (coded (231 + n) 0 0) []
 
--- ADI, SBI, MPI, LAND
+-- The texts of ADI, SBI, MPI and LAND.
 abbrev pub add : Shown → Shown → Shown
 add a b = on (coded 130 0 0) (a ∷ b ∷ [])
 
@@ -58,15 +59,15 @@ multiply a b = on (coded 143 0 0) (a ∷ b ∷ [])
 abbrev pub both : Shown → Shown → Shown
 both a b = on (coded 132 0 0) (a ∷ b ∷ [])
 
--- LESI, GEQI
+-- The texts of LESI and GEQI.
 abbrev pub less : Shown → Shown → Shown
 less a b = on (coded 201 0 0) (a ∷ b ∷ [])
 
 abbrev pub at_least : Shown → Shown → Shown
 at_least a b = on (coded 196 0 0) (a ∷ b ∷ [])
 
--- Variables and their encodings: SLDL, LLA, LDA, LOD and STL; LDO 5 instead of SLDO 5; LDO with a number in two bytes
--- instead of one.
+-- States the texts of variables and their encodings. The instructions are SLDL, LLA, LDA, LOD and STL; LDO 5 instead of
+-- SLDO 5; LDO with a number in two bytes instead of one.
 pub record WorkedVariables : Type 0 where
   pub parameter : (local 3).text ≡ codes "param3"
   pub beyond : (local 4).text ≡ codes "local4"
@@ -85,7 +86,7 @@ pub record WorkedVariables : Type 0 where
   pub in_two_bytes : (on (spelled true 169 20 0) []).text ≡ codes "global20!"
   pub both : (on (spelled true 169 5 0) []).text ≡ codes "global5!!"
 
--- Operators, and where parentheses are needed.
+-- States the texts of operators, and where parentheses are needed.
 pub record WorkedOperators : Type 0 where
   pub from_left : (subtract (subtract (constant 6) (local 2)) (local 1)).text ≡ codes "6 - param2 - param1"
   pub from_right : (subtract (constant 6) (subtract (local 2) (local 1))).text ≡ codes "6 - (param2 - param1)"
@@ -119,11 +120,11 @@ pub record WorkedOperators : Type 0 where
   pub checked : (on (coded 136 0 0) (global 4 ∷ constant 2 ∷ on (coded 199 200 0) [] ∷ [])).text
       ≡ codes "CHECK(global4, 2..200)"
 
--- LAO
+-- The text of LAO.
 abbrev pub address : ℕ → Shown
 address n = on (coded 165 n 0) []
 
--- INC, IND, SIND, IXA, STO, MOV, LDM
+-- The texts of INC, IND, SIND, IXA, STO, MOV and LDM.
 abbrev pub further : ℕ → Shown → Shown
 further k a = on (coded 162 k 0) (a ∷ [])
 
@@ -167,7 +168,7 @@ pub record WorkedAddresses : Type 0 where
   pub words : (on (coded 189 4 0) (address 3 ∷ on (coded 188 4 0) (address 9 ∷ []) ∷ [])).text
       ≡ codes "global3 :=[4] load[4] global9"
 
--- Stand-ins for what is missing precede the operands.
+-- States texts with stand-ins such as `POP`. They represent missing operands, and precede the other operands.
 pub record WorkedMissing : Type 0 where
   pub one : (lacking 1 (coded 130 0 0) (local 1 ∷ [])).text ≡ codes "POP + param1"
   pub two : (lacking 2 (coded 154 0 0) []).text ≡ codes "{STO}(POP*2)"
@@ -178,7 +179,7 @@ pub record WorkedMissing : Type 0 where
   pub standard_not_known : (unknown (coded 158 99 0)).text ≡ codes "{CSP 99}(?)"
   pub by_a_jump : (lacking 1 (Jump 161 (To 47)) []).text ≡ codes "IF NOT (POP) GOTO L00047"
 
--- CGP, CLP, CXP, CSP
+-- The texts of CGP, CLP, CXP and CSP.
 abbrev pub call : ℕ → ℕ → List Shown → Shown
 call op n operands = on (coded op n 0) operands
 
@@ -212,18 +213,18 @@ pub record WorkedJumps : Type 0 where
       ≡ codes "CASE param1 OF -1: L00010; 0: L00020; 1: L00010 ELSE L00090"
   pub by_no_value : (on (Case 5 2 (Through 0) []) (local 1 ∷ [])).text ≡ codes "CASE param1 OF {5, 2} ELSE ^0"
 
--- Items that have no text of their own.
+-- States the texts of items that have no special text.
 pub record WorkedOthers : Type 0 where
   pub byte : (on (OneByte 210) []).text ≡ codes "{.BYTE 210}"
   pub other_segment : (on (coded 157 1 2) []).text ≡ codes "{LDE 1, 2}"
   pub real : (on (coded 131 0 0) (local 1 ∷ local 2 ∷ [])).text ≡ codes "{ADR}(param1, param2)"
 
--- An instruction that names bytes.
+-- The text of the instruction `op` to which `bytes` belong.
 abbrev pub naming : ℕ → List ℕ → Shown
 naming op bytes =
     on (Plain record { op = op; a = 0; b = 0; c = 0; long = false; start = 0; count = 0; len = 0 } bytes) []
 
--- LSA, LPA
+-- The texts of LSA and LPA.
 abbrev pub string : List ℕ → Shown
 string bytes = naming 166 bytes
 
@@ -241,11 +242,11 @@ pub record WorkedLiterals : Type 0 where
       ≡ codes "FWRITESTRING(up2_3, 'HIGHER', 0)"
   pub words : (naming 179 (1 ∷ 0 ∷ 2 ∷ 1 ∷ [])).text ≡ codes "{LDC 1, 258}"
 
--- SGS
+-- The text of SGS.
 abbrev pub single : Shown → Shown
 single a = on (coded 151 0 0) (a ∷ [])
 
--- SAS; EQU STR, NEQ BOOL, LEQ SET, EQU BYTES, GRT WORDS
+-- States the texts of comparisons: SAS; EQU STR, NEQ BOOL, LEQ SET, EQU BYTES, GRT WORDS.
 pub record WorkedComparisons : Type 0 where
   pub assigned : (on (coded 170 80 0) (address 3 ∷ string (codes "A") ∷ [])).text
       ≡ codes "global3 := string[80] 'A'"
@@ -260,7 +261,7 @@ pub record WorkedComparisons : Type 0 where
   pub bytes : (on (coded 175 10 8) (address 3 ∷ local 1 ∷ [])).text ≡ codes "bytes[8] global3 = param1^"
   pub words : (on (spelled true 177 12 4) (address 3 ∷ address 9 ∷ [])).text ≡ codes "words[4!] global3 > global9"
 
--- LDB, IXS, IXP, LDP
+-- The texts of LDB, IXS, IXP and LDP.
 abbrev pub byte : Shown → Shown → Shown
 byte a i = on (coded 190 0 0) (a ∷ i ∷ [])
 
@@ -292,14 +293,14 @@ pub record WorkedParts : Type 0 where
   pub bits_stored : (on (coded 187 0 0) (address 6 ∷ constant 4 ∷ constant 8 ∷ local 1 ∷ [])).text
       ≡ codes "global6.bits[4: 8] := param1"
 
--- SRS, LDM 4
+-- The texts of SRS and of LDM 4.
 abbrev pub range : Shown → Shown → Shown
 range a b = on (coded 148 0 0) (a ∷ b ∷ [])
 
 abbrev pub four_words : ℕ → Shown
 four_words n = on (coded 188 4 0) (address n ∷ [])
 
--- INN, UNI, INT, DIF, ADJ
+-- States the texts of the set operations INN, UNI, INT, DIF and ADJ.
 pub record WorkedSets : Type 0 where
   pub member : (on (coded 139 0 0) (local 1 ∷ range (constant 1) (constant 9) ∷ [])).text
       ≡ codes "param1 IN [1..9]!"
@@ -331,15 +332,15 @@ pub record WorkedSets : Type 0 where
       (phrase_of three_parameters (coded 139 0 0) true record { below = share.Words 1; top = share.Set } []).text
       ≡ codes "POP IN POP SET"
 
--- IXS and LDB
+-- The text of the character that IXS and LDB load.
 abbrev pub letter : Shown
 letter = on (coded 190 0 0) (character (address 44) (local 4) ∷ [])
 
--- EQUI
+-- The text of EQUI.
 abbrev pub equal : Shown → Shown → Shown
 equal a b = on (coded 195 0 0) (a ∷ b ∷ [])
 
--- A number next to a byte.
+-- States the texts of numbers next to a byte, which are shown as characters if they are printable.
 pub record WorkedCharacters : Type 0 where
   pub compared : (equal letter (constant 65)).text ≡ codes "global44.char[local4] = CHR'A'"
   pub in_front : (equal (constant 65) letter).text ≡ codes "CHR'A' = global44.char[local4]"
@@ -357,18 +358,19 @@ pub record WorkedCharacters : Type 0 where
   pub bits : (on (coded 187 0 0) (packed (address 6) (local 4) ∷ constant 65 ∷ [])).text
       ≡ codes "global6.packed[local4: 8 of 2 bits] := 65"
 
--- INN and UNI with a set of words and their count
+-- The texts of INN and UNI with a set that is given by its words and their count.
 abbrev pub member : Shown → Shown → Shown
 member words n = on (coded 139 0 0) (local 1 ∷ words ∷ n ∷ [])
 
 abbrev pub with_one : Shown → Shown → Shown
 with_one words n = on (coded 156 0 0) (words ∷ n ∷ single (local 1) ∷ [])
 
--- LDC
+-- The text of LDC.
 abbrev pub in_code : List ℕ → Shown
 in_code bytes = naming 179 bytes
 
--- Constant sets: bits 1 and 8 of the word 258, and bit 0 of the word before it, which is number 16.
+-- States the texts of constant sets, for example bits 1 and 8 of the word 258. Bit 0 of the word before that word is
+-- number 16.
 pub record WorkedConstants : Type 0 where
   pub two_words : (member (in_code (1 ∷ 0 ∷ 2 ∷ 1 ∷ [])) (constant 2)).text ≡ codes "param1 IN [1, 8, 16]"
   pub over_words : (member (in_code (1 ∷ 0 ∷ 1 ∷ 128 ∷ [])) (constant 2)).text ≡ codes "param1 IN [0, 15..16]"

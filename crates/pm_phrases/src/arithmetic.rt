@@ -1,4 +1,4 @@
-//! Operations on words as integers.
+//! The texts of operations on words as integers.
 
 ghost use Rattle.std.specs.Prelude.{◌≡◌, IfOk};
 ghost use Rattle.pm_phrases.specs.Arithmetic as texts;

@@ -1,4 +1,5 @@
-//! The context of an operation: its procedure, and operands that are missing.
+//! The context of an operation: its procedure, and the operands that are missing. A share is a part of the stack: a
+//! number of words, or a set. A stand-in is a text, such as `POP`, that represents a share which no operand supplies.
 
 ghost use Rattle.std.specs.Prelude.{◌≡◌, ◌++◌, OnOk, string_bytes};
 ghost use Rattle.pm_phrases.specs.Missing as missing;
@@ -12,20 +13,21 @@ use std::alloc::AllocError;
 /// The procedure that contains an operation.
 #[derive(Clone, Copy)]
 pub struct Around {
-    /// The size of its parameters, in words.
+    /// The size of the procedure's parameters, in words.
     pub parameters: u16,
 }
 
-/// The part of an operation's input that no operand supplies. It is taken from the stack in two shares.
+/// The part of an operation's input that no operand supplies. The operation pops this part from the stack as two
+/// shares.
 #[derive(Clone, Copy)]
 pub struct Missing {
-    /// The share below the other one.
+    /// The share that is below the other one on the stack.
     pub below: Share,
     /// The share at the top of the stack.
     pub top: Share,
 }
 
-/// The stand-ins for missing operands, in order.
+/// The stand-ins for missing operands: none, one or two, in the order in which the text shows them.
 #[derive(Clone, Copy)]
 pub(crate) enum Pops<'a> {
     None,
@@ -33,7 +35,7 @@ pub(crate) enum Pops<'a> {
     Two(&'a Phrase, &'a Phrase),
 }
 
-/// Returns the operand that represents a missing share.
+/// Returns the stand-in (such as `POP`) for the missing share `share`, as an operand.
 pub(crate) fn stand_in(share: Share) -> Phrase
     ensures stand_in { result ≡ missing.stand_in share }
 {
@@ -44,10 +46,10 @@ pub(crate) fn stand_in(share: Share) -> Phrase
     leafed(Leaf::StandIn(share), form)
 }
 
-/// Appends an argument list in parentheses: first the stand-ins for missing operands, then `operands`. Appends nothing
-/// if the list is empty.
+/// Appends an argument list in parentheses to `out`: first the stand-ins for `what`, which is missing, then `operands`.
+/// Appends nothing if the list is empty.
 ///
-/// If `known` is false, the stand-in is `?`, for any `what`.
+/// If `known` is false, the input of the operation is unknown. Then the only stand-in is `?`, for any `what`.
 #[tactic(auto, unfolding(crate::specs::Shown::value_text))]
 pub(crate) fn push_arguments(
     out: &mut String,

@@ -1,4 +1,4 @@
-//! Calls and returns.
+//! The texts of calls and returns.
 
 ghost use Rattle.std.specs.Prelude.{◌≡◌, ◌++◌, IfOk, OnOk, string_bytes};
 ghost use Rattle.std.specs.Fmt.{decimal};
@@ -13,7 +13,7 @@ use pm_notes::{standard_name, system_name};
 use pm_opcode::Operation;
 use std::alloc::{AllocError, Global};
 
-/// Appends a name followed by a number.
+/// Appends `name`, followed by `number` in decimal.
 fn push_numbered(out: &mut String, name: &str, number: u8) -> Result<(), AllocError>
     ensures text { OnOk result (string_bytes out.new ≡ string_bytes out.old ++ (name.now ++ decimal number)) }
 {
@@ -21,7 +21,8 @@ fn push_numbered(out: &mut String, name: &str, number: u8) -> Result<(), AllocEr
     push_number(out, u32::from(number))
 }
 
-/// Appends the name of the called procedure, or its instruction and numbers if it has no name.
+/// Appends the name of the procedure that `call` calls, such as `CLP_2`. A procedure of the operating system may have
+/// its own name.
 #[tactic(auto, unfolding(crate::specs::Calls::called_text, crate::specs::Calls::external_name))]
 fn push_called(out: &mut String, call: Call) -> Result<(), AllocError>
     ensures text { OnOk result (string_bytes out.new ≡ string_bytes out.old ++ texts.called_text call) }

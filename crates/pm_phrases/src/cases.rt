@@ -1,4 +1,4 @@
-//! Case jumps.
+//! The text of case jumps.
 
 ghost use Rattle.std.specs.Prelude.{◌≡◌, ◌%◌, ◌∷◌, ◌++◌, ◌+◌, IfOk, Some};
 ghost use Rattle.pm_code.specs.Views.{placed_target};
@@ -10,14 +10,14 @@ use pm_code::{Label, Signed, Target};
 use std::alloc::{AllocError, Global};
 use std::fmt;
 
-/// Returns the next case value. The value after 65,535 (-1) is 0.
+/// Returns the case value that follows `value`. The value after 65,535 (-1) is 0.
 fn next_value(value: u16) -> u16
     ensures next { result ≡ texts.next_value value }
 {
     if value == 65535 { 0 } else { value + 1 }
 }
 
-/// A case value and the offset of its label.
+/// An arm of a case: a case value and the offset of its label, shown as `value: label`.
 #[derive(Clone, Copy)]
 struct Arm(u16, usize);
 
@@ -30,7 +30,8 @@ impl fmt::Display for Arm {
     }
 }
 
-/// The further arms of a case: `value` is that of the first of `places`.
+/// The further arms of a case, each shown after a separator. The first of `places` belongs to `value`, the next one to
+/// the next value.
 #[derive(Clone, Copy)]
 struct MoreArms<'a> {
     value: u16,
@@ -52,7 +53,7 @@ impl fmt::Display for MoreArms<'_> {
     }
 }
 
-/// The jump table of a case: its bounds and the offsets of its labels.
+/// The table of a case jump: its bounds `low` and `high`, and the offsets of its labels.
 #[derive(Clone, Copy)]
 pub(crate) struct Table<'a> {
     pub low: u16,

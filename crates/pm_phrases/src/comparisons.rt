@@ -1,4 +1,4 @@
-//! Comparisons of strings, truth values, sets, bytes and words.
+//! The texts of comparisons of strings, truth values, sets, bytes and words.
 
 ghost use Rattle.std.specs.Prelude.{◌≡◌, ◌++◌, IfOk, OnOk, string_bytes};
 ghost use Rattle.pm_phrases.specs.Comparisons as texts;
@@ -10,7 +10,8 @@ use crate::spelling::{Spelling, marks_of};
 use pm_families::{Kind, Relation};
 use std::alloc::{AllocError, Global};
 
-/// Appends the kind of a comparison, with its size if it has one.
+/// Appends the name of `kind`, such as `str` or `bool`. The sizes of bytes and words follow, with the marks of
+/// `spelling`.
 #[tactic(auto, unfolding(crate::specs::Comparisons::kind_text))]
 fn push_kind(out: &mut String, spelling: Spelling, kind: Kind) -> Result<(), AllocError>
     ensures text { OnOk result (string_bytes out.new ≡ string_bytes out.old ++ texts.kind_text spelling kind) }
@@ -35,8 +36,8 @@ fn push_kind(out: &mut String, spelling: Spelling, kind: Kind) -> Result<(), All
     }
 }
 
-/// Returns the text of a comparison. Real numbers, truth values and sets are compared as values. The other kinds are
-/// compared through two addresses.
+/// Returns the text of the comparison `r` of the operands `a` and `b`. Real numbers, truth values and sets are operands
+/// themselves. For any other `kind`, the operands are addresses, and the text shows what is at these addresses.
 #[tactic(auto, unfolding(crate::specs::Comparisons::compare_two, crate::specs::Comparisons::values_compared, crate::specs::Comparisons::places_compared))]
 pub(crate) fn compare_two(
     alloc: Global,

@@ -1,4 +1,5 @@
-//! The text of an item, by the number of its operands and by the family of its operation.
+//! The text of an item, selected by the number of its operands and by the family of its operation. A family is a group
+//! of instructions that do similar things, such as `Pointer` or `Set`.
 
 ghost use Rattle.std.specs.Prelude.{◌≡◌, ◌++◌, IfOk};
 ghost use Rattle.pm_code.specs.Views.{placed_item};
@@ -156,7 +157,7 @@ fn of_two(
     }
 }
 
-/// Returns the operation of the item's instruction, or `Nothing` if the item is a jump, a case or a single byte.
+/// Returns the operation of the instruction `item`, or `Nothing` if `item` is a jump, a case or a single byte.
 #[tactic(auto, unfolding(crate::specs::Counts::operation_in))]
 pub(crate) fn operation_in(item: &Item<usize>) -> Operation
     ensures operation { result ≡ texts.operation_in (placed_item item.now) }
@@ -202,8 +203,8 @@ fn of_four(
     }
 }
 
-/// Returns the text of an item applied to the stand-ins `pops` followed by `operands`. Returns `None` if the item has
-/// no text of its own for that number of operands.
+/// Returns the text of `item`, whose operation is `what`, applied to the stand-ins `pops` followed by `operands`.
+/// Returns `None` if `item` has no special text for this number of operands.
 #[tactic(auto, unfolding(crate::specs::Counts::by_count, crate::specs::Counts::of_three, crate::specs::Counts::of_four))]
 pub(crate) fn by_count(
     alloc: Global,

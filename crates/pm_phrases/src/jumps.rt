@@ -1,4 +1,4 @@
-//! Jumps.
+//! The texts of jumps.
 
 ghost use Rattle.std.specs.Prelude.{◌≡◌, ◌++◌, IfOk, OnOk, string_bytes};
 ghost use Rattle.pm_code.specs.Shown.{padded, target_text};
@@ -12,7 +12,7 @@ use pm_families::{Condition, Jump};
 use pm_opcode::{Instr, Operation};
 use std::alloc::{AllocError, Global};
 
-/// Returns the condition of the short jump with this opcode, or `None` if the opcode is no short jump.
+/// Returns the condition of the short jump with the opcode `op`, or `None` if `op` is not the opcode of a short jump.
 #[tactic(auto, unfolding(crate::specs::Jumps::condition_of))]
 pub fn condition_of(op: u8) -> Option<Condition>
     ensures condition { result ≡ texts.condition_of op }
@@ -23,7 +23,7 @@ pub fn condition_of(op: u8) -> Option<Condition>
     }
 }
 
-/// Appends an offset with at least five decimal digits.
+/// Appends `offset` with at least five decimal digits.
 #[tactic(auto, using(pm_code::proofs::Digits::padded_written))]
 pub fn push_offset(out: &mut String, offset: usize) -> Result<(), AllocError>
     ensures text { OnOk result (string_bytes out.new ≡ string_bytes out.old ++ padded 5 offset) }
@@ -42,7 +42,7 @@ pub fn push_offset(out: &mut String, offset: usize) -> Result<(), AllocError>
     Ok(())
 }
 
-/// Appends the target of a jump: a label, or `^` and the number of the jump table entry.
+/// Appends `target`, the target of a jump: a label, or `^` and the number of the jump table entry.
 pub fn push_target(out: &mut String, target: Target<usize>) -> Result<(), AllocError>
     ensures text { OnOk result
         (string_bytes out.new ≡ string_bytes out.old ++ target_text (placed_target target)) }

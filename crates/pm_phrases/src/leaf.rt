@@ -1,4 +1,5 @@
-//! The texts of operands. Most of them need no memory.
+//! The texts of operands. A leaf is a text that is generated when it is appended to another text. So a leaf needs no
+//! memory.
 
 ghost use Rattle.std.specs.Prelude.{◌≡◌, ◌++◌, IfSome, None, OnOk, string_bytes};
 ghost use Rattle.std.specs.Fmt.{decimal};
@@ -19,13 +20,13 @@ use pm_families::Scope;
 use pm_opcode::{Form, Instr, Operation, form_at, implied_number, row_at};
 use std::alloc::AllocError;
 
-/// An item that names no bytes and no offsets.
+/// An item to which no bytes belong, and which contains no offsets.
 #[derive(Clone, Copy, Drop)]
 pub(crate) enum Bare {
-    /// An instruction: its opcode, its first two operands, and whether its number is encoded in two bytes although one
+    /// An instruction: its opcode, its first two operands, and `true` if its number has two bytes although one
     /// suffices.
     Instruction(u8, u16, u16, bool),
-    /// A byte that is no instruction.
+    /// A byte that is not part of an instruction.
     OneByte(u8),
 }
 
@@ -34,17 +35,19 @@ pub(crate) enum Bare {
 pub(crate) enum Leaf {
     /// A number in its shortest encoding, shown as a signed integer.
     Number(u16),
-    /// A variable: its procedure, scope and number, and the encoding that its marks show.
+    /// A variable: the procedure that uses it, its scope, its number, and the encoding of the instruction, which marks
+    /// show.
     Variable(Around, Scope, u16, Spelling),
     /// A constant text.
     Fixed(&'static str),
-    /// The stand-in for a missing share.
+    /// The stand-in (such as `POP`) for a missing share. A share is a part of the stack: a number of words, or a set.
     StandIn(Share),
-    /// An item in braces with stand-ins only: the item, whether its input is known, and what is missing.
+    /// An item in braces, followed by stand-ins only. The fields are the item, whether its input is known, and what is
+    /// missing.
     Braced(Bare, bool, Missing),
 }
 
-/// The text of an operand.
+/// The text of an operand, either stored or generated when needed.
 #[derive(Drop)]
 pub(crate) enum Text {
     /// A text in memory.
@@ -53,7 +56,8 @@ pub(crate) enum Text {
     Leaf(Leaf),
 }
 
-/// Returns the item as a `Bare`, or `None` if it names bytes or offsets.
+/// Returns `item`, whose operation is `what`, as a `Bare`. Returns `None` if bytes belong to the item, or if it
+/// contains offsets.
 #[tactic(auto, unfolding(pm_code::specs::Shown::shown_item, crate::specs::Counts::operation_in))]
 pub(crate) fn bare_in(item: &Item<usize>, what: Operation) -> Option<Bare>
     requires what { what ≡ operation_in (placed_item item.now) }
@@ -70,7 +74,7 @@ pub(crate) fn bare_in(item: &Item<usize>, what: Operation) -> Option<Bare>
     }
 }
 
-/// Appends a number in decimal.
+/// Appends `number` in decimal.
 #[tactic(auto, using(std::proofs::lemmas::Fmt::decimal_digit, crate::proofs::Decimals::digit_added))]
 pub(crate) fn push_number(out: &mut String, number: u32) -> Result<(), AllocError>
     ensures text { OnOk result (string_bytes out.new ≡ string_bytes out.old ++ decimal number) }
@@ -83,7 +87,7 @@ pub(crate) fn push_number(out: &mut String, number: u32) -> Result<(), AllocErro
     Ok(())
 }
 
-/// Appends the line of the disassembly for an item that names no bytes and no offsets.
+/// Appends the text that the disassembly shows for the item `bare`.
 #[tactic(auto, unfolding(pm_code::specs::Shown::shown_item, pm_code::specs::Text::item_text))]
 pub(crate) fn push_bare(out: &mut String, bare: Bare) -> Result<(), AllocError>
     ensures text { OnOk result (string_bytes out.new ≡ string_bytes out.old ++ shown_item (leaves.item_of bare)) }
@@ -108,7 +112,7 @@ pub(crate) fn push_bare(out: &mut String, bare: Bare) -> Result<(), AllocError>
     out.write(Instruction { instr, named })
 }
 
-/// Appends the stand-in for a missing share.
+/// Appends the stand-in (such as `POP`) for the missing share `share`.
 pub(crate) fn push_share(out: &mut String, share: Share) -> Result<(), AllocError>
     ensures text { OnOk result (string_bytes out.new ≡ string_bytes out.old ++ missing.share_text share) }
 {
@@ -122,7 +126,8 @@ pub(crate) fn push_share(out: &mut String, share: Share) -> Result<(), AllocErro
     }
 }
 
-/// Appends the argument list of the stand-ins for what is missing. If `known` is false, the list is `(?)`.
+/// Appends the argument list in parentheses of the stand-ins for `what`, which is missing. If `known` is false, the
+/// list is `(?)`.
 #[tactic(auto, unfolding(crate::specs::Shown::value_text))]
 fn push_stand_ins(out: &mut String, known: bool, what: Missing) -> Result<(), AllocError>
     ensures text { OnOk result
@@ -148,7 +153,7 @@ fn push_stand_ins(out: &mut String, known: bool, what: Missing) -> Result<(), Al
     }
 }
 
-/// Appends an item in braces, followed by the argument list of its stand-ins.
+/// Appends the item `bare` in braces, followed by the argument list of the stand-ins for `what`.
 fn push_braced(out: &mut String, bare: Bare, known: bool, what: Missing) -> Result<(), AllocError>
     ensures text { OnOk result (string_bytes out.new
         ≡ string_bytes out.old ++ braced (leaves.item_of bare) (missing.stand_ins known what)) }
@@ -159,7 +164,7 @@ fn push_braced(out: &mut String, bare: Bare, known: bool, what: Missing) -> Resu
     push_stand_ins(out, known, what)
 }
 
-/// Appends the text of an operand.
+/// Appends `text`, the text of an operand.
 pub(crate) fn push_text(out: &mut String, text: &Text) -> Result<(), AllocError>
     ensures text { OnOk result (string_bytes out.new ≡ string_bytes out.old ++ leaves.bytes_of text.now) }
 {

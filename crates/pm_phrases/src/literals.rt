@@ -1,4 +1,4 @@
-//! Constants that are stored in the code.
+//! The texts of constants that are stored in the code.
 
 ghost use Rattle.std.specs.Prelude.{◌≡◌, ◌∷◌, ◌++◌, IfOk, OnOk, Some, option_map, string_bytes};
 ghost use Rattle.std.specs.List.{flat_map};
@@ -14,14 +14,14 @@ use pm_opcode::Operation;
 use std::alloc::{AllocError, Global};
 use std::fmt;
 
-/// Whether a byte is shown unchanged between apostrophes.
+/// Whether `byte` is shown unchanged between apostrophes: 32 to 126, except the apostrophe and the backslash.
 fn is_own(byte: u8) -> bool
     ensures own { result ≡ texts.is_own byte }
 {
     byte != b'\'' && byte != b'\\' && byte >= 32 && byte <= 126
 }
 
-/// A byte as a backslash and two hexadecimal digits.
+/// A byte, shown as a backslash and two hexadecimal digits.
 #[derive(Clone, Copy)]
 struct Escape(u8);
 
@@ -90,7 +90,7 @@ pub(crate) fn literal_alone(
     Ok(Some(standing(Text::Written(text), Form::Literal)))
 }
 
-/// Returns the bytes of the words if the item is an LDC, else `None`.
+/// Returns the bytes of the words of `item` if it is an LDC, else `None`.
 #[tactic(auto, unfolding(crate::specs::Counts::operation_in))]
 pub(crate) fn words_in(
     alloc: Global,
@@ -110,8 +110,9 @@ pub(crate) fn words_in(
     }
 }
 
-/// Appends an operand of an operation whose other operand has the form `form`. If the other operand is a byte, a
-/// constant that is a printable character is shown as `CHR'c'`.
+/// Appends `operand`, which is next to an operator of the precedence `strength`. The other operand of this operator has
+/// the form `form`. If `form` is a byte and `operand` is the constant of a printable character, `operand` is shown as
+/// `CHR'c'`.
 #[tactic(auto, unfolding(crate::specs::Literals::beside))]
 pub(crate) fn push_beside(
     out: &mut String,

@@ -1,4 +1,4 @@
-//! Texts as operands.
+//! Texts as operands of other texts. A phrase is the text of an operand, with what this text denotes (its form).
 
 ghost use Rattle.std.specs.Prelude.{◌≡◌, ◌∷◌, ◌++◌, IfOk, IfSome, OnOk, codes, string_bytes};
 ghost use Rattle.std.specs.Fmt.{decimal};
@@ -10,11 +10,11 @@ use crate::leaf::{Leaf, Text, push_number, push_text};
 use std::alloc::{AllocError, Global};
 use std::marker::Model;
 
-/// The initial capacity of a text, in bytes.
+/// The initial capacity of a new text, in bytes.
 pub(crate) const ROOM: usize = 24;
 
-/// Returns the capacity in bytes for `room` bytes and the text of an operand. A text that is not in memory is not
-/// counted.
+/// Returns the capacity in bytes of a text that needs `room` bytes and also contains the text of `operand`. The text of
+/// `operand` is counted only if it is in memory.
 pub(crate) fn room_for(room: usize, operand: &Phrase) -> usize {
     match operand.as_str() {
         Some(text) => room.saturating_add(text.len()),
@@ -22,14 +22,14 @@ pub(crate) fn room_for(room: usize, operand: &Phrase) -> usize {
     }
 }
 
-/// What the text of an operand denotes, and so how it is used as a value.
+/// What the text of an operand denotes. The form decides how the text is used as a value.
 #[derive(Clone, Copy, Drop)]
 pub enum Form {
-    /// A value, with the precedence of its outermost operator.
+    /// A value. The number is the precedence of the outermost operator of the text; 9 is the highest.
     Value(u8),
-    /// A set, with the precedence of its outermost operator.
+    /// A set. The number is the precedence of the outermost operator of the text; 9 is the highest.
     Set(u8),
-    /// A number in its shortest encoding.
+    /// The number that is shown, in its shortest encoding.
     Constant(u16),
     /// The value of a byte.
     Byte,
@@ -54,7 +54,7 @@ pub struct Phrase {
     pub(crate) text: Text,
     /// What the text denotes.
     pub form: Form,
-    /// The bytes of the words, if the operand is an LDC.
+    /// The bytes of the words, if the operand is an LDC; else `None`.
     pub(crate) words: Option<Vec<u8>>,
 }
 
@@ -73,7 +73,7 @@ impl Model for Phrase {
 }
 
 impl Phrase {
-    /// Returns the text if it is in memory.
+    /// Returns the text if it is in memory, or `None` if it is generated when needed.
     pub fn as_str(&self) -> Option<&str>
         ensures text { IfSome result (λ text. text.now ≡ self.now.text) }
     {
@@ -93,7 +93,7 @@ impl Phrase {
     }
 }
 
-/// Returns the precedence of a text of this form if it is used as a value.
+/// Returns the precedence of the text of an operand of the form `form`, if it is used as a value.
 pub(crate) fn strength_of(form: Form) -> u8
     ensures strength { result ≡ shown.strength_of form }
 {
@@ -105,10 +105,10 @@ pub(crate) fn strength_of(form: Form) -> u8
     }
 }
 
-/// Appends an operand as a value next to an operator of the precedence `strength`.
+/// Appends the operand `phrase` as a value next to an operator of the precedence `strength`.
 ///
-/// The operand is put in parentheses if its own precedence is lower. It is prefixed with `@` if its text denotes what
-/// is at an address.
+/// The operand is put in parentheses if its own precedence is lower than `strength`. It is prefixed with `@` if its
+/// text denotes what is at an address.
 #[tactic(auto, unfolding(crate::specs::Shown::value_text))]
 pub(crate) fn push_operand(
     out: &mut String,
@@ -135,14 +135,14 @@ pub(crate) fn push_operand(
     Ok(())
 }
 
-/// Appends an operand as a value, without parentheses.
+/// Appends the operand `phrase` as a value, without parentheses around it.
 pub fn push_value(out: &mut String, phrase: &Phrase) -> Result<(), AllocError>
     ensures text { OnOk result (string_bytes out.new ≡ string_bytes out.old ++ shown.value_text phrase.now 0) }
 {
     push_operand(out, phrase, 0)
 }
 
-/// Appends a word, a number with marks in square brackets, and a space.
+/// Appends `word`, then `number` and `marks` in square brackets, then a space.
 pub(crate) fn push_sized(
     out: &mut String,
     word: &str,
@@ -159,7 +159,7 @@ pub(crate) fn push_sized(
     out.push_str("] ")
 }
 
-/// Appends an operator between two spaces.
+/// Appends the operator `sign` between two spaces.
 pub(crate) fn push_sign(out: &mut String, sign: &str) -> Result<(), AllocError>
     ensures text { OnOk result
         (string_bytes out.new ≡ string_bytes out.old ++ (codes " " ++ (sign.now ++ codes " "))) }
@@ -169,7 +169,7 @@ pub(crate) fn push_sign(out: &mut String, sign: &str) -> Result<(), AllocError>
     out.push(' ')
 }
 
-/// Appends what is at the address that an operand denotes.
+/// Appends the text of what is at the address that `phrase` denotes.
 #[tactic(auto, unfolding(crate::specs::Shown::place_text))]
 pub(crate) fn push_place(out: &mut String, phrase: &Phrase) -> Result<(), AllocError>
     ensures text { OnOk result (string_bytes out.new ≡ string_bytes out.old ++ shown.place_text phrase.now) }
@@ -190,7 +190,7 @@ pub(crate) fn push_place(out: &mut String, phrase: &Phrase) -> Result<(), AllocE
     }
 }
 
-/// Appends each operand after a comma and a space.
+/// Appends each of `operands` after a comma and a space.
 pub(crate) fn push_further(out: &mut String, operands: &[Phrase]) -> Result<(), AllocError>
     ensures text { OnOk result
         (string_bytes out.new ≡ string_bytes out.old ++ flat_map shown.further operands.now) }
@@ -202,7 +202,7 @@ pub(crate) fn push_further(out: &mut String, operands: &[Phrase]) -> Result<(), 
     Ok(())
 }
 
-/// Appends operands as an argument list in parentheses. Appends nothing if there are none.
+/// Appends `operands` as an argument list in parentheses. Appends nothing if `operands` is empty.
 pub(crate) fn push_listed(out: &mut String, operands: &[Phrase]) -> Result<(), AllocError>
     ensures text { OnOk result
         (string_bytes out.new ≡ string_bytes out.old ++ shown.arguments operands.now) }
@@ -218,7 +218,7 @@ pub(crate) fn push_listed(out: &mut String, operands: &[Phrase]) -> Result<(), A
     }
 }
 
-/// Returns a text as an operand of the given form.
+/// Returns the operand with the text `text` and the form `form`.
 pub(crate) fn standing(text: Text, form: Form) -> Phrase
     ensures standing { result ≡ shown.standing form (bytes_of text) }
 {
@@ -229,14 +229,14 @@ pub(crate) fn standing(text: Text, form: Form) -> Phrase
     }
 }
 
-/// Returns a text that needs no memory as an operand.
+/// Returns the operand with the text of `leaf`, which needs no memory, and the form `form`.
 pub(crate) fn leafed(leaf: Leaf, form: Form) -> Phrase
     ensures standing { result ≡ shown.standing form (leaf_text leaf) }
 {
     standing(Text::Leaf(leaf), form)
 }
 
-/// Returns a text in memory as a value of the given precedence.
+/// Returns the operand with the text `text`, as a value of the precedence `strength`.
 pub(crate) fn valued(text: String, strength: u8) -> Phrase
     ensures value { result ≡ shown.value strength (string_bytes text) }
 {

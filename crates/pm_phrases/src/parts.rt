@@ -1,4 +1,4 @@
-//! Bytes, characters of strings, and bits of words.
+//! The texts of operations on bytes, characters of strings, and bits of words.
 
 ghost use Rattle.std.specs.Prelude.{◌≡◌, ◌++◌, IfOk, OnOk, Some, string_bytes};
 ghost use Rattle.pm_phrases.specs.Parts as texts;
@@ -11,7 +11,7 @@ use crate::operand::{
 use pm_families::{Byte, Field, Text};
 use std::alloc::{AllocError, Global};
 
-/// Appends the bits of a word, without the closing bracket: `a` is the address, `b` the first bit, `c` the count.
+/// Appends the text of `c` bits from bit `b` of the word at the address `a`, without the closing bracket.
 fn push_bits(out: &mut String, a: &Phrase, b: &Phrase, c: &Phrase) -> Result<(), AllocError>
     ensures text { OnOk result (string_bytes out.new ≡ string_bytes out.old ++ texts.bits_text a.now b.now c.now) }
 {
@@ -22,7 +22,7 @@ fn push_bits(out: &mut String, a: &Phrase, b: &Phrase, c: &Phrase) -> Result<(),
     push_value(out, c)
 }
 
-/// Returns the text of a store of `b` to the byte or bits `a`.
+/// Returns the text of a store of the value `b` to the byte or the bits that `a` denotes. `kind` is the form of `a`.
 #[tactic(auto, unfolding(crate::specs::Parts::part_stored))]
 fn part_stored(alloc: Global, kind: Form, a: &Phrase, b: &Phrase) -> Result<Phrase, AllocError>
     ensures shown { IfOk result (λ p. p ≡ texts.part_stored kind a.now b.now) }

@@ -1,4 +1,4 @@
-//! Operations on addresses.
+//! The texts of operations on addresses.
 
 ghost use Rattle.std.specs.Prelude.{◌≡◌, IfOk};
 ghost use Rattle.pm_phrases.specs.Pointers as texts;
@@ -12,8 +12,8 @@ use crate::spelling::{Spelling, marks_of};
 use pm_families::Pointer;
 use std::alloc::{AllocError, Global};
 
-/// Whether a loaded word is shown without its number. This holds for word 0 in the shortest encoding, except of a
-/// variable, a field or a literal.
+/// Whether the text of a load of word `number` omits this number. The address of word 0 is an operand of the form
+/// `form`. The number is omitted if it is 0 in the shortest encoding, except for a variable, a field or a literal.
 #[tactic(auto, unfolding(crate::specs::Pointers::is_unnumbered))]
 fn is_unnumbered(spelling: Spelling, form: Form, number: u16) -> bool
     ensures unnumbered { result ≡ texts.is_unnumbered spelling form number }

@@ -1,4 +1,4 @@
-//! Sets.
+//! The texts of sets and of operations on sets.
 
 ghost use Rattle.std.specs.Prelude.{◌≡◌, ◌<◌, ◌*◌, ◌++◌, IfOk, IfSome, OnOk, Some, option_map, string_bytes};
 ghost use Rattle.std.specs.Bool.{OnTrue};
@@ -15,10 +15,10 @@ use pm_families::Set;
 use std::alloc::{AllocError, Global};
 use std::fmt;
 
-/// One word of the stack.
+/// One word of the stack, as a share. A share is a part of the stack: a number of words, or a set.
 const ONE: Share = Share::Words(1);
 
-/// Whether `number` is a member of the set with these bytes. The last word contains the lowest numbers.
+/// Whether `number` is a member of the set with the words `bytes`. The last word contains the lowest numbers.
 #[tactic(auto, unfolding(crate::specs::Sets::is_member))]
 fn is_member(bytes: &[u8], number: usize) -> bool
     ensures member { result ≡ texts.is_member bytes.now number }
@@ -31,19 +31,19 @@ fn is_member(bytes: &[u8], number: usize) -> bool
     (byte >> (number % 8)) % 2 == 1
 }
 
-/// What precedes a number in a list of members.
+/// What precedes a number in the text of a list of members.
 #[derive(Clone, Copy)]
 enum Behind {
-    /// No member yet.
+    /// No number before this one is a member.
     Nothing,
-    /// A number that is no member, and a member before it.
+    /// The number before this one is not a member, but an earlier number is.
     Gap,
-    /// A member.
+    /// The number before this one is a member.
     Member,
 }
 
-/// A number in a list of members: what precedes it, whether it is a member, whether the next number is one, and the
-/// number.
+/// The text of a number in a list of members. The fields are: what precedes the number, whether it is a member, whether
+/// the next number is a member, and the number.
 #[derive(Clone, Copy)]
 struct MemberText(Behind, bool, bool, usize);
 
@@ -61,7 +61,8 @@ impl fmt::Display for MemberText {
     }
 }
 
-/// Returns what precedes the next number.
+/// Returns what precedes the next number, if `behind` precedes this number, and `is_member` states whether this number
+/// is a member.
 fn behind_next(behind: Behind, is_member: bool) -> Behind
     ensures behind { result ≡ texts.behind_next behind is_member }
 {
@@ -72,7 +73,7 @@ fn behind_next(behind: Behind, is_member: bool) -> Behind
     }
 }
 
-/// The members of a set: its bytes, and its size in words.
+/// The members of a set, shown as a list. The set is given by its bytes and its size in words.
 #[derive(Clone, Copy)]
 struct Members<'a>(&'a [u8], u16);
 
@@ -95,7 +96,7 @@ impl fmt::Display for Members<'_> {
     }
 }
 
-/// A constant set: its bytes, and its size in words. The first two bytes are the highest word.
+/// A constant set, given by its bytes and its size in words. The first two bytes are the highest word.
 #[derive(Clone, Copy)]
 struct SetConstant<'a>(&'a [u8], u16);
 
@@ -116,7 +117,7 @@ impl fmt::Display for SetConstant<'_> {
     }
 }
 
-/// Appends the set that is given by its words and their count.
+/// Appends the set whose words are the operand `words`, and whose size in words is the operand `count`.
 #[tactic(auto, unfolding(crate::specs::Sets::counted_text))]
 fn push_counted(out: &mut String, words: &Phrase, count: &Phrase) -> Result<(), AllocError>
     ensures text { OnOk result
@@ -140,7 +141,8 @@ fn push_counted(out: &mut String, words: &Phrase, count: &Phrase) -> Result<(), 
     }
 }
 
-/// Appends a set that is one operand. A constant 0 is the empty set.
+/// Appends the set `set`, which is one operand, next to an operator of the precedence `strength`. The constant 0 is the
+/// empty set.
 #[tactic(auto, unfolding(crate::specs::Sets::set_text))]
 fn push_set(out: &mut String, set: &Phrase, strength: u8) -> Result<(), AllocError>
     ensures text { OnOk result
@@ -152,7 +154,8 @@ fn push_set(out: &mut String, set: &Phrase, strength: u8) -> Result<(), AllocErr
     }
 }
 
-/// Returns the mark of a set that is computed from the operands `a` and `b`: `!` if both are constants.
+/// Returns the mark of a set that is computed from operands of the forms `a` and `b`: `!` if both are constants, else
+/// an empty text.
 fn constant_mark(a: Form, b: Form) -> &'static str
     ensures mark { result.now ≡ texts.constant_mark a b }
 {
@@ -162,8 +165,8 @@ fn constant_mark(a: Form, b: Form) -> &'static str
     }
 }
 
-/// Returns the operator of an operation that makes a set of two sets, and its precedence. Returns `None` for other
-/// operations.
+/// Returns the operator of `what`, an operation that computes a set from two sets, and the precedence of this operator.
+/// Returns `None` for other operations.
 fn set_sign(what: Set) -> Option<(&'static str, u8)>
     ensures sign { option_map (λ s. s.0.now) result ≡ texts.set_sign what }
     ensures strength { IfSome result (λ s. s.1 ≡ texts.set_strength what) }
@@ -177,7 +180,8 @@ fn set_sign(what: Set) -> Option<(&'static str, u8)>
     }
 }
 
-/// Whether an operand is the stand-in for this missing share.
+/// Whether the operand `a` is the stand-in for the missing share `share`. If true, the text and the form of `a` are
+/// those of the stand-in.
 fn stands_for(share: Share, a: &Phrase) -> bool
     ensures text { OnTrue result (a.now.text ≡ share_text share) }
     ensures form { OnTrue result (a.now.form ≡ (stand_in share).form) }
@@ -218,7 +222,8 @@ pub(crate) fn set_one(alloc: Global, what: Set, a: &Phrase) -> Result<Option<Phr
     }
 }
 
-/// Returns the text of an operation on two sets, each of which is one operand.
+/// Returns the text of the operation `what` on the sets `a` and `b`, each of which is one operand. Returns `None` if
+/// the operation has no special text.
 #[tactic(auto, unfolding(crate::specs::Sets::sets_joined))]
 fn sets_joined(
     alloc: Global,
@@ -284,8 +289,8 @@ pub(crate) fn set_two(
     }
 }
 
-/// Returns the text of a set operation on three operands. For an operator on two sets, one set is a single operand, and
-/// the other set is two operands: its words and their count.
+/// Returns the text of the set operation `what` on the operands `a`, `b` and `c`. For an operator on two sets, one set
+/// is a single operand. The other set is two operands: its words and their count.
 #[tactic(auto, unfolding(crate::specs::Sets::set_three, crate::specs::Sets::one_counted))]
 pub(crate) fn set_three(
     alloc: Global,

@@ -5,7 +5,7 @@ ghost use Rattle.pm_phrases.specs.Signs as signs;
 
 use pm_families::{Binary, Relation};
 
-/// Returns an operator on two integers, and its precedence.
+/// Returns the operator of the operation `o` on two integers, and the precedence of this operator.
 pub(crate) fn binary_sign(o: Binary) -> (&'static str, u8)
     ensures sign { result.0.now ≡ signs.binary_sign o }
     ensures strength { result.1 ≡ signs.binary_strength o }
@@ -22,7 +22,7 @@ pub(crate) fn binary_sign(o: Binary) -> (&'static str, u8)
     }
 }
 
-/// Returns the operator of a comparison.
+/// Returns the operator of the comparison `r`.
 pub(crate) fn relation_sign(r: Relation) -> &'static str
     ensures sign { result.now ≡ signs.relation_sign r }
 {

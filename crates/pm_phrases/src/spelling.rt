@@ -13,11 +13,11 @@ pub(crate) enum Spelling {
     Shortest,
     /// A number in two bytes although one suffices, or an operand although an opcode exists that includes the number.
     Longer,
-    /// Both of these.
+    /// A number in two bytes although one suffices, and an operand although an opcode exists that includes the number.
     Longest,
 }
 
-/// Returns the marks that show an encoding.
+/// Returns the marks that show the encoding `spelling` after a number.
 pub(crate) fn marks_of(spelling: Spelling) -> &'static str
     ensures marks { result.now ≡ spelled.marks spelling }
 {
@@ -28,7 +28,7 @@ pub(crate) fn marks_of(spelling: Spelling) -> &'static str
     }
 }
 
-/// Returns the encoding of an instruction whose operation is `what`.
+/// Returns the encoding of the instruction `i`, whose operation is `what`.
 #[tactic(auto, unfolding(crate::specs::Spelled::spelling_of, crate::specs::Spelled::has_shorter, crate::specs::Spelled::fits_opcode))]
 pub(crate) fn spelling_of(i: &Instr, what: Operation) -> Spelling
     ensures spelling { result ≡ spelled.spelling_of i.now what }

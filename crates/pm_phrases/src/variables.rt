@@ -1,4 +1,4 @@
-//! Variables.
+//! The texts of operations on variables.
 
 ghost use Rattle.std.specs.Prelude.{◌≡◌, ◌++◌, IfOk, OnOk, string_bytes};
 ghost use Rattle.pm_phrases.specs.Variables as texts;
@@ -10,7 +10,8 @@ use crate::spelling::{Spelling, marks_of};
 use pm_families::{Scope, Variable};
 use std::alloc::{AllocError, Global};
 
-/// Returns the prefix of a local variable's name: `param` or `local`.
+/// Returns the prefix of the name of local variable `number` of the procedure `around`: `param` if the variable is a
+/// parameter, else `local`.
 #[tactic(auto, unfolding(crate::specs::Variables::local_word))]
 pub(crate) fn local_word(around: Around, number: u16) -> &'static str
     ensures word { result.now ≡ texts.local_word around number }
@@ -22,7 +23,8 @@ pub(crate) fn local_word(around: Around, number: u16) -> &'static str
     }
 }
 
-/// Appends the name of a variable, with the marks of its encoding.
+/// Appends the name of variable `number` of `scope`, with the marks of the encoding `spelling`. `around` is the
+/// procedure that uses the variable.
 #[tactic(auto, unfolding(crate::specs::Variables::variable_text))]
 pub(crate) fn push_name(
     out: &mut String,

@@ -17,8 +17,8 @@ use pm_effects::Share;
 use pm_opcode::Operation;
 use std::alloc::{AllocError, Global};
 
-/// Returns the text of an item applied to the stand-ins for what is missing and `operands`. Returns `None` if the item
-/// has no text of its own.
+/// Returns the text of `item`, whose operation is `what`, applied to the stand-ins for `missing` followed by
+/// `operands`. If `known` is false, the only stand-in is `?`. Returns `None` if `item` has no special text.
 #[tactic(auto, unfolding(crate::specs::Phrases::template))]
 fn template(
     alloc: Global,
@@ -55,11 +55,11 @@ fn template(
     }
 }
 
-/// Returns the text of an operation applied to `operands`, the first one first. The stand-ins for what is missing
-/// precede them.
+/// Returns the text of `item` applied to `operands`, the first one first. Stand-ins, such as `POP`, precede `operands`.
+/// They represent the operands in `missing`, which no text supplies. `around` is the procedure that contains `item`.
 ///
-/// If `known` is false, the input of the operation is not known, and its only stand-in is `?`. An item that has no text
-/// of its own is shown in braces, as in the disassembly.
+/// If `known` is false, the input of the operation is not known, and its only stand-in is `?`. An item that has no
+/// special text is shown in braces, as in the disassembly.
 #[tactic(auto, unfolding(crate::specs::Phrases::phrase_of))]
 pub fn phrase(
     alloc: Global,

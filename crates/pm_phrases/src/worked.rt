@@ -1,8 +1,9 @@
-//! Worked examples: what the definitions compute for code. The function does nothing.
+//! Worked examples: the texts that the definitions compute for some code. The function has an empty body; its clauses
+//! are the examples.
 
 ghost use Rattle.pm_phrases.specs.Worked as worked;
 
-/// The texts of each family.
+/// States texts of instructions, grouped by what the instructions do.
 #[tactic(auto, using(crate::proofs::Computed::worked_variables, crate::proofs::Computed::worked_operators, crate::proofs::Computed::worked_addresses, crate::proofs::Computed::worked_missing, crate::proofs::Computed::worked_calls, crate::proofs::Computed::worked_jumps, crate::proofs::Computed::worked_others, crate::proofs::Computed::worked_literals, crate::proofs::Computed::worked_comparisons, crate::proofs::Computed::worked_parts, crate::proofs::Computed::worked_sets, crate::proofs::Computed::worked_characters, crate::proofs::Computed::worked_constants))]
 pub fn worked_texts()
     ensures variables { worked.WorkedVariables }

@@ -1,4 +1,4 @@
--- Numbers of a line, digit by digit and word by word.
+-- Lemmas about the numbers of a line, digit by digit and word by word.
 use Rattle.std.proofs.Common.{◌≡◌, ◌∙◌, ◌+◌, ◌-◌, ◌*◌, ◌^◌, ◌≤◌, ◌<◌, ap, sym, refl, arith, ℕ, zero, suc, Bool, true, false, List, [], ◌∷◌, ◌++◌, length}
 use Rattle.std.proofs.Common.{append_assoc, append-nil, Option, Some, None}
 use Rattle.std.specs.Prelude.{nat_lt, if◌then◌else◌}
@@ -6,7 +6,7 @@ use Rattle.std.proofs.lemmas.Bool.Decides.{nat_tests}
 use Rattle.pm_notes.specs.Names.{is_digit}
 use Rattle.pm_session.specs.Commands.{number_and_numbers, word_number, number_behind, numbers}
 
--- A number that is too large remains too large.
+-- If `n` is above 4,294,967,295, then further digits do not give a number.
 number_large : (n : ℕ) (word : List ℕ) → 4294967295 < n → number_behind n word ≡ None
 unfolding number_behind
 number_large n [] h =
@@ -33,7 +33,7 @@ number_end n h =
     rw below refl
 
 module _ (whole : Option ℕ) (n : ℕ) (rest : List ℕ) (h : whole ≡ number_behind n rest) where
-  -- No byte is left.
+  -- If no byte remains and `n` is not too large, then `n` is the number.
   pub number_is : length rest ≡ 0 → n ≤ 4294967295 → whole ≡ Some n
   number_is none le = h ∙ at rest none
     where
@@ -53,7 +53,7 @@ module _ (whole : Option ℕ) (n : ℕ) (rest : List ℕ) (h : whole ≡ number_
 
 -- ---- words that are numbers
 
--- Numbers before others.
+-- The numbers `front` followed by the given numbers, or `None` if no list is given.
 abbrev pub behind : List ℕ → Option (List ℕ) → Option (List ℕ)
 behind front (Some ns) = Some (front ++ ns)
 behind front None = None

@@ -1,4 +1,4 @@
--- The answers to an input, byte by byte.
+-- Lemmas about the answers to an input, byte by byte.
 use Rattle.std.proofs.Common.{◌≡◌, ◌∙◌, ◌+◌, ◌<◌, ◌≤◌, ap, sym, refl, arith, get_or, ℕ, zero, suc, Bool, true, false}
 use Rattle.std.proofs.Common.{List, [], ◌∷◌, ◌++◌, length, drop, reverse, append_assoc, append-nil, Option, Some, None}
 use Rattle.std.proofs.lemmas.List.{drop_all, reverse-append, reverse-reverse}
@@ -19,11 +19,11 @@ use Rattle.pm_machine.specs.Events.{Key, next}
 use Rattle.pm_session.specs.Answers.{after_command, after_keys, after_passing, after_run, answer_text, command_text, passing, session_after}
 use Rattle.pm_session.specs.Sessions.{Told, answer_line, answers, behind_quit, console_line, from_feed, is_quit, told, whole_lines}
 
--- The answers to these lines of an input.
+-- The answers to the lines `lines` of `input`, and the part of `input` that is not read.
 abbrev pub told_lines : List (List ℕ) → List ℕ → Session → Told
 told_lines lines input d = record { text = answers lines d; unread = behind_quit lines input }
 
--- The lines of the rest of an input after the bytes of a line.
+-- The lines of an input that consists of `line`, whose end is not reached, and `rest`.
 abbrev pub lines_behind : List ℕ → List ℕ → List (List ℕ)
 lines_behind line rest = without_empty_end (with_front line (pieces_between 10 rest))
 
@@ -37,7 +37,7 @@ pub told_start : (input : List ℕ) (d : Session) → told input d ≡ told_from
 unfolding told lines_of_input
 told_start input d = ap (λ ps. told_lines (without_empty_end ps) input d) (with_front-none (pieces_between 10 input) (pieces_some 10 input))
 
--- A byte that ends no line.
+-- If the byte `c` is not a line feed, then it is added to the current line.
 pub told_byte : (line : List ℕ) (c : ℕ) (rest : List ℕ) (d : Session) → (c == 10) ≡ false → told_from line (c ∷ rest) d ≡ told_from (line ++ c ∷ []) rest d
 told_byte line c rest d h =
     ap (λ ps. told_lines (without_empty_end ps) (line ++ c ∷ rest) d)
@@ -87,7 +87,7 @@ told_is text unread t a b = ap (from t.text) b ∙ ap (λ x. from x unread) a
 
 -- ---- `quit`
 
--- Nothing follows all bytes.
+-- If a command writes nothing to the console, then no console bytes are shown.
 nothing_more : (shows : Bool) (console : List ℕ) → (if shows then console_line (drop (length console) console) else []) ≡ []
 nothing_more true console = ap console_line (drop_all (length console) console (omega arith))
 nothing_more false console = refl
@@ -100,7 +100,7 @@ quit_unanswered _ d q = absurd (cc)
 pub answer_quit : (line : List ℕ) (d : Session) → is_quit (order_of line) ≡ true → answer_line (order_of line) d ≡ []
 answer_quit line d q = quit_unanswered (order_of line) d q
 
--- Only `quit` has no answer.
+-- If an order has no answer, then it is `quit`.
 pub unanswered : (order : Option Order) (d : Session) → None ≡ answer_text order d → is_quit order ≡ true
 unfolding command_text
 unanswered (Some (Does commands.Quit)) d h = refl
@@ -111,7 +111,7 @@ unfolding command_text
 is_answered (Some (Does commands.Quit)) d text h = absurd (cc)
 is_answered _ d text h = refl
 
--- The line feed of `quit`.
+-- If `c` is the line feed of a line with `quit`, then no answer follows and `rest` is not read.
 pub told_quit : (line : List ℕ) (c : ℕ) (rest : List ℕ) (d : Session) → (c == 10) ≡ true → is_quit (order_of line) ≡ true
     → told_from line (c ∷ rest) d ≡ record { text = []; unread = rest }
 told_quit line c rest d h q =
@@ -120,7 +120,7 @@ told_quit line c rest d h q =
     (answers_quit line (lines_of_input rest) d q)
     (behind_quit_here line (lines_of_input rest) (line ++ c ∷ rest) q ∙ line_dropped line c rest)
 
--- The line feed of another line.
+-- If `c` is the line feed of another line, then the answer to this line is followed by the answers to `rest`.
 pub told_line : (line : List ℕ) (c : ℕ) (rest : List ℕ) (d : Session) → (c == 10) ≡ true → is_quit (order_of line) ≡ false
     → told_from line (c ∷ rest) d ≡ after_telling (answer_line (order_of line) d) (told rest (session_after (order_of line) d))
 unfolding told
@@ -130,7 +130,7 @@ told_line line c rest d h q =
     (answers_more line (lines_of_input rest) d q)
     (behind_quit_later line (lines_of_input rest) (line ++ c ∷ rest) q ∙ ap (behind_quit (lines_of_input rest)) (line_dropped line c rest))
 
--- The end of the input, after a line feed.
+-- If the input ends after a line feed, then no further answer follows.
 pub told_none : (d : Session) → told_from [] [] d ≡ record { text = []; unread = [] }
 unfolding without_empty_end answers behind_quit
 told_none d = ap (λ ps. told_lines (without_empty_end (with_front [] ps)) [] d) (pieces_none 10)
@@ -156,7 +156,7 @@ nothing_behind line = by_quit (is_quit (order_of line)) ∙ drop-append-add line
     by_quit true = refl
     by_quit false = refl
 
--- The end of the input, after a line without its line feed.
+-- If the input ends after a line without a line feed, then the answer to this line is the last one.
 pub told_last : (line : List ℕ) (d : Session) → 0 < length line → told_from line [] d ≡ record { text = answer_line (order_of line) d; unread = [] }
 told_last line d h =
     ap (λ lines. told_lines lines (line ++ []) d) (last_line_is line h)
@@ -171,7 +171,7 @@ pub whole_lines_none : whole_lines [] ≡ []
 unfolding whole_lines from_feed
 whole_lines_none = refl
 
--- A line feed ends all lines so far.
+-- A text that ends with a line feed has only whole lines.
 pub whole_lines_feed : (text : List ℕ) (c : ℕ) → (c == 10) ≡ true → whole_lines (text ++ c ∷ []) ≡ text ++ c ∷ []
 unfolding whole_lines from_feed
 whole_lines_feed text c h =
@@ -184,7 +184,8 @@ whole_lines_byte text c h = ap (λ r. reverse (from_feed r)) (reverse-append tex
 
 -- ---- runs that pass over breakpoints
 
--- One more pass.
+-- If the run passes over one breakpoint, then the outcome after all passes is that of the continued run with one pass
+-- less.
 pub pass_more : (breaks : List Breakpoint) (most p q : ℕ) (left : Left) (run next : Gone) → passed breaks p left most run.machine ≡ Some next
     → p ≡ q + 1 → all_passed breaks most p left run ≡ all_passed breaks most q (left_past breaks left most run.machine) next
 unfolding all_passed
@@ -198,7 +199,7 @@ pass_more breaks most (suc p) q (AtBreak depth made watched) run next h e =
     (gone_past breaks watched depth made most run.machine)) same
     ∙ ap (all_passed breaks most q (left_past breaks (AtBreak depth made watched) most run.machine)) is
 
--- No pass is left, or no breakpoint stopped the run.
+-- If no pass remains, or if no breakpoint stopped the run, then the outcome after all passes is that of the run.
 pub pass_over : (breaks : List Breakpoint) (most p : ℕ) (left : Left) (run : Gone) → passed breaks p left most run.machine ≡ None
     → all_passed breaks most p left run ≡ record { run = run; left = left; passes = p }
 unfolding all_passed
@@ -214,7 +215,7 @@ pub all_passed-none : (breaks : List Breakpoint) (most : ℕ) (left : Left) (run
 unfolding all_passed
 all_passed-none breaks most left run = refl
 
--- The session after such a run is that of the run that stops at the first breakpoint.
+-- If the session has no passes, then the session after a run is that of the run that stops at the first breakpoint.
 pub after_none : (d : Session) (depth : Depth) (most : ℕ) (run : Gone) → d.passes ≡ 0 → after_passing d (passing d depth most run) ≡ after_run d depth run
 unfolding all_passed
 after_none d depth most run none = by_passes d.passes none
@@ -232,7 +233,7 @@ passing_none d depth most run none =
 
 -- ---- bytes of the console input queue
 
--- One more byte is in the queue.
+-- If byte `i` is appended to the queue, then the remaining bytes lead to the same session.
 pub key_more : (bytes : List ℕ) (i : ℕ) (d t : Session) → i < length bytes → t ≡ record d { machine = next d.machine (Key (get_or bytes i 0)) }
     → after_keys (drop i bytes) d ≡ after_keys (drop (i + 1) bytes) t
 unfolding after_command
@@ -241,6 +242,6 @@ key_more bytes i d t inside e =
     ap (λ bs. after_keys bs d) (drop-cons bytes i 0 inside ∙ ap (λ j. get_or bytes i 0 ∷ drop j bytes) one)
     ∙ ap (after_keys (drop (i + 1) bytes)) (sym e)
 
--- No byte is left.
+-- If no byte remains, then the session is unchanged.
 pub keys_over : (bytes : List ℕ) (i : ℕ) (d : Session) → length bytes ≤ i → after_keys (drop i bytes) d ≡ d
 keys_over bytes i d over = ap (λ bs. after_keys bs d) (drop_all i bytes over)

@@ -1,4 +1,4 @@
--- Words of a line, byte by byte.
+-- Lemmas about the words of a line, byte by byte.
 use Rattle.std.proofs.Common.{◌≡◌, ◌∙◌, ◌+◌, ◌<◌, ap, sym, refl, arith, ℕ, zero, suc, Bool, true, false, not, List, [], ◌∷◌, ◌++◌, length, take, drop, get_or}
 use Rattle.std.proofs.Common.{add-one, append_assoc, append-nil}
 use Rattle.std.proofs.Math.Seq.{drop-cons, take-suc}
@@ -7,7 +7,7 @@ use Rattle.pm_session.specs.Words.{begins_word, without_empty, pieces_between, w
 
 -- ---- pieces
 
--- Bytes before the first of these pieces.
+-- The pieces with the bytes `front` before the first piece.
 abbrev pub with_front : List ℕ → List (List ℕ) → List (List ℕ)
 with_front front [] = front ∷ []
 with_front front (piece ∷ pieces) = (front ++ piece) ∷ pieces
@@ -68,7 +68,7 @@ unfolding without_empty
 filled_one [] ps h = absurd (omega arith)
 filled_one (c ∷ word) ps h = refl
 
--- The first `end` bytes of the first word of a line, and the rest of the line.
+-- States that the first `end` bytes of `line` are part of its first word, and that `rest` is the rest of the line.
 pub record IsInWord (line : List ℕ) (end : ℕ) (rest : List ℕ) : Type 0 where
   pub pieces : pieces_between 32 line ≡ with_front (take end line) (pieces_between 32 rest)
   pub left : rest ≡ drop end line
@@ -102,7 +102,7 @@ word_ends front (c ∷ rest) line u some b =
     ap without_empty (u ∙ ap (with_front front) (pieces_mark 32 c rest mark) ∙ ap (λ w. w ∷ pieces_between 32 rest) (append-nil front))
     ∙ filled_one front (pieces_between 32 rest) some ∙ ap (λ ws. front ∷ ws) (sym (words_space c rest b))
 
--- The word ends at a space or at the end of the line.
+-- If the rest of the line begins with a space or is empty, then the first word consists of the first `end` bytes.
 pub words_at_end : (line : List ℕ) (end : ℕ) (rest : List ℕ) → IsInWord line end rest → begins_word line ≡ true → begins_word rest ≡ false →
     words_of_line line ≡ take end line ∷ words_of_line rest
 words_at_end line zero rest u first b = absurd (both (sym first ∙ ap begins_word (sym u.left) ∙ b))
@@ -117,7 +117,7 @@ words_at_end (c ∷ line) (suc end) rest u first b = word_ends (take (suc end) (
 
 -- ---- carriage returns
 
--- The byte at the end.
+-- The last byte `c` of a line, or no byte if `c` is a carriage return.
 at_end : ℕ → List ℕ
 at_end c = if c == 13 then [] else c ∷ []
 

@@ -33,7 +33,7 @@ use Rattle.pm_session.specs.Orders.Order.{Does, Types}
 use Rattle.pm_session.specs.Texts.{chain_text, numbers_text, refused_text}
 use Rattle.pm_session.specs.Views.{view_text}
 
--- The answer to a command that only succeeds or is refused.
+-- The answer to a command that shows nothing: `ok`, or the refusal.
 abbrev pub done_text : {A : Type 0} → Result A DebugRefusal → List ℕ
 done_text (Ok x) = codes "ok"
 done_text (Err refusal) = refused_text refusal
@@ -42,15 +42,15 @@ abbrev pub word_text : Result ℕ DebugRefusal → List ℕ
 word_text (Ok word) = decimal word
 word_text (Err refusal) = refused_text refusal
 
--- The address of the segment of a slot, the number of its calls, and how many times the program keeps it. It is `none`
--- if the segment is not in memory.
+-- The answer for a segment: its address, the number of its calls, and how many times the program keeps it loaded. The
+-- answer is `none` if the segment is not in memory.
 abbrev pub place_text : Option (ℕ × ℕ) → Option ℕ → List ℕ
 place_text (Some at) (Some keeps) = numbers_text (at.0 ∷ at.1 ∷ keeps ∷ [])
 place_text (Some at) None = codes "none"
 place_text None keeps = codes "none"
 
--- The answer to a run has the form of the last line of a trace and counts only the steps of this run. After a changed
--- word the address of the word follows.
+-- The answer to a run. It has the form of the last line of a trace, but counts only the steps of this run. If a watched
+-- word has changed, the address of the word follows.
 abbrev pub gone_text : BreakReason → ℕ → List ℕ
 gone_text (reasons.Changed address) steps = codes "changed " ++ (decimal steps ++ (32 ∷ decimal address))
 gone_text reasons.Break steps = codes "break " ++ decimal steps
@@ -60,25 +60,26 @@ gone_text reasons.Waiting steps = last_line endings.Waiting steps
 gone_text reasons.Ended steps = last_line endings.Ended steps
 gone_text (reasons.Halted error) steps = last_line (endings.Error error) steps
 
--- The run with these steps and this reason, and the state `s`.
+-- The outcome of a run with these steps, this reason, and the last state `s`.
 abbrev pub ran_to : ℕ → BreakReason → State → Gone
 ran_to steps reason s = record { steps = steps; reason = reason; machine = s }
 
--- A run to `depth` of at most `most` steps, after the breakpoints that it passes over.
+-- The outcome of a run to the destination `depth`, of at most `most` steps, after the breakpoints that it passes over.
 abbrev pub passing : Session → Depth → ℕ → Gone → Passed
 passing d depth most run = all_passed d.breaks most d.passes (left_of depth d.watches d.machine run) run
 
--- The same for the continuation of the last run, for at most `n` more steps.
+-- The outcome of the continuation of the last run, for at most `n` more steps, after the breakpoints that it passes
+-- over.
 abbrev pub passing_on : Session → ℕ → Option Gone → Option Passed
 passing_on d n (Some run) =
     Some (all_passed d.breaks (most_on d.left n) d.passes (left_on d.breaks d.left n d.machine) run)
 passing_on d n None = None
 
--- The answer to a run.
+-- The answer to a run that has passed over breakpoints.
 abbrev pub run_text : Passed → Option (List ℕ)
 run_text p = Some (gone_text p.run.reason p.run.steps)
 
--- The answer to a continued run: the steps of the whole run, or the refusal if there is no run to continue.
+-- The answer to a continued run: the steps of the whole run, or the refusal if no run can be continued.
 abbrev pub on_text : Option Passed → List ℕ
 on_text (Some p) = gone_text p.run.reason p.run.steps
 on_text None = refused_text NothingLeft
@@ -127,13 +128,13 @@ abbrev pub with_breaks : Session → Result (List Breakpoint) DebugRefusal → S
 with_breaks d (Ok breaks) = record d { breaks = breaks }
 with_breaks d (Err refusal) = d
 
--- The session after a watched word was set or removed. The last run cannot be continued then. A refusal leaves the
--- session unchanged.
+-- The session after a watched word was set or removed. Afterwards the last run cannot be continued. A refusal leaves
+-- the session unchanged.
 abbrev pub with_watches : Session → Result (List ℕ) DebugRefusal → Session
 with_watches d (Ok watches) = record d { watches = watches; left = Nothing }
 with_watches d (Err refusal) = d
 
--- The session after a run to `depth`.
+-- The session after a run to the destination `depth`.
 abbrev pub after_run : Session → Depth → Gone → Session
 after_run d depth run = record d {
   machine = run.machine;
@@ -144,12 +145,12 @@ after_run d depth run = record d {
 abbrev pub after_passing : Session → Passed → Session
 after_passing d p = record d { machine = p.run.machine; left = p.left; passes = p.passes }
 
--- The session after a continued run. It is unchanged if there is no run to continue.
+-- The session after a continued run. It is unchanged if no run can be continued.
 abbrev pub after_on : Session → Option Passed → Session
 after_on d (Some p) = after_passing d p
 after_on d None = d
 
--- The session after a command. Commands that are not listed here only show it, or end it.
+-- The session after a command. A command that is not listed here only shows the session, or ends it.
 unfoldable pub after_command : Command → Session → Session
 after_command (commands.Break s p o condition) d =
     with_breaks d (with_break (breakpoint (Code (code_place s p o)) condition) d.breaks)

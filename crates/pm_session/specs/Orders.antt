@@ -1,4 +1,4 @@
--- The order of a line of the debugger.
+-- The orders of the debugger. An order is what a line requests: a command, or bytes for the console input queue.
 use Rattle.std.specs.Prelude.{ℕ, List, reverse, Option, Some, None, option_map, codes}
 use Rattle.std.specs.Option.{option_and_then}
 use Rattle.pm_disasm.specs.Shown.{cut}
@@ -8,7 +8,7 @@ use Rattle.pm_session.specs.declared.commands.Command.{Command}
 use Rattle.pm_session.specs.Commands.{command_of}
 use Rattle.pm_session.specs.Words.{without_return}
 
--- A command, or bytes for the console input queue.
+-- An order of a line: a command, or bytes for the console input queue.
 pub data Order : Type 0 where
   Does : Command → Order
   Types : List ℕ → Order
@@ -17,8 +17,8 @@ pub data Order : Type 0 where
 abbrev pub between_spaces : List ℕ → List ℕ
 between_spaces cs = reverse (cut (reverse (cut cs)))
 
--- The bytes that a `type` line appends to the console input queue: a string in the form of the assembler, after `type`
--- and at least one space.
+-- The bytes that `line` appends to the console input queue if it is a `type` line, else `None`. A `type` line is
+-- `type`, at least one space, and a string in the form that the assembler accepts.
 unfoldable pub typed : List ℕ → Option (List ℕ)
 typed line =
     option_and_then (λ text. text_operand (between_spaces text)) (behind (codes "type ") (cut (without_return line)))
@@ -27,6 +27,6 @@ abbrev pub typed_or : Option (List ℕ) → Option Command → Option Order
 typed_or (Some bytes) command = Some (Types bytes)
 typed_or None command = option_map Does command
 
--- The order of a line without its line feed.
+-- The order of `line`, which is given without its line feed; `None` if the line is invalid.
 abbrev pub order_of : List ℕ → Option Order
 order_of line = typed_or (typed line) (command_of line)

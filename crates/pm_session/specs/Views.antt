@@ -28,7 +28,7 @@ use Rattle.pm_session.specs.Texts.{chain_text, more_parts, numbers_text, parts_t
 
 -- ---- positions in the code
 
--- A segment, a procedure and an offset, in the form of `break`.
+-- The text of a position: a segment, a procedure and an offset, as in the command `break`.
 abbrev pub point_text : CodePlace → List ℕ
 point_text b = decimal b.segment ++ (32 ∷ decimal b.procedure ++ (32 ∷ decimal b.offset))
 
@@ -36,35 +36,36 @@ abbrev pub condition_text : Option Condition → List ℕ
 condition_text None = []
 condition_text (Some c) = codes " if " ++ (decimal c.address ++ (codes " = " ++ decimal c.word))
 
--- A position in the form of `break`, or words in the form of `reads` and `writes`.
+-- The text of a spot: a position as in the command `break`, or words as in the commands `reads` and `writes`.
 abbrev pub spot_text : Spot → List ℕ
 spot_text (spots.Code place) = point_text place
 spot_text (spots.Reads a n) = codes "reads " ++ (decimal a ++ (32 ∷ decimal n))
 spot_text (spots.Writes a n) = codes "writes " ++ (decimal a ++ (32 ∷ decimal n))
 
--- The spot of a breakpoint, followed by its condition.
+-- The text of a breakpoint: its spot, followed by its condition.
 abbrev pub break_text : Breakpoint → List ℕ
 break_text b = spot_text b.spot ++ condition_text b.condition
 
 abbrev pub breaks_text : List Breakpoint → List ℕ
 breaks_text breaks = parts_text (codes ", ") break_text breaks
 
--- The number of breakpoints that runs pass over, in the form of `ignore`, after the breakpoints. It is empty for 0.
+-- The text after the breakpoints: the number of breakpoints that runs may pass over, in the form of `ignore`. It is
+-- empty for 0.
 abbrev pub passes_text : List Breakpoint → ℕ → List ℕ
 passes_text breaks zero = []
 passes_text [] (suc passes) = codes "ignore " ++ decimal (suc passes)
 passes_text (b ∷ breaks) (suc passes) = codes ", ignore " ++ decimal (suc passes)
 
--- The position of the machine and the instruction there.
+-- The text of the position of the machine, followed by the next instruction.
 abbrev pub where_text : Option CodePlace → State → List ℕ
 where_text None s = refused_text OddAddress
 where_text (Some place) s = point_text place ++ (32 ∷ line_text s.memory s.registers.ipc)
 
--- The offset of an address from the entry of the procedure, modulo 65,536. `place` is the position at IPC.
+-- The offset of `address` from the entry of the running procedure, modulo 65,536. `place` is the position at IPC.
 abbrev pub offset_at : CodePlace → State → ℕ → ℕ
 offset_at place s address = (place.offset + minus address s.registers.ipc) % 65536
 
--- The instruction at an address, after its offset.
+-- The text of the instruction at `address`, after its offset.
 abbrev pub ahead_text : CodePlace → State → ℕ → List ℕ
 ahead_text place s address = decimal (offset_at place s address) ++ (32 ∷ line_text s.memory address)
 
@@ -78,7 +79,7 @@ abbrev pub return_text : Option CodePlace → List ℕ
 return_text None = []
 return_text (Some place) = 32 ∷ point_text place
 
--- A frame and the position to which it returns.
+-- The text of a frame: its address and the position to which it returns.
 abbrev pub frame_text : Frame → List ℕ
 frame_text frame = decimal frame.address ++ return_text frame.returns_to
 
@@ -88,26 +89,26 @@ frames_text (Some frames) = parts_text (codes ", ") frame_text frames
 
 -- ---- bytes
 
--- A byte as two hexadecimal digits.
+-- The text of `byte`: two hexadecimal digits.
 abbrev pub pair_text : ℕ → List ℕ
 pair_text byte = upper_digit (byte / 16) ∷ upper_digit (byte % 16) ∷ []
 
--- A byte from 32 to 126 is its character, and any other byte is a full stop.
+-- The character that shows `byte`: the character itself for 32 to 126, else a full stop.
 abbrev pub shown_character : ℕ → ℕ
 shown_character byte = if nat_le 32 byte && nat_le byte 126 then byte else 46
 
--- Bytes as pairs of digits, followed by two spaces and the characters.
+-- The text of bytes as pairs of hexadecimal digits, followed by two spaces and the characters.
 abbrev pub bytes_text : List ℕ → List ℕ
 bytes_text [] = []
 bytes_text (b ∷ bs) = parts_text (codes " ") pair_text (b ∷ bs) ++ (32 ∷ 32 ∷ map shown_character (b ∷ bs))
 
 -- ---- commands
 
--- The name of a command and the letters of its numbers.
+-- The name of the command of a table row, followed by the letters that represent its numbers.
 abbrev pub usage_text : List ℕ × List ℕ × Reading → List ℕ
 usage_text row = row.0 ++ row.1
 
--- Both words of a setting.
+-- Both words of a setting, such as `console on`.
 abbrev pub setting_text : List ℕ × List ℕ × Command → List ℕ
 setting_text row = row.0 ++ (32 ∷ row.1)
 
@@ -116,7 +117,7 @@ help_text = parts_text (codes ", ") usage_text command_rows
     ++ (more_parts (codes ", ") setting_text setting_rows ++ codes ", type \"TEXT\", break S P O if A = W"
     ++ codes ", reads A N if B = W, writes A N if B = W, clear reads A N, clear writes A N")
 
--- The answer to a command that shows a view.
+-- The answer to a command that shows a view of the session `d`.
 unfoldable pub view_text : View → Session → List ℕ
 view_text (views.Peek a n) d = chain_text (words_from d.machine a n)
 view_text (views.Bytes a n) d = bytes_text (bytes_from d.machine a n)

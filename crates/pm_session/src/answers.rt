@@ -25,7 +25,7 @@ use pm_machine::{Machine, Registers};
 use pm_trace::trace_line;
 use std::alloc::{AllocError, Global};
 
-/// Returns the answer to a command that only succeeds or is refused: `ok` or the refusal.
+/// Returns the answer to a command that shows nothing: `ok` if `outcome` is a success, else its refusal.
 fn done(alloc: Global, outcome: Result<(), DebugRefusal>) -> Result<String, AllocError>
     ensures text { IfOk result (λ text. string_bytes text ≡ done_text outcome) }
 {
@@ -35,7 +35,7 @@ fn done(alloc: Global, outcome: Result<(), DebugRefusal>) -> Result<String, Allo
     }
 }
 
-/// Returns the answer with a word, or with its refusal.
+/// Returns the answer that shows `word`, or its refusal.
 fn word(alloc: Global, word: Result<u16, DebugRefusal>) -> Result<String, AllocError>
     ensures text { IfOk result (λ text. string_bytes text ≡ word_text word) }
 {
@@ -45,7 +45,7 @@ fn word(alloc: Global, word: Result<u16, DebugRefusal>) -> Result<String, AllocE
     }
 }
 
-/// Returns the answer with the reason of the end of a run and its number of steps.
+/// Returns the answer that shows the reason of the end of a run and its number of steps.
 fn gone(alloc: Global, gone: (u64, BreakReason)) -> Result<String, AllocError>
     ensures text { IfOk result (λ text. string_bytes text ≡ gone_text gone.1 gone.0) }
 {
@@ -63,8 +63,8 @@ fn gone(alloc: Global, gone: (u64, BreakReason)) -> Result<String, AllocError>
     format!(in alloc; "{last}")
 }
 
-/// Passes over breakpoints after a run of at most `most` steps, while one stops it and a pass is left. Returns the
-/// number of its steps and the reason of its end.
+/// Continues the run whose outcome is `first`. While a breakpoint stops the run and a pass remains, the run passes over
+/// this breakpoint. The whole run has at most `most` steps. Returns its number of steps and the reason of its end.
 #[tactic(auto, using(crate::proofs::SessionLaws::pass_more, crate::proofs::SessionLaws::pass_over))]
 fn pass(
     debugger: &mut Debugger,
@@ -88,8 +88,8 @@ fn pass(
     Ok(ran)
 }
 
-/// Passes over breakpoints after a run of at most `limit` steps. Returns the answer with the reason of its end and its
-/// number of steps.
+/// Continues the run whose outcome is `ran` over breakpoints, as `pass` does, up to `limit` steps. Returns the answer
+/// that shows the reason of its end and its number of steps.
 fn told(
     alloc: Global,
     ran: (u64, BreakReason),
@@ -108,8 +108,8 @@ fn told(
     gone(alloc, ran)
 }
 
-/// Returns the answer with the address of a segment, the number of its calls, and how many times the program keeps it.
-/// It is `none` if the segment is not in memory.
+/// Returns the answer for segment `n`: its address, the number of its calls, and how many times the program keeps it
+/// loaded. The answer is `none` if the segment is not in memory.
 fn place(alloc: Global, machine: &Machine, n: u8) -> Result<String, AllocError>
     ensures text { IfOk result (λ text. string_bytes text
         ≡ place_text (placed machine.now.state.places n) (keeps_of machine.now.state.places n)) }
@@ -120,7 +120,7 @@ fn place(alloc: Global, machine: &Machine, n: u8) -> Result<String, AllocError>
     }
 }
 
-/// Returns the answer with the registers, each after its name.
+/// Returns the answer that shows the registers, each after its name.
 #[tactic(auto, unfolding(crate::specs::Answers::registers_text))]
 fn registers(alloc: Global, registers: Registers) -> Result<String, AllocError>
     ensures text { IfOk result (λ text. string_bytes text ≡ registers_text registers) }
@@ -140,7 +140,8 @@ fn registers(alloc: Global, registers: Registers) -> Result<String, AllocError>
     )
 }
 
-/// Writes a word of the memory at an even address. If the address is odd, returns `OddAddress` and writes nothing.
+/// Writes `word` at the even address `address` of the memory. If the address is odd, returns `OddAddress` and writes
+/// nothing.
 fn poke(debugger: &mut Debugger, address: u16, word: u16) -> Result<(), DebugRefusal>
     ensures text { done_text result ≡ (if is_even address then codes "ok" else refused_text DebugRefusal.OddAddress) }
     ensures session { (session_of debugger.new) ≡ record
@@ -153,7 +154,7 @@ fn poke(debugger: &mut Debugger, address: u16, word: u16) -> Result<(), DebugRef
     }
 }
 
-/// Appends a byte to the console input queue.
+/// Appends `byte` to the console input queue.
 fn key(debugger: &mut Debugger, byte: u8) -> Result<(), AllocError>
     ensures session { OnOk result ((session_of debugger.new)
         ≡ record (session_of debugger.old) { machine = next debugger.old.machine.state (Key byte) }) }
@@ -162,8 +163,8 @@ fn key(debugger: &mut Debugger, byte: u8) -> Result<(), AllocError>
     Ok(())
 }
 
-/// Continues the last run. Returns the answer with the reason of its end, or with the refusal if there is no run to
-/// continue.
+/// Continues the last run for at most `limit` steps. Returns the answer that shows the reason of its end, or the
+/// refusal if no run can be continued.
 fn go_on(alloc: Global, debugger: &mut Debugger, limit: u32) -> Result<String, AllocError>
     ensures text { IfOk result (λ text. string_bytes text
         ≡ on_text (passing_on (session_of debugger.old) limit
@@ -181,7 +182,7 @@ fn go_on(alloc: Global, debugger: &mut Debugger, limit: u32) -> Result<String, A
     }
 }
 
-/// Executes a command. Returns the answer without a line feed, or `None` for `quit`.
+/// Executes `command`. Returns the answer without a line feed, or `None` for `quit`.
 #[tactic(auto, unfolding(crate::specs::Answers::command_text, crate::specs::Answers::after_command))]
 fn do_command(
     alloc: Global,
@@ -223,7 +224,7 @@ fn do_command(
     Ok(Some(text?))
 }
 
-/// Executes the command of a line. Returns the answer without a line feed, or `None` for `quit`. The answer to an
+/// Executes the command in `line`. Returns the answer without a line feed, or `None` for `quit`. The answer to an
 /// invalid line is `?`.
 fn answer_to(
     alloc: Global,
@@ -245,8 +246,8 @@ fn answer_to(
     }
 }
 
-/// Returns the line of the console bytes after the first `before`. It is empty if `wanted` is false or there are no
-/// such bytes.
+/// Returns a line that shows the bytes of `console` after the first `before`. The line is empty if `wanted` is false or
+/// if no such bytes exist.
 fn console_line(
     alloc: Global,
     wanted: bool,
@@ -264,7 +265,7 @@ fn console_line(
     }
 }
 
-/// Executes the command of a line, which is given without its line feed. Returns the answer with a line feed, or `None`
+/// Executes the command in `line`, which is given without its line feed. Returns the answer with a line feed, or `None`
 /// for `quit`. After `console on`, a line with the bytes that the command wrote to the console precedes the answer.
 ///
 /// After `AllocError` the command may have been executed.

@@ -1,4 +1,4 @@
-//! The commands of the debugger.
+//! The commands of the debugger. A word of a line is a sequence of bytes without spaces.
 ghost use Rattle.std.specs.Prelude.{◌≡◌, ◌<◌, ◌≤◌, ◌⊎◌, min, true, [], ◌∷◌, Some, None, IfSome, IfNone, length};
 ghost use Rattle.std.specs.Char.{is_ascii_hexdigit};
 ghost use Rattle.std.specs.List.{list_all};
@@ -23,17 +23,17 @@ const MOST_STEPS: u32 = 4_294_967_295;
 pub enum Command {
     /// Sets a breakpoint. The fields are segment, procedure, offset in bytes, and the condition, if any.
     Break(u8, u8, u16, Option<Condition>),
-    /// Removes a breakpoint.
+    /// Removes a breakpoint. The fields are segment, procedure and offset in bytes.
     Clear(u8, u8, u16),
     /// Sets a breakpoint on words. The fields are the words and the condition, if any.
     BreakOn(Spot, Option<Condition>),
-    /// Removes a breakpoint on words.
+    /// Removes a breakpoint on words. The field is the words.
     ClearOn(Spot),
-    /// Watches the word at an address.
+    /// Watches the word of memory at this address.
     Watch(u16),
-    /// Stops watching the word at an address.
+    /// Stops watching the word of memory at this address.
     Unwatch(u16),
-    /// Writes a word. The fields are address and word.
+    /// Writes a word of memory. The fields are address and word.
     Poke(u16, u16),
     /// Appends a byte to the console input queue.
     Key(u8),
@@ -41,7 +41,8 @@ pub enum Command {
     ShowConsole(bool),
     /// Runs at most this number of steps, up to a breakpoint or to a watched word that has changed.
     Go(u32),
-    /// Executes one instruction, and if it is a call, the whole called procedure. The field is the limit of the steps.
+    /// Executes one instruction. If it is a call, executes the whole called procedure. The field is the limit of the
+    /// steps.
     Step(u32),
     /// Executes the rest of the running procedure and its return. The field is the limit of the steps.
     Finish(u32),
@@ -49,21 +50,21 @@ pub enum Command {
     Until(u8, u8, u16, u32),
     /// Continues the last run, which its limit stopped, for at most this number of steps.
     On(u32),
-    /// Sets the number of breakpoints that runs pass over.
+    /// Sets the number of breakpoints that runs may pass over.
     Ignore(u32),
-    /// Shows the words of the stack, at most this number.
+    /// Shows the top words of the stack. The field is the maximum number of words.
     Stack(u16),
-    /// Shows the static chain, at most this number of frames.
+    /// Shows the frames along the static links. The field is the maximum number of frames.
     Static(u16),
-    /// Shows the dynamic chain, at most this number of frames.
+    /// Shows the frames along the dynamic links. The field is the maximum number of frames.
     Dynamic(u16),
     /// Shows a variable. The fields are the number of static links up and the number of the variable.
     Local(u16, u16),
     /// Shows the registers.
     Registers,
-    /// Shows the address of the segment of a slot.
+    /// Shows the address of the segment in the slot with this number.
     Place(u8),
-    /// Shows the line of a trace.
+    /// Shows the line of a trace for the next step.
     Trace,
     /// Shows another view of the machine or of the debugger.
     Show(View),
@@ -71,7 +72,7 @@ pub enum Command {
     Quit,
 }
 
-/// A view, which a command shows without a change.
+/// A view of the machine or of the debugger. To show a view changes nothing.
 #[derive(Clone, Copy)]
 pub enum View {
     /// Words of the memory. The fields are the first address and the maximum number of words.
@@ -80,21 +81,22 @@ pub enum View {
     Bytes(u16, u16),
     /// The position of the machine in the code.
     Where,
-    /// The breakpoints, and the number of breakpoints that runs still pass over.
+    /// The breakpoints, and the number of breakpoints that runs may still pass over.
     Breaks,
     /// The addresses of the watched words.
     Watches,
-    /// The frames of the dynamic chain with the positions to which they return, at most this number.
+    /// The frames of the dynamic chain, with the positions to which they return. The field is the maximum number of
+    /// frames.
     Frames(u16),
-    /// The next instructions, at most this number.
+    /// The next instructions. The field is the maximum number of instructions.
     Ahead(u16),
-    /// The last bytes of the console output, at most this number.
+    /// The last bytes of the console output. The field is the maximum number of bytes.
     Console(u16),
-    /// The commands.
+    /// The list of the commands.
     Help,
 }
 
-/// Whether a word has the bytes of `text`.
+/// Whether `word` has the bytes of `text`.
 fn is_text(word: &[u8], text: &str) -> bool
     ensures same { result ≡ bytes_eq word.now text.now }
 {
@@ -107,8 +109,8 @@ fn is_digit(byte: u8) -> bool
     b'0' <= byte && byte <= b'9'
 }
 
-/// Returns the number that the word writes in decimal digits, or `None` if another byte is in it or the number is above
-/// 4,294,967,295.
+/// Returns the number that `word` writes in decimal digits. Returns `None` if `word` has another byte, or if the number
+/// is above 4,294,967,295.
 fn decimal(word: &[u8]) -> Option<u32>
     ensures number { result ≡ decimal_number word.now }
 {
@@ -133,7 +135,7 @@ fn are_hexadecimal(digits: &[u8]) -> bool
     digits.iter().all(|digit| digit.is_ascii_hexdigit())
 }
 
-/// Returns the number of one to four hexadecimal digits.
+/// Returns the number that `digits`, one to four hexadecimal digits, write. Returns `None` for other bytes.
 #[tactic(auto, using(pm_code::proofs::Capped::four_digits))]
 fn hexadecimal(digits: &[u8]) -> Option<u32>
     ensures number { result ≡ hexadecimal_number digits.now }
@@ -144,7 +146,8 @@ fn hexadecimal(digits: &[u8]) -> Option<u32>
     Some(magnitude(16, digits))
 }
 
-/// Returns the number of a word: decimal digits, or `$` and hexadecimal digits.
+/// Returns the number that `word` writes: decimal digits, or `$` and hexadecimal digits. Returns `None` for other
+/// words.
 fn number(word: &[u8]) -> Option<u32>
     ensures number { result ≡ word_number word.now }
 {
@@ -154,7 +157,7 @@ fn number(word: &[u8]) -> Option<u32>
     }
 }
 
-/// Whether the line begins with a word, so not with a space.
+/// Whether `line` begins with a word. False if it is empty or begins with a space.
 fn begins_word(line: &[u8]) -> bool
     ensures begins { result ≡ begins_word line.now }
 {
@@ -164,7 +167,7 @@ fn begins_word(line: &[u8]) -> bool
     }
 }
 
-/// Returns the line without its leading spaces.
+/// Returns `line` without its leading spaces.
 fn without_spaces(line: &[u8]) -> &[u8]
     ensures words { words_of_line result.now ≡ words_of_line line.now }
     ensures begins { (result.now ≡ []) ⊎ (begins_word result.now ≡ true) }
@@ -180,7 +183,7 @@ fn without_spaces(line: &[u8]) -> &[u8]
     rest
 }
 
-/// Returns the first word of a line that begins with one, and the rest after it.
+/// Returns the first word of `line` and the bytes after this word. `line` must begin with a word.
 fn word_and_rest(line: &[u8]) -> (&[u8], &[u8])
     requires begins { begins_word line.now ≡ true }
     ensures words { words_of_line line.now ≡ result.0.now ∷ words_of_line result.1.now }
@@ -198,7 +201,7 @@ fn word_and_rest(line: &[u8]) -> (&[u8], &[u8])
     (line.split_at(end).0, rest)
 }
 
-/// Returns the first word of a line, and the rest after it. Returns `None` if the line has no word.
+/// Returns the first word of `line` and the bytes after this word. Returns `None` if `line` has no word.
 fn next_word(line: &[u8]) -> Option<(&[u8], &[u8])>
     ensures some { IfSome result (λ r. words_of_line line.now ≡ r.0.now ∷ words_of_line r.1.now) }
     ensures shorter { IfSome result (λ r. length r.1.now < length line.now) }
@@ -211,8 +214,8 @@ fn next_word(line: &[u8]) -> Option<(&[u8], &[u8])>
     Some(word_and_rest(line))
 }
 
-/// Returns the numbers that are the words of a line, at most four. Returns `None` if a word is no number or there are
-/// more.
+/// Returns the numbers that the words of `line` write. Returns `None` if a word is not a number or if `line` has more
+/// than four words.
 fn numbers(line: &[u8]) -> Option<ArrayVec<u32, 4>>
     ensures some { IfSome result (λ ns. numbers 4 (words_of_line line.now) ≡ Some ns.items) }
     ensures none { IfNone result (numbers 4 (words_of_line line.now) ≡ None) }
@@ -250,7 +253,7 @@ fn slot(n: u32) -> Option<u8>
     if n <= 15 { Some(n as u8) } else { None }
 }
 
-/// Returns the command of a name without numbers.
+/// Returns the command with the name `name` and no numbers, or `None` if no such command exists.
 #[tactic(auto, unfolding(crate::specs::Commands::command_rows))]
 fn named_alone(name: &[u8]) -> Option<Command>
     ensures command { result ≡ command_in command_rows name.now [] }
@@ -270,7 +273,7 @@ fn named_alone(name: &[u8]) -> Option<Command>
     Some(command)
 }
 
-/// Returns the command of a name and one number.
+/// Returns the command with the name `name` and the number `n`, or `None` if no such command exists.
 #[tactic(auto, unfolding(crate::specs::Commands::command_rows))]
 fn named_with_one(name: &[u8], n: u32) -> Option<Command>
     ensures command { result ≡ command_in command_rows name.now (n ∷ []) }
@@ -296,7 +299,7 @@ fn named_with_one(name: &[u8], n: u32) -> Option<Command>
     Some(command)
 }
 
-/// Returns the words of `reads` or `writes`: the address of the first and the number of words.
+/// Returns the spot of `reads` or `writes`: `words` words from `address` on. Returns `None` for another `name`.
 fn words_named(name: &[u8], address: u16, words: u16) -> Option<Spot>
     ensures spot { result ≡ words_named name.now address words }
 {
@@ -307,7 +310,7 @@ fn words_named(name: &[u8], address: u16, words: u16) -> Option<Spot>
     }
 }
 
-/// Returns the command of a name and two numbers.
+/// Returns the command with the name `name` and the numbers `a` and `n`, or `None` if no such command exists.
 #[tactic(auto, unfolding(crate::specs::Commands::command_rows))]
 fn named_with_two(name: &[u8], a: u32, n: u32) -> Option<Command>
     ensures command { result ≡ command_in command_rows name.now (a ∷ n ∷ []) }
@@ -322,7 +325,7 @@ fn named_with_two(name: &[u8], a: u32, n: u32) -> Option<Command>
     Some(command)
 }
 
-/// Returns the command of a name and three numbers.
+/// Returns the command with the name `name` and the numbers `s`, `p` and `o`, or `None` if no such command exists.
 #[tactic(auto, unfolding(crate::specs::Commands::command_rows))]
 fn named_with_three(name: &[u8], s: u32, p: u32, o: u32) -> Option<Command>
     ensures command { result ≡ command_in command_rows name.now (s ∷ p ∷ o ∷ []) }
@@ -336,7 +339,7 @@ fn named_with_three(name: &[u8], s: u32, p: u32, o: u32) -> Option<Command>
     Some(command)
 }
 
-/// Returns the command of a name and four numbers.
+/// Returns the command with the name `name` and the numbers `s`, `p`, `o` and `n`, or `None` if no such command exists.
 #[tactic(auto, unfolding(crate::specs::Commands::command_rows))]
 fn named_with_four(name: &[u8], s: u32, p: u32, o: u32, n: u32) -> Option<Command>
     ensures command { result ≡ command_in command_rows name.now (s ∷ p ∷ o ∷ n ∷ []) }
@@ -347,7 +350,8 @@ fn named_with_four(name: &[u8], s: u32, p: u32, o: u32, n: u32) -> Option<Comman
     Some(Command::Until(byte(s)?, byte(p)?, word(o)?, n))
 }
 
-/// Returns the command of a name and the numbers after it, of which there are at most four.
+/// Returns the command with the name `name` and the given `numbers`, at most four. Returns `None` if no such command
+/// exists.
 fn command_named(name: &[u8], numbers: &[u32]) -> Option<Command>
     requires few { length numbers.now ≤ 4 }
     ensures command { result ≡ command_in command_rows name.now numbers.now }
@@ -362,7 +366,8 @@ fn command_named(name: &[u8], numbers: &[u32]) -> Option<Command>
     }
 }
 
-/// Returns the command of a name and the word after it.
+/// Returns the command with the name `name` and the word `value` after it, such as `console on`. Returns `None` if no
+/// such command exists.
 #[tactic(auto, unfolding(crate::specs::Commands::setting_rows))]
 fn setting_named(name: &[u8], value: &[u8]) -> Option<Command>
     ensures command { result ≡ setting_in setting_rows name.now value.now }
@@ -379,7 +384,8 @@ fn setting_named(name: &[u8], value: &[u8]) -> Option<Command>
     None
 }
 
-/// Returns the command of a name and the rest of the line, if the rest is one word.
+/// Returns the command with the name `name` and the word in `line`, as `setting_named` does. Returns `None` if `line`
+/// does not have exactly one word.
 fn setting(name: &[u8], line: &[u8]) -> Option<Command>
     ensures command { result ≡ setting_with name.now (words_of_line line.now) }
 {
@@ -390,8 +396,8 @@ fn setting(name: &[u8], line: &[u8]) -> Option<Command>
     }
 }
 
-/// Returns the command that sets a breakpoint with a condition. The numbers are segment, procedure, offset in bytes,
-/// the address of the condition, and its word.
+/// Returns the command that sets a breakpoint with a condition. The numbers are the segment `s`, the procedure `p`, the
+/// offset `o`, the address `a` of the condition, and its word `w`. Returns `None` if a number is out of range.
 fn conditional_break(s: u32, p: u32, o: u32, a: u32, w: u32) -> Option<Command>
     ensures command { result ≡ conditional_break (Some s) (Some p) (Some o) (Some a) (Some w) }
 {
@@ -403,7 +409,7 @@ fn conditional_break(s: u32, p: u32, o: u32, a: u32, w: u32) -> Option<Command>
     Some(Command::Break(segment, procedure, offset, Some(condition)))
 }
 
-/// Returns the command of the rest of a line after `break`, if the rest is `S P O if A = W`.
+/// Returns the command for `line`, the part of a line after `break`. Returns `None` unless `line` is `S P O if A = W`.
 fn conditional(line: &[u8]) -> Option<Command>
     ensures command { result ≡ conditional (words_of_line line.now) }
 {
@@ -422,8 +428,9 @@ fn conditional(line: &[u8]) -> Option<Command>
     }
 }
 
-/// Returns the command that sets a breakpoint on words with a condition. The numbers are the address of the first word,
-/// the number of words, the address of the condition, and its word.
+/// Returns the command that sets a breakpoint on words with a condition. The numbers are the address `a` of the first
+/// word, the number `n` of words, the address `b` of the condition, and its word `value`. Returns `None` if a number is
+/// out of range, or if `name` is neither `reads` nor `writes`.
 fn conditional_words_of(name: &[u8], a: u32, n: u32, b: u32, value: u32) -> Option<Command>
     ensures command { result ≡ conditional_words_of name.now (Some a) (Some n) (Some b) (Some value) }
 {
@@ -436,7 +443,8 @@ fn conditional_words_of(name: &[u8], a: u32, n: u32, b: u32, value: u32) -> Opti
     Some(Command::BreakOn(spot, Some(condition)))
 }
 
-/// Returns the command of `reads` or `writes` and the rest of the line, if the rest is `A N if B = W`.
+/// Returns the command for `line`, the part of a line after `name`, which is `reads` or `writes`. Returns `None` unless
+/// `line` is `A N if B = W`.
 fn conditional_words(name: &[u8], line: &[u8]) -> Option<Command>
     ensures command { result ≡ conditional_words name.now (words_of_line line.now) }
 {
@@ -454,7 +462,8 @@ fn conditional_words(name: &[u8], line: &[u8]) -> Option<Command>
     }
 }
 
-/// Returns the command that removes a breakpoint on words, by the address of the first word and the number of words.
+/// Returns the command that removes a breakpoint on the `n` words from address `a` on. Returns `None` if a number is
+/// out of range, or if `name` is neither `reads` nor `writes`.
 fn clear_words_of(name: &[u8], a: u32, n: u32) -> Option<Command>
     ensures command { result ≡ clear_words_of name.now (Some a) (Some n) }
 {
@@ -462,7 +471,8 @@ fn clear_words_of(name: &[u8], a: u32, n: u32) -> Option<Command>
     Some(Command::ClearOn(words_named(name, address, words)?))
 }
 
-/// Returns the command of the rest of a line after `clear`, if the rest is `reads A N` or `writes A N`.
+/// Returns the command for `line`, the part of a line after `clear`. Returns `None` unless `line` is `reads A N` or
+/// `writes A N`.
 fn clear_words(line: &[u8]) -> Option<Command>
     ensures command { result ≡ clear_words (words_of_line line.now) }
 {
@@ -475,7 +485,7 @@ fn clear_words(line: &[u8]) -> Option<Command>
     }
 }
 
-/// Returns the line without a carriage return at its end.
+/// Returns `line` without a carriage return at its end.
 pub(crate) fn without_return(line: &[u8]) -> &[u8]
     ensures line { result.now ≡ without_return line.now }
 {
@@ -485,7 +495,8 @@ pub(crate) fn without_return(line: &[u8]) -> &[u8]
     if *last == b'\r' { front } else { line }
 }
 
-/// Returns the command of a line, which is given without its line feed. Returns `None` if the line is no command.
+/// Returns the command in `line`, which is given without its line feed. Returns `None` if `line` is not a valid
+/// command.
 #[tactic(auto, unfolding(crate::specs::Commands::command_of))]
 pub fn command_of(line: &[u8]) -> Option<Command>
     ensures command { result ≡ command_of line.now }

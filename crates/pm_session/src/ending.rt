@@ -10,15 +10,15 @@ use std::fmt;
 pub enum Ending {
     /// The program has ended.
     Ended,
-    /// It stopped at an execution error.
+    /// The program stopped at an execution error.
     Error(ExecError),
-    /// It has executed its maximum number of steps.
+    /// The program has executed its maximum number of steps.
     Limit,
-    /// It waits for a byte of the console, and no byte is in the queue.
+    /// The program waits for a byte of the console, and no byte is in the queue.
     Waiting,
 }
 
-/// The last line of a run: the reason of its end, and its number of steps of the machine.
+/// The last line of a run: the reason of its end, and the number of steps that the machine has executed.
 #[derive(Clone, Copy)]
 pub struct LastLine {
     pub ending: Ending,

@@ -1,4 +1,4 @@
-//! A session of the debugger: the words of a line, its command, and the answer to it.
+//! A session of the debugger: reads the words of a line, finds the command, executes it, and returns the answer.
 #![tactic(auto)]
 
 mod answers;

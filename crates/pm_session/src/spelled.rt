@@ -6,7 +6,7 @@ use pm_debug::{Breakpoint, Condition, Frame, Spot};
 use pm_machine::CodePlace;
 use std::fmt;
 
-/// A position in the code as text: segment, procedure and offset, in the form of `break`.
+/// A position in the code as text: segment, procedure and offset, as in the command `break`.
 #[derive(Clone, Copy)]
 pub(crate) struct Point(pub CodePlace);
 
@@ -23,7 +23,8 @@ impl fmt::Display for Point {
     }
 }
 
-/// The spot of a breakpoint as text: a position in the form of `break`, or words in the form of `reads` and `writes`.
+/// The spot of a breakpoint as text: a position as in the command `break`, or words as in the commands `reads` and
+/// `writes`.
 #[derive(Clone, Copy)]
 struct SpotText(Spot);
 

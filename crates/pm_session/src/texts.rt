@@ -6,7 +6,7 @@ ghost use Rattle.pm_session.specs.Texts.{chain_text, numbers_text, refused_text}
 use pm_debug::DebugRefusal;
 use std::alloc::{AllocError, Global};
 
-/// Returns the answer of a refusal: `refused` and its number.
+/// Returns the answer to a command that is refused: `refused` and the number of `refusal`.
 pub(crate) fn refused(alloc: Global, refusal: DebugRefusal) -> Result<String, AllocError>
     ensures text { IfOk result (λ text. string_bytes text ≡ refused_text refusal) }
 {
@@ -14,7 +14,7 @@ pub(crate) fn refused(alloc: Global, refusal: DebugRefusal) -> Result<String, Al
     format!(in alloc; "refused {number}")
 }
 
-/// Returns the numbers as text with single spaces between them.
+/// Returns `numbers` as text, with single spaces between them.
 pub(crate) fn numbers(alloc: Global, numbers: &[u16]) -> Result<String, AllocError>
     ensures text { IfOk result (λ text. string_bytes text ≡ numbers_text numbers.now) }
 {
@@ -28,7 +28,7 @@ pub(crate) fn numbers(alloc: Global, numbers: &[u16]) -> Result<String, AllocErr
     Ok(text)
 }
 
-/// Returns the frames of a chain as text, or its refusal.
+/// Returns the addresses in `chain` as text, or the answer for its refusal.
 pub(crate) fn chain(
     alloc: Global,
     chain: Result<Vec<u16>, DebugRefusal>,

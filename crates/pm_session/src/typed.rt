@@ -10,7 +10,7 @@ use pm_debug::Debugger;
 use pm_line::text_operand;
 use std::alloc::{AllocError, Global};
 
-/// Returns the text without its leading spaces.
+/// Returns `text` without its leading spaces.
 fn behind_spaces(text: &[u8]) -> &[u8]
     ensures text { result.now ≡ cut text.now }
 {
@@ -22,7 +22,7 @@ fn behind_spaces(text: &[u8]) -> &[u8]
     text.split_at(text.len()).1
 }
 
-/// Returns the text without the spaces at both ends.
+/// Returns `text` without the spaces at both ends.
 fn between_spaces(text: &[u8]) -> &[u8]
     ensures text { result.now ≡ between_spaces text.now }
 {
@@ -34,8 +34,8 @@ fn between_spaces(text: &[u8]) -> &[u8]
     &rest[..end]
 }
 
-/// Returns the bytes of a `type` line: a string in the form of the assembler, after `type` and spaces. Returns `None`
-/// for other lines.
+/// Returns the bytes that the line `line` types. A `type` line is `type`, spaces, and a string in the form that the
+/// assembler accepts. Returns `None` for other lines.
 #[tactic(auto, unfolding(crate::specs::Orders::typed))]
 pub(crate) fn typed(alloc: Global, line: &[u8]) -> Result<Option<Vec<u8>>, AllocError>
     ensures bytes { IfOk result (λ text. option_map (λ bytes. bytes.items) text ≡ typed line.now) }
@@ -47,7 +47,7 @@ pub(crate) fn typed(alloc: Global, line: &[u8]) -> Result<Option<Vec<u8>>, Alloc
     text_operand(alloc, between_spaces(text))
 }
 
-/// Appends bytes to the console input queue, in their order.
+/// Appends `bytes` to the console input queue, in their order.
 pub(crate) fn keys(debugger: &mut Debugger, bytes: &[u8]) -> Result<(), AllocError>
     ensures session { OnOk result ((session_of debugger.new) ≡ after_keys bytes.now (session_of debugger.old)) }
 {

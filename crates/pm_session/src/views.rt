@@ -25,7 +25,7 @@ const HELP: &str = concat!(
     "type \"TEXT\", break S P O if A = W, reads A N if B = W, writes A N if B = W, clear reads A N, clear writes A N",
 );
 
-/// Returns the breakpoints as text.
+/// Returns `breaks` as text, with a comma and a space between two breakpoints.
 fn breaks(alloc: Global, breaks: &[Breakpoint]) -> Result<String, AllocError>
     ensures text { IfOk result (λ text. string_bytes text ≡ breaks_text breaks.now) }
 {
@@ -39,7 +39,8 @@ fn breaks(alloc: Global, breaks: &[Breakpoint]) -> Result<String, AllocError>
     Ok(text)
 }
 
-/// Returns the breakpoints as text, with the number of breakpoints that runs still pass over if it is not 0.
+/// Returns the breakpoints `known` as text. If `passes` is not 0, this number follows. It is the number of breakpoints
+/// that runs may still pass over.
 fn breaks_and_passes(alloc: Global, known: &[Breakpoint], passes: u32) -> Result<String, AllocError>
     ensures text { IfOk result (λ text. string_bytes text ≡ breaks_text known.now ++ passes_text known.now passes) }
 {
@@ -51,7 +52,7 @@ fn breaks_and_passes(alloc: Global, known: &[Breakpoint], passes: u32) -> Result
     Ok(text)
 }
 
-/// Returns the position of the machine and the instruction there as text.
+/// Returns as text the position `place` of the machine and its next instruction.
 fn standing(
     alloc: Global,
     place: Option<CodePlace>,
@@ -66,7 +67,7 @@ fn standing(
     format!(in alloc; "{} {line}", Point(place))
 }
 
-/// Returns the frames as text.
+/// Returns `frames` as text, with a comma and a space between two frames.
 fn frame_list(alloc: Global, frames: &[Frame]) -> Result<String, AllocError>
     ensures text { IfOk result (λ text. string_bytes text ≡ frames_text (Some frames.now)) }
 {
@@ -80,7 +81,7 @@ fn frame_list(alloc: Global, frames: &[Frame]) -> Result<String, AllocError>
     Ok(text)
 }
 
-/// Returns the frames of a chain as text, or its refusal.
+/// Returns `frames` as text, or the answer for its refusal.
 fn frames(alloc: Global, frames: Result<Vec<Frame>, DebugRefusal>) -> Result<String, AllocError>
     ensures text { IfOk result (λ text. (chain : Option (List Frame)) → ShowsChain (λ v. v.items) frames chain
         → string_bytes text ≡ frames_text chain) }
@@ -92,7 +93,7 @@ fn frames(alloc: Global, frames: Result<Vec<Frame>, DebugRefusal>) -> Result<Str
     }
 }
 
-/// Returns the offset in bytes of an address from the entry of the procedure. `place` is the position at IPC.
+/// Returns the offset of `address` from the entry of the running procedure, in bytes. `place` is the position at IPC.
 fn offset_at(place: CodePlace, machine: &Machine, address: u16) -> u16
     ensures offset { result ≡ offset_at place machine.now.state address }
 {
@@ -100,7 +101,7 @@ fn offset_at(place: CodePlace, machine: &Machine, address: u16) -> u16
     place.offset.wrapping_add(behind)
 }
 
-/// Returns the instructions at these addresses as text, each after its offset.
+/// Returns the instructions at `addresses` as text, each after its offset. `place` is the position at IPC.
 fn list(
     alloc: Global,
     place: Option<CodePlace>,
@@ -124,7 +125,7 @@ fn list(
     Ok(text)
 }
 
-/// Returns the bytes as pairs of digits, with single spaces between them.
+/// Returns `bytes` as pairs of hexadecimal digits, with single spaces between them.
 fn pairs(alloc: Global, bytes: &[u8]) -> Result<String, AllocError>
     ensures text { IfOk result (λ text. string_bytes text ≡ parts_text (codes " ") pair_text bytes.now) }
 {
@@ -149,7 +150,7 @@ fn shown_character(byte: u8) -> u8
     }
 }
 
-/// Appends bytes as characters.
+/// Appends each of `bytes` to `text` as a character, or as a full stop if it is not printable.
 fn push_characters(text: &mut String, bytes: &[u8]) -> Result<(), AllocError>
     ensures text { OnOk result (string_bytes text.new ≡ string_bytes text.old ++ map shown_character bytes.now) }
 {
@@ -159,7 +160,7 @@ fn push_characters(text: &mut String, bytes: &[u8]) -> Result<(), AllocError>
     Ok(())
 }
 
-/// Returns the bytes as pairs of digits and as characters.
+/// Returns `bytes` as pairs of hexadecimal digits, and then as characters.
 fn bytes(alloc: Global, bytes: &[u8]) -> Result<String, AllocError>
     ensures text { IfOk result (λ text. string_bytes text ≡ bytes_text bytes.now) }
 {
@@ -172,7 +173,7 @@ fn bytes(alloc: Global, bytes: &[u8]) -> Result<String, AllocError>
     Ok(text)
 }
 
-/// Returns the answer to a command that shows a view.
+/// Returns the answer to a command that shows `view`.
 #[tactic(auto, unfolding(crate::specs::Views::view_text, crate::specs::Views::help_text, crate::specs::Commands::command_rows, crate::specs::Commands::setting_rows))]
 pub(crate) fn shown(alloc: Global, debugger: &Debugger, view: View) -> Result<String, AllocError>
     ensures text { IfOk result (λ text. string_bytes text ≡ view_text view (session_of debugger.now)) }

@@ -6,7 +6,7 @@ use Rattle.std.proofs.lemmas.Fmt.{decimal_digit, decimal_step}
 pub one_digit : (n : ℕ) → n < 10 → decimal n ≡ (48 + n) ∷ []
 one_digit n h = decimal_digit n h
 
--- One more digit after those of the tens.
+-- If `front` is the decimal text of `n / 10`, then the decimal text of `n` is `front` followed by the last digit.
 further : (n : ℕ) (front : List ℕ) → 10 ≤ n → n < 65536 → decimal (n / 10) ≡ front → decimal n ≡ front ++ (48 + n % 10) ∷ []
 further n front low high e = decimal_step n low (omega arith) ∙ ap (λ u. u ++ (48 + n % 10) ∷ []) e
 

@@ -1,4 +1,4 @@
--- The text of short instructions, from their bytes.
+-- Lemmas about the text of short instructions, from their bytes.
 use Rattle.std.proofs.Common.{◌≡◌, ◌<◌, ◌≤◌, ℕ, suc, ◌+◌, ◌-◌, ◌*◌, true, false, List, [], ◌∷◌, ◌++◌, length, drop, slice_index}
 use Rattle.std.proofs.Common.{refl, sym, ap, ◌∙◌, arith, append-nil, append_assoc}
 use Rattle.std.specs.Prelude.{Ok, nat_lt}
@@ -13,7 +13,7 @@ use Rattle.pm_opcode.specs.Reading.{front_byte, front_number, front_word, read_b
 use Rattle.pm_code.specs.Text.{implied_texts, item_text, operands_text, signed_text}
 use Rattle.pm_disasm.specs.Text.{text_at}
 
--- A signed byte as a number.
+-- If `a` is below 128, then its text as a signed byte is its decimal text.
 pub positive : (a : ℕ) → a < 128 → signed_text (signed_byte a) ≡ decimal a
 positive a h =
     let low : nat_lt a 128 ≡ true = le-leb (suc a) 128 h in
@@ -27,7 +27,7 @@ negative a h top =
     let size : 65536 - (a + 65280) ≡ 256 - a = omega (arith, top) in
     rw (high, above, size) refl
 
--- The byte at a position and the bytes after it.
+-- The bytes from offset `at` on are the byte at `at`, followed by the bytes after it.
 from_one : (bytes : List ℕ) (at : ℕ) → at < length bytes → drop at bytes ≡ slice_index bytes at ∷ drop (at + 1) bytes
 from_one bytes at h = drop_more bytes at 0 h
 
@@ -41,7 +41,7 @@ from_three bytes at h =
     from_two bytes at (omega (arith, h)) ∙ ap (λ xs. slice_index bytes at ∷ slice_index bytes (at + 1) ∷ xs)
     (ap (λ k. drop k bytes) same ∙ from_one bytes (at + 2) h)
 
--- An instruction with an opcode, its operands and its size.
+-- An instruction with the opcode `op`, the operands `a` and `b`, and the size `len`.
 abbrev short : ℕ → ℕ → ℕ → ℕ → Instr
 short op a b len = record { op = op; a = a; b = b; c = 0; long = false; start = 0; count = 0; len = len }
 
@@ -134,7 +134,7 @@ display_pair_text bytes at h low f =
     let b = slice_index bytes (at + 2) in
     rw (display_pair_read bytes at _ _ _ _ (from_three bytes at h) low f, f, append-nil (decimal b ++ []), append-nil (decimal b)) refl
 
--- A name and the text after it are appended to a page.
+-- If a name and the text after it are appended to a page, then their concatenation is appended.
 pub named : (page new name rest text : List ℕ) → new ≡ page ++ name ++ rest → text ≡ name ++ rest → new ≡ page ++ text
 named page new name rest text e t = e ∙ append_assoc page name rest ∙ sym (ap (λ u. page ++ u) t)
 

@@ -1,4 +1,4 @@
--- Numbers with leading zeros, digit by digit.
+-- Lemmas about numbers with leading zeros, digit by digit.
 use Rattle.std.proofs.Common.{◌≡◌, ◌<◌, ◌≤◌, ℕ, zero, suc, ◌+◌, ◌-◌, ◌/◌, ◌%◌, ◌^◌, Bool, true, false, List, []}
 use Rattle.std.proofs.Common.{◌∷◌, ◌++◌, length, replicate, refl, sym, ap, ◌∙◌, arith, append_assoc, length-append}
 use Rattle.std.specs.Prelude.{nat_lt}
@@ -32,7 +32,7 @@ from_ten k n low high =
     let size : suc (suc k) - length (front ++ (48 + n % 10) ∷ []) ≡ suc k - length front = omega (arith, length-append front ((48 + n % 10) ∷ [])) in
     rw (decimal_step n low high, size) (sym (append_assoc (replicate (suc k - length front) 48) front ((48 + n % 10) ∷ [])))
 
--- One more digit after the others.
+-- A number with leading zeros is the number of its tens with one digit less, followed by its last digit.
 pub padded_step : (k n : ℕ) → n < 2 ^ 64 → padded (suc (suc k)) n ≡ padded (suc k) (n / 10) ++ (48 + n % 10) ∷ []
 padded_step k n h = go (nat_lt n 10) refl
   where
@@ -44,7 +44,7 @@ padded_last : (n : ℕ) → n < 10 → padded 1 n ≡ (48 + n) ∷ []
 unfolding padded
 padded_last n h = rw (decimal_digit n h) refl
 
--- A word in five digits.
+-- If `n` is a word, then these are its five digits.
 pub five_digits : (n : ℕ) → n < 65536 → padded 5 n ≡ (48 + n / 10 / 10 / 10 / 10) ∷ (48 + n / 10 / 10 / 10 % 10) ∷ (48 + n / 10 / 10 % 10) ∷ (48 + n / 10 % 10)
     ∷ (48 + n % 10) ∷ []
 five_digits n h =
@@ -54,7 +54,7 @@ five_digits n h =
     ∙ ap (λ u. u ++ (48 + n / 10 / 10 % 10) ∷ []) (padded_step 0 (n / 10 / 10 / 10) (omega arith)
     ∙ ap (λ u. u ++ (48 + n / 10 / 10 / 10 % 10) ∷ []) (padded_last (n / 10 / 10 / 10 / 10) (omega arith)))))
 
--- A word in five digits: its first one, and two pairs.
+-- If `n` is a word, then its five digits are one digit and two pairs of digits.
 pub digits_by_pairs : (n : ℕ) → n < 65536 → padded 5 n ≡ (48 + n / 100 / 100) ∷ (48 + n / 100 % 100 / 10) ∷ (48 + n / 100 % 100 % 10)
     ∷ (48 + n % 100 / 10) ∷ (48 + n % 100 % 10) ∷ []
 digits_by_pairs n h =
@@ -65,7 +65,7 @@ digits_by_pairs n h =
     let e : n % 10 ≡ n % 100 % 10 = omega arith in
     rw (sym a, sym b, sym c, sym d, sym e) (five_digits n h)
 
--- A count in seven digits.
+-- If `n` is below 10,000,000, then these are its seven digits.
 pub seven_digits : (n : ℕ) → n < 10000000 → padded 7 n ≡ (48 + n / 10 / 10 / 10 / 10 / 10 / 10) ∷ (48 + n / 10 / 10 / 10 / 10 / 10 % 10)
     ∷ (48 + n / 10 / 10 / 10 / 10 % 10) ∷ (48 + n / 10 / 10 / 10 % 10) ∷ (48 + n / 10 / 10 % 10) ∷ (48 + n / 10 % 10) ∷ (48 + n % 10) ∷ []
 seven_digits n h =
@@ -77,6 +77,6 @@ seven_digits n h =
     ∙ ap (λ u. u ++ (48 + n / 10 / 10 / 10 / 10 % 10) ∷ []) (padded_step 0 (n / 10 / 10 / 10 / 10 / 10) (omega arith)
     ∙ ap (λ u. u ++ (48 + n / 10 / 10 / 10 / 10 / 10 % 10) ∷ []) (padded_last (n / 10 / 10 / 10 / 10 / 10 / 10) (omega arith)))))))
 
--- The last of eight digits after the others.
+-- The eight digits of a number are the seven digits of its tens, followed by its last digit.
 pub last_of_eight : (n : ℕ) → n < 100000000 → padded 8 n ≡ padded 7 (n / 10) ++ (48 + n % 10) ∷ []
 last_of_eight n h = padded_step 6 n (omega arith)

@@ -6,7 +6,7 @@ use Rattle.pm_code.specs.Shown.{padded}
 use Rattle.pm_disasm.specs.Text.{line_text}
 use Rattle.pm_words.specs.declared.layout.TheConstants.{STACK_END}
 
--- The word at the top of the stack. There is none if SP is 65,504.
+-- The word at `sp`, the top of the stack, or `None` if `sp` is 65,504.
 unfoldable pub top_word : List ℕ → ℕ → Option ℕ
 top_word words sp = if sp == STACK_END then None else Some (word_at words sp)
 
@@ -14,14 +14,14 @@ abbrev pub top_text : Option ℕ → List ℕ
 top_text None = codes "-----"
 top_text (Some word) = padded 5 word
 
--- Texts with a space between each two.
+-- The texts joined, with a space between two of them.
 abbrev pub spaced : List (List ℕ) → List ℕ
 spaced [] = []
 spaced (part ∷ []) = part
 spaced (part ∷ next ∷ parts) = part ++ 32 ∷ spaced (next ∷ parts)
 
--- The line of a trace for the next step of the machine: the steps so far, five registers, the word at the top of the
--- stack, and the instruction at IPC.
+-- The line of a trace for the next step of the state `s`. It has the number of steps before, five registers, the word
+-- at the top of the stack, and the instruction at IPC.
 unfoldable pub trace_line : State → List ℕ
 trace_line s = spaced (
     padded 8 s.steps

@@ -1,4 +1,5 @@
-//! Digits that are cached, because they seldom change from one line of a trace to the next.
+//! Digits that are cached, because they seldom change from one line of a trace to the next. A column is a number in
+//! five digits, followed by a space.
 
 ghost use Rattle.std.specs.Prelude.{◌≡◌, ◌<◌, ◌∷◌, ◌++◌, []};
 ghost use Rattle.pm_code.specs.Shown.{padded};
@@ -6,7 +7,7 @@ ghost use Rattle.pm_code.specs.Shown.{padded};
 use crate::digits::{Column, column, seven_digits};
 use std::marker::Model;
 
-/// A word and its column. Contracts see it as the word.
+/// A word and its column. Contracts describe this cache as the word.
 #[derive(Drop)]
 pub(crate) struct CachedColumn {
     word: u16,
@@ -27,7 +28,7 @@ impl Model for CachedColumn {
 }
 
 impl CachedColumn {
-    /// Creates a cache with the column of 0.
+    /// Creates a cache that contains 0 and its column.
     pub(crate) fn new() -> CachedColumn {
         CachedColumn {
             word: 0,
@@ -35,7 +36,7 @@ impl CachedColumn {
         }
     }
 
-    /// Returns the column of a word, which is cached afterwards.
+    /// Returns the column of `word`. Afterwards this column is cached.
     #[inline(always)]
     pub(crate) fn of(&mut self, word: u16) -> Column
         ensures digits { result ≡ padded 5 word ++ 32 ∷ [] }
@@ -48,7 +49,7 @@ impl CachedColumn {
     }
 }
 
-/// A number of tens and its seven digits. Contracts see it as the number.
+/// A number of tens and its seven digits. Contracts describe this cache as the number.
 #[derive(Drop)]
 pub(crate) struct CachedTens {
     tens: u32,
@@ -69,7 +70,7 @@ impl Model for CachedTens {
 }
 
 impl CachedTens {
-    /// Creates a cache with the digits of 0.
+    /// Creates a cache that contains 0 and its digits.
     pub(crate) fn new() -> CachedTens {
         CachedTens {
             tens: 0,
@@ -77,7 +78,7 @@ impl CachedTens {
         }
     }
 
-    // Returns a number of tens in seven digits, which are cached afterwards.
+    // Returns `tens` in seven digits. Afterwards these digits are cached.
     #[inline(always)]
     fn of(&mut self, tens: u32) -> [u8; 7]
         requires few { tens < 10000000 }
@@ -90,7 +91,7 @@ impl CachedTens {
         self.digits
     }
 
-    /// Returns a count in eight digits and a space. The digits of its tens are cached afterwards.
+    /// Returns `count` in eight digits, followed by a space. Afterwards the first seven digits are cached.
     #[inline(always)]
     pub(crate) fn front(&mut self, count: u32) -> [u8; 9]
         requires few { count < 100000000 }

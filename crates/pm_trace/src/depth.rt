@@ -1,4 +1,4 @@
-//! The call depth of a machine.
+//! The call depth of a machine: the number of frames along the dynamic links, without the system's frame.
 
 ghost use Rattle.std.specs.Prelude.{◌≡◌, ◌≤◌};
 ghost use Rattle.pm_trace.specs.Selected.{depth, depth_from, next_frame};
@@ -13,7 +13,8 @@ const MOST_DEPTH: u16 = 64;
 /// The offset of the dynamic link in a frame, in bytes.
 const DYNAMIC_LINK: u16 = 2;
 
-/// Returns the next frame of the dynamic chain. Returns `None` for the system's frame and for an odd address.
+/// Returns the frame to which the dynamic link of `frame` leads. Returns `None` if `frame` is the system's frame or
+/// odd.
 fn next_frame(memory: &Memory, frame: u16) -> Option<u16>
     ensures next { result ≡ next_frame memory.now.words frame }
 {
@@ -23,7 +24,8 @@ fn next_frame(memory: &Memory, frame: u16) -> Option<u16>
     memory.word(frame.wrapping_add(DYNAMIC_LINK))
 }
 
-/// Returns the number of frames of the dynamic chain from `first` on, without the system's frame, at most 64.
+/// Returns the number of frames along the dynamic links from `first` on, without the system's frame, or 64 if it is
+/// higher.
 fn depth_from(memory: &Memory, first: u16) -> u16
     ensures depth { result ≡ depth_from memory.now.words 64 first }
     ensures most { result ≤ 64 }
@@ -38,7 +40,7 @@ fn depth_from(memory: &Memory, first: u16) -> u16
     MOST_DEPTH
 }
 
-/// Returns the call depth of a machine, at most 64.
+/// Returns the call depth of `machine`, or 64 if it is higher.
 pub(crate) fn depth(machine: &Machine) -> u16
     ensures depth { result ≡ depth machine.now.state }
     ensures most { result ≤ 64 }

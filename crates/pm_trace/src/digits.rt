@@ -21,7 +21,7 @@ static PAIRS: [[u8; 2]; 100] = [
     *b"96", *b"97", *b"98", *b"99",
 ];
 
-/// Returns a number below 100 in two digits.
+/// Returns `number`, which is below 100, in two digits.
 #[inline(always)]
 fn pair(number: u16) -> [u8; 2]
     requires below { number < 100 }
@@ -30,7 +30,7 @@ fn pair(number: u16) -> [u8; 2]
     PAIRS[number as usize]
 }
 
-/// Returns a count in seven digits.
+/// Returns `count` in seven digits.
 #[inline(never)]
 #[tactic(auto, using(crate::proofs::Zeros::seven_digits))]
 pub(crate) fn seven_digits(count: u32) -> [u8; 7]
@@ -67,10 +67,10 @@ impl fmt::Display for Count {
     }
 }
 
-/// Five characters and a space.
+/// A column of a line: five characters and a space.
 pub(crate) type Column = [u8; 6];
 
-/// Returns a word in five digits, with a space.
+/// Returns `word` in five digits, followed by a space.
 #[inline(always)]
 #[tactic(auto, using(crate::proofs::Zeros::digits_by_pairs))]
 pub(crate) fn column(word: u16) -> Column
@@ -84,7 +84,7 @@ pub(crate) fn column(word: u16) -> Column
     [first, thousands, third, tens, last, b' ']
 }
 
-/// Returns a word in five digits, or five dashes if there is none, with a space.
+/// Returns `word` in five digits, or five dashes if it is `None`. A space follows.
 pub(crate) fn column_or_dashes(word: Option<u16>) -> Column
     ensures text { result ≡ top_text word ++ 32 ∷ [] }
     ensures ascii { IsAscii result }
@@ -95,7 +95,7 @@ pub(crate) fn column_or_dashes(word: Option<u16>) -> Column
     }
 }
 
-/// Returns columns as one string.
+/// Returns `columns` joined to one string.
 #[tactic(auto, using(crate::proofs::Columns::columns_utf8))]
 pub(crate) fn joined(columns: &[Column]) -> &str
     requires ascii { AllByRecursion IsAscii columns.now }

@@ -14,7 +14,7 @@ use std::alloc::{AllocError, Global};
 /// The spaces before the deepest line.
 static BLANKS: [u8; 128] = [b' '; 128];
 
-// Returns two spaces for each level.
+// Returns two spaces for each level of `depth`.
 #[tactic(auto, using(crate::proofs::Depths::first_blanks))]
 fn blanks(depth: u16) -> &'static [u8]
     requires most { depth ≤ 64 }
@@ -23,7 +23,7 @@ fn blanks(depth: u16) -> &'static [u8]
     &BLANKS[..2 * usize::from(depth)]
 }
 
-// Appends two spaces for each level of depth, if requested.
+// Appends two spaces for each level of the call depth to `page`. Appends nothing if `wanted` is false.
 fn add_blanks(page: &mut Vec<u8>, machine: &Machine, wanted: bool) -> Result<(), AllocError>
     ensures blanks { OnOk result (page.new.items ≡ page.old.items ++ front_blanks wanted machine.now.state) }
 {
@@ -33,7 +33,7 @@ fn add_blanks(page: &mut Vec<u8>, machine: &Machine, wanted: bool) -> Result<(),
     page.extend_from_slice(blanks(depth(machine)))
 }
 
-// Appends the position of a step, if requested.
+// Appends the position of the next step of `machine` to `page`. Appends nothing if `wanted` is false.
 fn add_places(page: &mut Vec<u8>, machine: &Machine, wanted: bool) -> Result<(), AllocError>
     ensures places { OnOk result (page.new.items ≡ page.old.items ++ front_place wanted machine.now.state) }
 {
@@ -43,7 +43,7 @@ fn add_places(page: &mut Vec<u8>, machine: &Machine, wanted: bool) -> Result<(),
     add_place(page, place_in_code(machine))
 }
 
-// Appends the columns before a line.
+// Appends the columns before a line to `page`: the indentation and the position, if `wanted` requests them.
 fn add_front(page: &mut Vec<u8>, machine: &Machine, wanted: Selection) -> Result<(), AllocError>
     ensures front { OnOk result (page.new.items ≡ page.old.items ++ front wanted machine.now.state) }
 {
@@ -52,22 +52,24 @@ fn add_front(page: &mut Vec<u8>, machine: &Machine, wanted: Selection) -> Result
     Ok(())
 }
 
-/// Appends the selected lines of a trace to a page. It only caches digits, so the next line can be of any machine.
+/// Appends the selected lines of a trace to a page, which is the output buffer. This value only caches digits, so the
+/// next line can be of any machine.
 #[derive(Drop)]
 pub struct Lines {
     tracer: Tracer,
 }
 
 impl Lines {
-    /// Creates a value that has cached nothing.
+    /// Creates a value whose caches contain only the digits of 0.
     pub fn new(alloc: Global) -> Lines {
         Lines {
             tracer: Tracer::new(alloc),
         }
     }
 
-    /// Appends what is shown of the next step of a machine: its line with the columns before it and a line feed.
-    /// Appends nothing if the line is not selected. After `AllocError` a part of the line may have been appended.
+    /// Appends the line of the next step of `machine` to `page`, with the columns before the line and a line feed.
+    /// Appends nothing if `wanted` does not select the line. After `AllocError` a part of the line may have been
+    /// appended.
     #[tactic(auto, unfolding(crate::specs::Selected::shown_line))]
     pub fn add(
         &mut self,

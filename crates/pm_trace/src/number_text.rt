@@ -1,4 +1,4 @@
-//! The text of instructions whose operands are numbers, appended to a page.
+//! The text of instructions whose operands are numbers. The text is appended to a page, which is the output buffer.
 
 ghost use Rattle.std.specs.Prelude.{◌≡◌, ◌<◌, ◌≤◌, ◌∷◌, ◌++◌, ◌+◌, ◌*◌, length, slice_index, IfOk, OnOk, if◌then◌else◌};
 ghost use Rattle.std.specs.Fmt.{decimal};
@@ -10,7 +10,7 @@ ghost use Rattle.pm_disasm.specs.Text.{text_at};
 use pm_opcode::{Form, form_at, implied_number, row_at};
 use std::alloc::AllocError;
 
-/// Appends a character and a number.
+/// Appends the character `lead` and `number` in decimal to `page`.
 #[inline(always)]
 #[tactic(auto, using(crate::proofs::Decimals::one_digit, crate::proofs::Decimals::two_digits))]
 fn add_number(page: &mut Vec<u8>, lead: u8, number: u16) -> Result<(), AllocError>
@@ -26,7 +26,7 @@ fn add_number(page: &mut Vec<u8>, lead: u8, number: u16) -> Result<(), AllocErro
     }
 }
 
-/// Appends a character and a number of three to five digits.
+/// Appends the character `lead` and `number`, which has three to five digits, to `page`.
 #[inline(never)]
 #[tactic(auto, using(crate::proofs::Decimals::three_digits, crate::proofs::Decimals::four_digits, crate::proofs::Decimals::five_digits))]
 fn add_long_number(page: &mut Vec<u8>, lead: u8, number: u16) -> Result<(), AllocError>
@@ -50,7 +50,7 @@ fn add_long_number(page: &mut Vec<u8>, lead: u8, number: u16) -> Result<(), Allo
     }
 }
 
-/// Appends the name of an opcode, and the number that the opcode contains.
+/// Appends the mnemonic of the opcode `op`, and the number that the opcode contains, if any.
 #[inline(always)]
 fn add_plain(page: &mut Vec<u8>, op: u8) -> Result<(), AllocError>
     ensures text { OnOk result (page.new.items
@@ -63,7 +63,7 @@ fn add_plain(page: &mut Vec<u8>, op: u8) -> Result<(), AllocError>
     }
 }
 
-/// Appends the name of an opcode and a byte.
+/// Appends the mnemonic of the opcode `op` and `byte` as a number.
 #[inline(always)]
 fn add_byte(page: &mut Vec<u8>, op: u8, byte: u8) -> Result<(), AllocError>
     ensures text { OnOk result (page.new.items ≡ page.old.items ++ mnemonic_of op ++ 32 ∷ decimal byte) }
@@ -72,7 +72,7 @@ fn add_byte(page: &mut Vec<u8>, op: u8, byte: u8) -> Result<(), AllocError>
     add_number(page, b' ', u16::from(byte))
 }
 
-/// Appends the name of an opcode and a word, whose low byte is first.
+/// Appends the mnemonic of the opcode `op` and the word with the bytes `low` and `high`.
 #[inline(always)]
 fn add_word(page: &mut Vec<u8>, op: u8, low: u8, high: u8) -> Result<(), AllocError>
     ensures text { OnOk result (page.new.items
@@ -82,7 +82,7 @@ fn add_word(page: &mut Vec<u8>, op: u8, low: u8, high: u8) -> Result<(), AllocEr
     add_number(page, b' ', u16::from(low) + 256 * u16::from(high))
 }
 
-/// Appends the name of an opcode and a signed byte.
+/// Appends the mnemonic of the opcode `op` and `byte` as a signed number.
 #[inline(always)]
 #[tactic(auto, using(crate::proofs::ShortText::positive, crate::proofs::ShortText::negative))]
 fn add_signed(page: &mut Vec<u8>, op: u8, byte: u8) -> Result<(), AllocError>
@@ -97,7 +97,7 @@ fn add_signed(page: &mut Vec<u8>, op: u8, byte: u8) -> Result<(), AllocError>
     add_number(page, b'-', 256 - u16::from(byte))
 }
 
-/// Appends the name of an opcode and two bytes.
+/// Appends the mnemonic of the opcode `op` and the bytes `first` and `second` as numbers.
 #[inline(always)]
 fn add_pair(page: &mut Vec<u8>, op: u8, first: u8, second: u8) -> Result<(), AllocError>
     ensures text { OnOk result (page.new.items
@@ -109,9 +109,9 @@ fn add_pair(page: &mut Vec<u8>, op: u8, first: u8, second: u8) -> Result<(), All
     add_number(page, b' ', u16::from(second))
 }
 
-/// Appends the text of the instruction at a position and returns true. The operands must be none, a byte, a word, a
-/// number of one byte, or a byte and such a number. For another instruction, or one near the end of the bytes, it
-/// returns false and appends nothing.
+/// Appends the text of the instruction at offset `at` of `bytes` to `page`, and returns true. The operands must be
+/// none, a byte, a word, a number of one byte, or a byte and such a number. For another instruction, or one near the
+/// end of `bytes`, the function returns false and appends nothing.
 #[inline(always)]
 pub(crate) fn add_short(page: &mut Vec<u8>, bytes: &[u8], at: usize) -> Result<bool, AllocError>
     requires inside { at < length bytes.now }

@@ -7,7 +7,7 @@ use crate::digits::column;
 use pm_machine::CodePlace;
 use std::alloc::AllocError;
 
-/// Returns the number of a segment or a procedure in three digits, followed by a space.
+/// Returns `number`, the number of a segment or a procedure, in three digits, followed by a space.
 #[tactic(auto, using(crate::proofs::PlaceDigits::three_digits))]
 fn number_column(number: u8) -> [u8; 4]
     ensures digits { result ≡ column 3 number }
@@ -16,7 +16,7 @@ fn number_column(number: u8) -> [u8; 4]
     [b'0' + tens / 10, b'0' + tens % 10, b'0' + number % 10, b' ']
 }
 
-/// Appends a position in columns, or dashes if there is none.
+/// Appends the columns of the position `place` to `page`, or dashes if it is `None`.
 pub(crate) fn add_place(page: &mut Vec<u8>, place: Option<CodePlace>) -> Result<(), AllocError>
     ensures columns { OnOk result (page.new.items ≡ page.old.items ++ place_columns place) }
 {

@@ -8,7 +8,8 @@ use pm_jobs::{Code, Selection};
 use pm_machine::{CodePlace, Machine, place_in_code};
 use pm_opcode::row_at;
 
-/// Whether a position is in the requested code.
+/// Whether the position `place` is in the code that `code` selects. If `place` is `None`, this is true only for
+/// `Anywhere`.
 fn stands_in(code: Code, place: Option<CodePlace>) -> bool
     ensures value { result ≡ stands_in code place }
 {
@@ -22,7 +23,7 @@ fn stands_in(code: Code, place: Option<CodePlace>) -> bool
     }
 }
 
-/// Whether a machine is in the requested code.
+/// Whether the next step of `machine` is in the code that `code` selects.
 fn is_inside(machine: &Machine, code: Code) -> bool
     ensures value { result ≡ stands_in code (place_in_code machine.now.state) }
 {
@@ -32,14 +33,14 @@ fn is_inside(machine: &Machine, code: Code) -> bool
     }
 }
 
-/// Whether an instruction of this name is a call or a return.
+/// Whether `name` is the mnemonic of a call or a return.
 fn is_call_or_return(name: &str) -> bool
     ensures value { result ≡ is_call_or_return name.now }
 {
     matches!(name, "CIP" | "CBP" | "CXP" | "CLP" | "CGP" | "RNP" | "RBP")
 }
 
-/// Whether the next step of a machine is a call or a return.
+/// Whether the next step of `machine` is a call or a return.
 fn is_at_call(machine: &Machine) -> bool
     ensures value { result ≡ is_at_call machine.now.state }
 {
@@ -47,7 +48,7 @@ fn is_at_call(machine: &Machine) -> bool
     is_call_or_return(row_at(op).mnemonic)
 }
 
-/// Whether the line of the next step of a machine is shown.
+/// Whether `wanted` selects the line of the next step of `machine`.
 pub(crate) fn is_selected(wanted: Selection, machine: &Machine) -> bool
     ensures value { result ≡ is_selected wanted machine.now.state }
 {

@@ -12,7 +12,7 @@ use std::fmt;
 
 /// The line of a trace for the next step of a machine, without a line feed. It consists of:
 ///
-/// - the steps so far, in at least eight digits,
+/// - the number of steps before, in at least eight digits,
 /// - IPC, SP, MP, BASE, NP and the word at SP, in five digits each, with five dashes instead of the word if SP is
 ///   65,504,
 /// - the instruction at IPC.
@@ -23,7 +23,7 @@ pub struct TraceLine<'a> {
 }
 
 impl<'a> TraceLine<'a> {
-    /// Creates the line of a machine.
+    /// Creates the line of the next step of `machine`.
     pub fn new(machine: &'a Machine) -> TraceLine<'a>
         ensures machine { result.machine.now ≡ machine.now }
     {
@@ -53,7 +53,7 @@ impl fmt::Display for TraceLine<'_> {
     }
 }
 
-/// Returns the word at the top of the stack, or `None` if the stack is empty.
+/// Returns the word of `memory` at `sp`, the top of the stack, or `None` if the stack is empty.
 #[tactic(auto, unfolding(crate::specs::Trace::top_word))]
 pub(crate) fn top(memory: &Memory, sp: u16) -> Option<u16>
     requires even { sp % 2 ≡ 0 }

@@ -7,7 +7,7 @@ use crate::state_line::TraceLine;
 use pm_machine::Machine;
 use std::alloc::{AllocError, Global};
 
-/// Returns the line of a trace for the next step of a machine, without a line feed.
+/// Returns the line of a trace for the next step of `machine`, without a line feed.
 pub fn trace_line(alloc: Global, machine: &Machine) -> Result<String, AllocError>
     ensures text { IfOk result (λ text. string_bytes text ≡ trace_line machine.now.state) }
 {

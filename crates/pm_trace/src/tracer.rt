@@ -13,8 +13,8 @@ use pm_machine::Machine;
 use pm_words::Memory;
 use std::alloc::{AllocError, Global};
 
-/// Appends the lines of a trace to a page. It only caches digits that seldom change, so the next line can be of any
-/// machine.
+/// Appends the lines of a trace to a page, which is the output buffer. This value only caches digits that seldom
+/// change, so the next line can be of any machine.
 #[derive(Drop)]
 pub struct Tracer {
     tens: CachedTens,
@@ -26,7 +26,7 @@ pub struct Tracer {
 }
 
 impl Tracer {
-    /// Creates a value that has cached nothing.
+    /// Creates a value whose caches contain only the digits of 0.
     pub fn new(alloc: Global) -> Tracer {
         Tracer {
             tens: CachedTens::new(),
@@ -37,8 +37,8 @@ impl Tracer {
         }
     }
 
-    /// Appends the line of a trace for the next step of a machine, with a line feed. After `AllocError` a part of the
-    /// line may have been appended.
+    /// Appends the line of a trace for the next step of `machine` to `page`, with a line feed. After `AllocError` a
+    /// part of the line may have been appended.
     #[tactic(auto, unfolding(crate::specs::Trace::trace_line))]
     pub fn add_line(&mut self, page: &mut Vec<u8>, machine: &Machine) -> Result<(), AllocError>
         ensures line { OnOk result (page.new.items
@@ -66,7 +66,7 @@ impl Tracer {
         Ok(())
     }
 
-    // Appends the line of a machine that has executed more steps than eight digits can count.
+    // Appends the line of `machine`, which has executed more steps than eight digits can count, to `page`.
     #[inline(never)]
     fn add_long_line(&mut self, page: &mut Vec<u8>, machine: &Machine) -> Result<(), AllocError>
         ensures line { OnOk result (page.new.items
@@ -77,7 +77,7 @@ impl Tracer {
         page.extend_from_slice(self.text.as_bytes())
     }
 
-    // Appends the text of the instruction at an address.
+    // Appends the text of the instruction at an address of `memory` to `page`.
     #[inline(always)]
     #[tactic(auto, unfolding(pm_disasm::specs::Text::line_text))]
     fn add_place(
@@ -94,7 +94,7 @@ impl Tracer {
         self.add_text(page, &Line::new(memory, address))
     }
 
-    // Appends the text of a line with any operands.
+    // Appends the text of `line`, whose operands can be of any kind, to `page`.
     #[inline(never)]
     fn add_text(&mut self, page: &mut Vec<u8>, line: &Line<'_>) -> Result<(), AllocError>
         ensures text { OnOk result

@@ -1,4 +1,4 @@
--- The next piece of the rest.
+-- Lemmas about the next piece of a text.
 use Rattle.std.proofs.Common.{◌≡◌, ◌<◌, ℕ, zero, suc, ◌+◌, ◌-◌, List, [], ◌++◌, Option, arith, subst}
 use Rattle.pm_codefile.specs.Dictionary.{segment_in}
 use Rattle.pm_codefile.specs.Segments.{attributes_in}
@@ -41,7 +41,7 @@ next_statements callees layout file n old mid text h r =
     let more : 16 - n ≡ suc (16 - (n + 1)) = omega (arith, h) in
     subst (λ k. Rest old mid text (slots_text callees layout file n k)) more r
 
--- All slots are written.
+-- If no slot follows slot `n - 1`, then nothing remains to be written.
 pub no_slot : (form : Form) (file : List ℕ) (n : ℕ) (old mid : Outgoing) (text : List ℕ) → 16 - n ≡ 0
     → Rest old mid text (slots_pieces form file n (16 - n)) → Rest old mid text []
 no_slot form file n old mid text e r = subst (λ k. Rest old mid text (slots_pieces form file n k)) e r

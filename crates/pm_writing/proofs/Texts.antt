@@ -109,7 +109,7 @@ split file line (c ∷ cs) rest = step (c == 10) (split file [] cs rest) (split 
         ∙ sym (append_assoc (named_line file line) (10 ∷ named_from file [] (cs ++ 10 ∷ [])) (named_from file [] rest))
     step false ended going = going
 
--- The notes of lines and a text after them are the notes of each.
+-- The notes of `joined lines ++ rest` are the notes of `joined lines`, followed by the notes of `rest`.
 named_joined : (file : List ℕ) (lines : List (List ℕ)) (rest : List ℕ)
     → with_names file (joined lines ++ rest) ≡ with_names file (joined lines) ++ with_names file rest
 unfolding with_names

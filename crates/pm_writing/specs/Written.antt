@@ -10,8 +10,8 @@ use Rattle.pm_jobs.specs.Streams.{AppendsFront, IsCause, Outgoing}
 use Rattle.pm_notes.specs.Lines.{with_names}
 use Rattle.pm_statements.specs.Files.{block_statements, file_statements, indented_statements}
 
--- If the call succeeds, it has written `text`, and no write has failed. If it fails, it has written a prefix of `text`,
--- and the fault is that of a write or of memory.
+-- States how a call that writes `text` ends. If it succeeds, it has written `text`, and no write has failed. If it
+-- fails, it has written a prefix of `text`, and the fault is that of a write or of memory.
 abbrev pub Writes : {A : Type 0} → Outgoing → Outgoing → List ℕ → Result A Fault → Type 0
 Writes old new text (Ok a) = Appends old.contents new.contents text × (new.failed ≡ false)
 Writes old new text (Err fault) = AppendsFront old.contents new.contents text × IsCause fault false new.failed []

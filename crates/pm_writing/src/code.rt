@@ -1,4 +1,4 @@
-//! What `dis` prints for a code file.
+//! Writes the output of `dis` for a code file.
 
 ghost use Rattle.std.specs.Prelude.{◌≡◌, false};
 ghost use Rattle.pm_writing.specs.Written.{Writes, code_text};
@@ -11,13 +11,13 @@ use pm_jobs::{DisOutput, Fault, Sink};
 use pm_statements::Layout;
 use std::alloc::Global;
 
-/// Writes the output of `dis` for a code file to a sink, one procedure after the other. It needs memory for one decoded
-/// segment and the text of one procedure. For statements it also needs memory for the sizes and the cached procedures
-/// of the whole file. No write to the sink may have failed before.
+/// Writes the output of `dis` for the code file `file` to `sink`, one procedure after the other. The call needs memory
+/// for one decoded segment and the text of one procedure. For statements it also needs memory for the sizes and the
+/// cached procedures of the whole file. No write to `sink` may have failed before.
 ///
 /// # Errors
 ///
-/// A prefix of the output has been written.
+/// After an error, a prefix of the output has been written.
 ///
 /// - `NoMemory` if memory runs out.
 /// - `Write` if a write fails or accepts no byte.

@@ -1,5 +1,5 @@
-//! What `dis` prints for a code file. It is written to a sink one procedure after the other, so that at most the text
-//! of one procedure is in memory.
+//! Writes the output of `dis` for a code file. The output is written to a sink one procedure after the other, so that
+//! at most the text of one procedure is in memory.
 #![tactic(auto)]
 
 mod code;

@@ -1,4 +1,4 @@
-//! Writes the procedures of a segment one after the other.
+//! Writes the procedures of a segment one after the other. A piece is the text of one procedure in the requested form.
 
 ghost use Rattle.std.specs.Prelude.{◌≡◌, ◌%◌, ◌≤◌, ℕ, List, Some, false, length, IfSome, OnOk};
 ghost use Rattle.pm_codefile.specs.Segments.{attributes_in, procedures_in};
@@ -22,14 +22,15 @@ pub(crate) struct Part<'a> {
     pub segment: &'a [u8],
 }
 
-/// The procedure that was written last, cached because several numbers of a dictionary may lead to one table.
+/// The procedure that was written last. It is cached because several numbers of a dictionary may lead to one attribute
+/// table.
 #[derive(Drop)]
 struct Last {
     table: Attributes,
     piece: Vec<u8>,
 }
 
-/// Writes a piece to a sink.
+/// Writes the bytes `piece` to `sink`.
 pub(crate) fn write_piece<W: Sink>(sink: &mut W, piece: &[u8]) -> Result<(), Fault>
     requires well { (W.seen sink.old).failed ≡ false }
     ensures writes { Writes (W.seen sink.old) (W.seen sink.new) piece.now result }
@@ -37,7 +38,7 @@ pub(crate) fn write_piece<W: Sink>(sink: &mut W, piece: &[u8]) -> Result<(), Fau
     write_all(sink, piece)
 }
 
-/// Returns the cached piece if it is that of `table`.
+/// Returns the cached piece in `last` if it was made from an attribute table equal to `table`, else `None`.
 fn same<'l>(last: &'l Option<Last>, table: &Attributes) -> Option<&'l [u8]>
     ensures piece { (shows : Attributes → List ℕ) → IfSome last.now (λ l. l.piece.items ≡ shows l.table)
         → IfSome result (λ piece. piece.now ≡ shows table.now) }
@@ -48,7 +49,7 @@ fn same<'l>(last: &'l Option<Last>, table: &Attributes) -> Option<&'l [u8]>
     }
 }
 
-/// Writes a procedure by its table and caches its piece.
+/// Writes the piece of the procedure that has the given attribute table, and caches this piece.
 fn write_table<'a, W: Sink>(
     alloc: Global,
     sink: &mut W,
@@ -86,7 +87,7 @@ fn write_table<'a, W: Sink>(
     Ok(())
 }
 
-/// Writes the piece of one procedure number of a segment.
+/// Writes the piece of the procedure with one number of a segment. The number may have no attribute table.
 fn write_number<'a, W: Sink>(
     alloc: Global,
     sink: &mut W,
@@ -116,7 +117,7 @@ fn write_number<'a, W: Sink>(
     }
 }
 
-/// Writes the procedures of a segment in the order of their numbers.
+/// Writes the pieces of all procedures of a segment, in the order of their numbers.
 pub(crate) fn write_numbers<W: Sink>(
     alloc: Global,
     sink: &mut W,

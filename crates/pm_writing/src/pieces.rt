@@ -1,4 +1,5 @@
-//! The pieces of a text, which are written one after the other.
+//! The pieces of a text. A piece is the text of one procedure, or the text before or after the procedures of a segment.
+//! The pieces are written one after the other.
 
 ghost use Rattle.std.specs.Prelude.{◌≡◌, ◌<◌, ◌≤◌, ℕ, Some, length, string_bytes, IfOk};
 ghost use Rattle.pm_codefile.specs.Segments.{attributes_in};
@@ -12,7 +13,7 @@ use pm_disasm::{Decoded, decoded_procedure, dictionary_line, procedure_listing, 
 use pm_notes::with_names;
 use std::alloc::{AllocError, Global};
 
-/// Returns the bytes of a piece, with notes if the form has notes.
+/// Returns the bytes of the piece `text`. If `form` is `Names`, notes are added to its lines.
 fn told(alloc: Global, form: Form, file: &CodeFile<'_>, text: String) -> Result<Vec<u8>, AllocError>
     ensures piece { IfOk result (λ piece. piece.items ≡ told form file.now (string_bytes text)) }
 {
@@ -22,7 +23,7 @@ fn told(alloc: Global, form: Form, file: &CodeFile<'_>, text: String) -> Result<
     }
 }
 
-/// Returns the text of a procedure without notes.
+/// Returns the text of the procedure that has the given attribute table, without notes.
 fn raw_table<'a>(
     alloc: Global,
     form: Form,
@@ -42,7 +43,7 @@ fn raw_table<'a>(
     }
 }
 
-/// Returns the piece of a procedure, by its table.
+/// Returns the piece of the procedure that has the given attribute table.
 pub(crate) fn table_piece<'a>(
     alloc: Global,
     form: Form,
@@ -61,7 +62,7 @@ pub(crate) fn table_piece<'a>(
     told(alloc, form, file, text)
 }
 
-/// Returns the piece of a procedure number that has no table.
+/// Returns the piece of a procedure whose number has no attribute table.
 pub(crate) fn missing_piece(
     alloc: Global,
     form: Form,
@@ -74,7 +75,7 @@ pub(crate) fn missing_piece(
     told(alloc, form, file, text)
 }
 
-/// Returns the text before the procedures of the segment of slot `n`, without notes.
+/// Returns the text before the procedures of the segment in slot `n`, without notes.
 fn raw_head(alloc: Global, form: Form, file: &CodeFile<'_>, n: u8) -> Result<String, AllocError>
     requires slot { n < 16 }
     ensures text { IfOk result (λ text. string_bytes text ≡ raw_head form file.now n) }
@@ -85,7 +86,7 @@ fn raw_head(alloc: Global, form: Form, file: &CodeFile<'_>, n: u8) -> Result<Str
     }
 }
 
-/// Returns the piece before the procedures of the segment of slot `n`.
+/// Returns the piece before the procedures of the segment in slot `n`.
 pub(crate) fn head_piece(
     alloc: Global,
     form: Form,
@@ -99,7 +100,7 @@ pub(crate) fn head_piece(
     told(alloc, form, file, text)
 }
 
-/// Returns the piece after the procedures of the segment of slot `n`.
+/// Returns the piece after the procedures of `segment`. It is the line of the dictionary in a listing, and else empty.
 pub(crate) fn foot_piece(
     alloc: Global,
     form: Form,

@@ -12,7 +12,7 @@ use pm_codefile::CodeFile;
 use pm_jobs::{Fault, Sink};
 use std::alloc::Global;
 
-/// Writes the segment of slot `n`, or nothing if the slot has no segment.
+/// Writes the segment in slot `n` of `file` to `sink`. Writes nothing if the slot has no segment.
 fn write_slot<W: Sink>(
     alloc: Global,
     sink: &mut W,
@@ -40,7 +40,7 @@ fn write_slot<W: Sink>(
     write_piece(sink, &foot)
 }
 
-/// Writes the segments of a code file in the order of their slots.
+/// Writes the segments of `file` to `sink` in the order of their slots.
 pub(crate) fn write_slots<W: Sink>(
     alloc: Global,
     sink: &mut W,

@@ -1,4 +1,4 @@
-//! Writes the statements of a code file one procedure after the other.
+//! Writes the statement view of a code file one procedure after the other.
 
 ghost use Rattle.std.specs.Prelude.{◌≡◌, ◌%◌, ◌≤◌, [], false, length, IfSome, OnOk};
 ghost use Rattle.std.specs.List.{AllByRecursion};
@@ -17,7 +17,7 @@ use pm_statements::{
 };
 use std::alloc::Global;
 
-/// Writes the statements of one procedure number of a segment.
+/// Writes the statements of the procedure with one number of a segment.
 fn write_numbered<'a, W: Sink>(
     alloc: Global,
     sink: &mut W,
@@ -43,7 +43,7 @@ fn write_numbered<'a, W: Sink>(
     write_piece(sink, text.as_bytes())
 }
 
-/// Writes the statements of the procedures of a segment.
+/// Writes the statements of all procedures of a segment.
 fn write_segment<W: Sink>(
     alloc: Global,
     sink: &mut W,
@@ -73,7 +73,7 @@ fn write_segment<W: Sink>(
     Ok(())
 }
 
-/// Writes the statements of the segment of slot `n`, or nothing if the slot has no segment.
+/// Writes the statements of the segment in slot `n` of `file`. Writes nothing if the slot has no segment.
 fn write_slot<W: Sink>(
     alloc: Global,
     sink: &mut W,
@@ -104,7 +104,7 @@ fn write_slot<W: Sink>(
     }
 }
 
-/// Writes the statements of a code file.
+/// Writes the statements of all segments of a code file, in the order of their slots.
 #[tactic(auto, unfolding(pm_statements::specs::Files::file_text))]
 pub(crate) fn write_statements<W: Sink>(
     alloc: Global,

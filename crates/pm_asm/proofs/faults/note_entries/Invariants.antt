@@ -4,7 +4,7 @@ use Rattle.pm_reader.specs.Views.{entry_seen}
 use Rattle.pm_asm.specs.Firsts.{places_in}
 use Rattle.pm_asm.proofs.faults.note_entries.Given as goal
 
--- The faults so far, followed by those of the remaining entries, are all faults.
+-- The faults up to here, followed by those of the remaining entries, are all faults.
 abbrev pub invariant-loop-entry : goal.invariant-loop-entry
 invariant-loop-entry l = record {
   noted : l.found.items ++ entries_faults (places_in l.code) (map entry_seen (drop l.entry-index l.entries))

@@ -6,7 +6,7 @@ use Rattle.pm_source.specs.Meaning.{found_label}
 use Rattle.pm_asm.specs.Firsts.{places_in}
 use Rattle.pm_asm.proofs.labels.resolve_labels.Given as goal
 
--- An unknown label can only be among the remaining labels. The offsets so far, followed by those of the remaining
+-- An unknown label can only be among the remaining labels. The offsets up to here, followed by those of the remaining
 -- labels, are all offsets.
 abbrev pub invariant-loop-name : goal.invariant-loop-name
 invariant-loop-name l = record {

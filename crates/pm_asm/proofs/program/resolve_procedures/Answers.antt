@@ -9,7 +9,7 @@ use Rattle.pm_source.specs.declared.fault.AsmFault.{AsmFault}
 use Rattle.pm_source.specs.Faults.{label_faults, label_faults_from}
 use Rattle.pm_asm.proofs.program.resolve_procedures.Goals as goal
 
--- The first fault of the first remaining procedure.
+-- If the procedure with index `i` has a fault, then its first fault is the first of the remaining faults.
 first_left : (fault : AsmFault) (at i : ℕ) (ps : List LabelledProcedure) (p : LabelledProcedure) (whole : List AsmFault)
     → i < length ps → p ≡ get_or ps i p → label_faults_from at (map labelled_procedure (drop i ps)) ≡ whole
     → first_of (label_faults at (labelled_procedure p)) ≡ Some fault → first_of whole ≡ Some fault

@@ -8,7 +8,7 @@ use Rattle.pm_asm.specs.Firsts.{places_in}
 use Rattle.pm_asm.specs.Found.{items_in}
 use Rattle.pm_asm.proofs.resolved.resolve_code.Given as goal
 
--- Only the remaining rows can have faults. The items so far, followed by the results of the remaining rows, are all
+-- Only the remaining rows can have faults. The items up to here, followed by the results of the remaining rows, are all
 -- items.
 abbrev pub invariant-loop-row : goal.invariant-loop-row
 invariant-loop-row l = record {

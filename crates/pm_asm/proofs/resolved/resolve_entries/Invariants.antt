@@ -5,8 +5,8 @@ use Rattle.pm_reader.specs.Views.{entry_seen}
 use Rattle.pm_asm.specs.Firsts.{places_in}
 use Rattle.pm_asm.proofs.resolved.resolve_entries.Given as goal
 
--- Only the remaining entries can have faults. The offsets so far, followed by those of the remaining entries, are all
--- offsets.
+-- Only the remaining entries can have faults. The offsets up to here, followed by those of the remaining entries, are
+-- all offsets.
 abbrev pub invariant-loop-entry : goal.invariant-loop-entry
 invariant-loop-entry l = record {
   faults : entries_faults (places_in l.code) (map entry_seen (drop l.entry-index l.entries)) ≡ entries_faults (places_in l.code) (map entry_seen l.entries);

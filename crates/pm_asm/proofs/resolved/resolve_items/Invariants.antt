@@ -6,8 +6,8 @@ use Rattle.pm_source.specs.Meaning.{found_item}
 use Rattle.pm_asm.specs.Firsts.{places_in}
 use Rattle.pm_asm.proofs.resolved.resolve_items.Given as goal
 
--- Only the remaining items can have faults. The items so far, followed by the results of the remaining ones, are all
--- items.
+-- Only the remaining items can have faults. The items up to here, followed by the results of the remaining items, are
+-- all items.
 abbrev pub invariant-loop-item : goal.invariant-loop-item
 invariant-loop-item l = record {
   faults : items_faults (places_in l.code) l.line l.at (map labelled_item (drop l.item-index l.items))

@@ -5,7 +5,7 @@ use Rattle.pm_asm.specs.SymbolViews.{symbols_seen}
 use Rattle.pm_asm.specs.Symbols.{label_symbol}
 use Rattle.pm_asm.proofs.symbols.push_labels.Given as goal
 
--- The labels so far, followed by those of the remaining rows, are all labels.
+-- The labels up to here, followed by those of the remaining rows, are all labels.
 abbrev pub invariant-loop-row : goal.invariant-loop-row
 invariant-loop-row l = record {
   found : symbols_seen l.found.items ++ map (label_symbol l.numbered.segment l.numbered.procedure l.numbered.code.start

@@ -4,7 +4,7 @@ use Rattle.pm_asm.specs.SymbolViews.{symbols_seen}
 use Rattle.pm_asm.specs.Symbols.{symbols_from}
 use Rattle.pm_asm.proofs.symbols.push_procedures.Given as goal
 
--- The symbols so far, followed by those of the remaining procedures, are all symbols.
+-- The symbols up to here, followed by those of the remaining procedures, are all symbols.
 abbrev pub invariant-loop-procedure : goal.invariant-loop-procedure
 invariant-loop-procedure l = record {
   number : l.number ≡ l.procedure-index + 1;

@@ -3,7 +3,7 @@ use Rattle.pm_code.specs.Image.{bytes_of_segment, joined_bytes, name_of_segment,
 use Rattle.pm_code.specs.Views.{program_seen}
 use Rattle.pm_code.proofs.image.code_file.Given as goal
 
--- the slots so far
+-- The names, the lengths and the joined bytes are those of the first `n` slots.
 abbrev pub invariant-loop-n : goal.invariant-loop-n
 invariant-loop-n l = record {
   names : take l.n l.names ≡ map name_of_segment (slots_of 0 l.n (program_seen l.program));

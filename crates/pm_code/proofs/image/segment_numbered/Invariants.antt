@@ -3,7 +3,7 @@ use Rattle.pm_code.specs.Program.{segment_numbered}
 use Rattle.pm_code.specs.Views.{program_seen}
 use Rattle.pm_code.proofs.image.segment_numbered.Given as goal
 
--- the segment is among the remaining ones, if it exists
+-- The search in the remaining segments gives the same result as the search in all segments.
 abbrev pub invariant-loop-segment : goal.invariant-loop-segment
 invariant-loop-segment l =
     segment_numbered l.number (program_seen (drop l.segment-index l.program)) ≡ segment_numbered l.number (program_seen l.program)

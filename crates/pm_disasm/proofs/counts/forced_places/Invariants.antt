@@ -3,8 +3,8 @@ use Rattle.pm_disasm.specs.Chosen.{are_inside, forced_with}
 use Rattle.pm_disasm.specs.Split.{entry_places}
 use Rattle.pm_disasm.proofs.counts.forced_places.Given as goal
 
--- The targets so far, followed by those of the remaining entries, are all targets. All targets are inside the code if
--- the remaining ones are.
+-- The targets up to here, followed by those of the remaining entries, are all targets. If the remaining targets are
+-- inside the code, then all targets are.
 abbrev pub invariant-loop-entry : goal.invariant-loop-entry
 invariant-loop-entry l = record {
   taken : l.forced.items ++ entry_places l.segment l.a.jtab l.entry (l.count - l.entry) ≡ forced_with l.segment l.a l.count;

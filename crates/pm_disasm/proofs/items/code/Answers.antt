@@ -16,7 +16,7 @@ abbrev made : ℕ → ℕ → ℕ → ℕ → List (Item ℕ) → ℕ → List �
 made level parameters locals start items exit entries =
     record { level = level; parameters = parameters; locals = locals; start = start; items = items; exit = exit; entries = entries }
 
--- Two procedures with equal fields are equal.
+-- If the fields of two procedures are equal, then the procedures are equal.
 same_parts : (l m pa lo s b x y : ℕ) (is js : List (Item ℕ)) (es fs : List ℕ) → l ≡ m → s ≡ b → is ≡ js → x ≡ y → es ≡ fs
     → made l pa lo s is x es ≡ made m pa lo b js y fs
 same_parts l m pa lo s b x y is js es fs level start items exit entries =

@@ -5,7 +5,7 @@ use Rattle.pm_code.specs.Shown.{joined}
 use Rattle.pm_disasm.specs.Views.{has}
 use Rattle.pm_disasm.proofs.lines.push_bytes.Given as goal
 
--- The text so far, followed by the lines of the remaining bytes, is the whole text.
+-- The written text, followed by the lines of the remaining bytes, is the whole text.
 abbrev pub invariant-loop-byte : goal.invariant-loop-byte
 invariant-loop-byte l = record {
   place : l.place ≡ l.at + l.byte-index;

@@ -4,7 +4,7 @@ use Rattle.pm_code.specs.Shown.{joined}
 use Rattle.pm_disasm.specs.Views.{has, part_seen}
 use Rattle.pm_disasm.proofs.lines.push_code.Given as goal
 
--- The remaining parts follow the parts so far. The text so far, followed by their lines, is the whole text.
+-- The remaining parts follow the parts up to here. The written text, followed by their lines, is the whole text.
 abbrev pub invariant-loop-part : goal.invariant-loop-part
 invariant-loop-part l =
     (at : ℕ) × Follow at l.end (map part_seen (drop l.part-index l.parts))

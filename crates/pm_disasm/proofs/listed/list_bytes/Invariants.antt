@@ -5,7 +5,7 @@ use Rattle.pm_disasm.specs.Follow.{Items}
 use Rattle.pm_disasm.specs.Listing.{stored_items}
 use Rattle.pm_disasm.proofs.listed.list_bytes.Given as goal
 
--- The text so far, followed by the lines of the remaining bytes, is the whole text.
+-- The written text, followed by the lines of the remaining bytes, is the whole text.
 abbrev pub invariant-loop-byte : goal.invariant-loop-byte
 invariant-loop-byte l = record {
   place : l.place ≡ l.at + l.byte-index;

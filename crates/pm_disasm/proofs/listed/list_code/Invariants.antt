@@ -5,7 +5,7 @@ use Rattle.pm_disasm.specs.Listing.{stored_items}
 use Rattle.pm_disasm.specs.Views.{has, part_seen}
 use Rattle.pm_disasm.proofs.listed.list_code.Given as goal
 
--- The remaining parts follow the parts so far. The text so far, followed by their lines, is the whole text.
+-- The remaining parts follow the parts up to here. The written text, followed by their lines, is the whole text.
 abbrev pub invariant-loop-part : goal.invariant-loop-part
 invariant-loop-part l =
     (at : ℕ) × Follow at l.end (map part_seen (drop l.part-index l.code.parts.items))

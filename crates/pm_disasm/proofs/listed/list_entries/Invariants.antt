@@ -3,7 +3,7 @@ use Rattle.pm_code.specs.Image.{listed_lines}
 use Rattle.pm_disasm.specs.Listing.{stored_entries}
 use Rattle.pm_disasm.proofs.listed.list_entries.Given as goal
 
--- The text so far, followed by the lines of the remaining entries, is the whole text.
+-- The written text, followed by the lines of the remaining entries, is the whole text.
 abbrev pub invariant-loop-done : goal.invariant-loop-done
 invariant-loop-done l = record {
   written : string_bytes l.text ++ listed_lines l.from.slot

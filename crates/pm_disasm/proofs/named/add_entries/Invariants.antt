@@ -5,7 +5,7 @@ use Rattle.pm_code.specs.Program.{is_among}
 use Rattle.pm_disasm.specs.Views.{IsAlike, IsInside, has}
 use Rattle.pm_disasm.proofs.named.add_entries.Given as goal
 
--- The offsets so far, and those of the remaining entries, are all offsets.
+-- The offsets up to here, and those of the remaining entries, are all offsets.
 abbrev pub invariant-loop-entry : goal.invariant-loop-entry
 invariant-loop-entry l = record {
   alike : IsAlike l.named l.fn.named;

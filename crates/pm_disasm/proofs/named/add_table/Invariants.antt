@@ -7,7 +7,7 @@ use Rattle.pm_disasm.specs.Split.{table_places}
 use Rattle.pm_disasm.specs.Views.{IsAlike, has}
 use Rattle.pm_disasm.proofs.named.add_table.Given as goal
 
--- The offsets so far, and the remaining targets, are all offsets. The remaining targets are boundaries.
+-- The offsets up to here, and the remaining targets, are all offsets. The remaining targets are boundaries.
 abbrev pub invariant-loop-k : goal.invariant-loop-k
 invariant-loop-k l = record {
   alike : IsAlike l.named l.boundaries;

@@ -6,7 +6,7 @@ use Rattle.pm_code.specs.Shown.{named_places}
 use Rattle.pm_disasm.specs.Views.{IsAlike, has, part_seen}
 use Rattle.pm_disasm.proofs.named.places_named.Given as goal
 
--- The offsets so far, and those of the remaining parts, are all offsets.
+-- The offsets up to here, and those of the remaining parts, are all offsets.
 abbrev pub invariant-loop-part : goal.invariant-loop-part
 invariant-loop-part l = record {
   alike : IsAlike l.named l.boundaries;

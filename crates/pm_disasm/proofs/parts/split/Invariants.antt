@@ -6,7 +6,7 @@ use Rattle.pm_disasm.specs.Split.{ends_of, parts}
 use Rattle.pm_disasm.specs.Views.{has, part_seen}
 use Rattle.pm_disasm.proofs.parts.split.Given as goal
 
--- The parts so far, followed by those of the remaining bytes, are all parts. The same holds for the boundaries.
+-- The parts up to here, followed by those of the remaining bytes, are all parts. The same holds for the boundaries.
 abbrev pub invariant-parts : goal.invariant-parts
 invariant-parts l = record {
   inside : l.at ≤ length l.bytes;

@@ -2,7 +2,7 @@ use Rattle.std.proofs.Common.{◌≡◌, ◌++◌, drop, map, string_bytes, if�
 use Rattle.pm_code.specs.Program.{is_name_character}
 use Rattle.pm_disasm.proofs.segments.push_marked.Given as goal
 
--- The text so far, followed by that of the remaining bytes, is the whole text.
+-- The written text, followed by that of the remaining bytes, is the whole text.
 abbrev pub invariant-loop-byte : goal.invariant-loop-byte
 invariant-loop-byte l =
     string_bytes l.text ++ map (λ c. if is_name_character c then c else 63) (drop l.byte-index l.name)

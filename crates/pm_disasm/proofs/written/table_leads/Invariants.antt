@@ -5,7 +5,7 @@ use Rattle.pm_disasm.specs.Split.{table_places}
 use Rattle.pm_disasm.specs.Views.{has}
 use Rattle.pm_disasm.proofs.written.table_leads.Given as goal
 
--- All targets are boundaries if the remaining ones are.
+-- If all remaining targets are boundaries, then all targets are boundaries.
 abbrev pub invariant-loop-k : goal.invariant-loop-k
 invariant-loop-k l =
     list_all (has l.boundaries) (table_places (l.at + 2 * l.k) (words_of (drop (2 * l.k) l.words)))

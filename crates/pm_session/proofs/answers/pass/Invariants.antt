@@ -3,7 +3,7 @@ use Rattle.pm_debug.specs.Passes.{all_passed}
 use Rattle.pm_session.specs.Answers.{ran_to}
 use Rattle.pm_session.proofs.answers.pass.Given as goal
 
--- The outcome of the run after some passes is the outcome from the beginning.
+-- If the run that has passed over some breakpoints continues, then its outcome is that of the run from the beginning.
 abbrev pub invariant-passes : goal.invariant-passes
 invariant-passes l = record {
   passed : all_passed l.fn.debugger.breaks l.most l.fn.debugger.passes l.fn.debugger.left

@@ -2,7 +2,7 @@ use Rattle.std.proofs.Common.{◌≡◌, ◌≤◌, length}
 use Rattle.pm_session.specs.Commands.{decimal_number, number_behind}
 use Rattle.pm_session.proofs.commands.decimal.Given as goal
 
--- The number of the rest after the digits so far is the number of the word.
+-- If the remaining digits follow `value`, then the number is that of the whole word.
 abbrev pub invariant-digits : goal.invariant-digits
 invariant-digits l = record {
   rest : decimal_number l.word ≡ number_behind l.value l.rest;

@@ -2,7 +2,7 @@ use Rattle.std.proofs.Common.{◌≡◌, ◌≤◌, length, reverse, take}
 use Rattle.pm_disasm.specs.Shown.{cut}
 use Rattle.pm_session.proofs.typed.between_spaces.Given as goal
 
--- The bytes that are cut off are spaces.
+-- The bytes after `end` are spaces.
 abbrev pub invariant-spaces : goal.invariant-spaces
 invariant-spaces l = record {
   within : l.end ≤ length l.rest;

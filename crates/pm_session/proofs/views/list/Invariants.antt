@@ -3,7 +3,7 @@ use Rattle.pm_session.specs.Texts.{more_parts}
 use Rattle.pm_session.specs.Views.{ahead_text, list_text}
 use Rattle.pm_session.proofs.views.list.Given as goal
 
--- The instructions so far and the others are the whole text.
+-- The written text, followed by the text of the remaining instructions, is the whole text.
 abbrev pub invariant-loop-address : goal.invariant-loop-address
 invariant-loop-address l =
     record {

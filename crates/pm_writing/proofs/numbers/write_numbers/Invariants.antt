@@ -4,7 +4,7 @@ use Rattle.pm_writing.specs.Pieces.{pieces, table_piece}
 use Rattle.pm_writing.proofs.Writing.{Rest}
 use Rattle.pm_writing.proofs.numbers.write_numbers.Given as goal
 
--- The procedure numbers that are left are still to be written, and the cached piece is that of its table.
+-- The pieces of the remaining procedure numbers remain to be written. The cached piece is that of the cached table.
 abbrev pub invariant-loop-done : goal.invariant-loop-done
 invariant-loop-done g l = record {
   rest : Rest (g.W.Sink.seen l.fn.sink) (g.W.Sink.seen l.sink)

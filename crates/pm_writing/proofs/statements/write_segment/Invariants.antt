@@ -5,7 +5,7 @@ use Rattle.pm_statements.specs.Files.{tables_text}
 use Rattle.pm_writing.proofs.Writing.{Rest}
 use Rattle.pm_writing.proofs.statements.write_segment.Given as goal
 
--- The procedures that are left are still to be written. If a segment is decoded, it is this one.
+-- The statements of the remaining procedures remain to be written. If a segment is decoded, it is this segment.
 abbrev pub invariant-loop-done : goal.invariant-loop-done
 invariant-loop-done g l = record {
   rest : Rest (g.W.Sink.seen l.fn.sink) (g.W.Sink.seen l.sink)

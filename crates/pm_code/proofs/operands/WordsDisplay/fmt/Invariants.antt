@@ -5,7 +5,7 @@ use Rattle.pm_code.specs.Text.{operands_text}
 use Rattle.pm_code.proofs.Words.{rest_text}
 use Rattle.pm_code.proofs.operands.WordsDisplay.fmt.Given as goal
 
--- the text so far, followed by the remaining words, is the whole
+-- The written text, followed by the text of the remaining words, is the whole text.
 abbrev pub invariant-loop-k : goal.invariant-loop-k
 invariant-loop-k g l =
     IsPlainFormatter l.initial.f → (done : List ℕ) × (HasWritten g.W.Write.write_str_gives l.initial.f done l.f)

@@ -4,7 +4,7 @@ use Rattle.pm_code.specs.Shown.{label_text}
 use Rattle.pm_code.specs.Text.{more_operands}
 use Rattle.pm_code.proofs.shown.PlacesDisplay.fmt.Given as goal
 
--- the text so far, followed by the remaining labels, is the whole
+-- The written text, followed by the text of the remaining labels, is the whole text.
 abbrev pub invariant-loop-place : goal.invariant-loop-place
 invariant-loop-place g l =
     IsPlainFormatter l.initial.f → (done : List ℕ) × (HasWritten g.W.Write.write_str_gives l.initial.f done l.f)

@@ -4,7 +4,7 @@ use Rattle.std.specs.Fmt.{HasWritten, IsPlainFormatter}
 use Rattle.pm_phrases.specs.Literals.{apostrophed}
 use Rattle.pm_phrases.proofs.literals.ApostrophesDisplay.fmt.Given as goal
 
--- The apostrophe and the bytes written so far.
+-- The written text is the opening apostrophe and the text of the bytes up to here.
 abbrev pub invariant-loop-byte : goal.invariant-loop-byte
 invariant-loop-byte g l =
     IsPlainFormatter l.fn.f → HasWritten g.W.Write.write_str_gives l.fn.f (39 ∷ flat_map apostrophed (take l.byte-index l.bytes)) l.f

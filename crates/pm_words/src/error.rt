@@ -5,7 +5,7 @@ ghost use Rattle.pm_words.specs.Errors.{number_of};
 
 use thiserror::Error;
 
-/// An execution error. It stops the machine in the state before the instruction.
+/// An execution error. It halts the machine in the state before the instruction.
 ///
 /// The numbers 0, 5, 8, 12 and 15 of the p-System (system error, integer overflow, user break, floating point, bad
 /// block) do not occur.

@@ -115,7 +115,7 @@ IsScanInMemory a (pos n) = a + n ≤ 65536
 IsScanInMemory a (negsuc m) = m ≤ a
 
 -- The result of a scan from address `a`: the number of bytes before the first byte that stops the scan. If the limit is
--- negative, the scan goes downward, and its result is zero or negative.
+-- negative, the scan reads downward, and its result is zero or negative.
 unfoldable pub scanned : List ℕ → ℕ → ℤ → ℕ → Bool → ℤ
 scanned ws a (pos n) b equal = pos (passed (bytes_at ws a n) b equal)
 scanned ws a (negsuc m) b equal = pos 0 -ℤ pos (passed (reverse (bytes_at ws (a - m) (m + 1))) b equal)

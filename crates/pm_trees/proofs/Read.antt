@@ -1,4 +1,4 @@
--- Blocks are read back to their statements.
+-- The lines of blocks are read back to their statements.
 use Rattle.std.proofs.Common.{◌≡◌, ℕ, Bool, true, false, not, List, [], ◌∷◌, ◌++◌, Some, append_assoc, arith, map, refl, sym, ap, ◌∙◌}
 use Rattle.std.specs.Prelude.{◌==◌, ◌&&◌, nat_le, nat_lt, if◌then◌else◌, option_map}
 use Rattle.std.proofs.lemmas.Bool.{and_parts}
@@ -32,8 +32,8 @@ bracket (kind.Case place) = ACase
 abbrev kinds : List Block → List Bracket
 kinds bs = map (λ (b : Block). bracket b.kind) bs
 
--- The ends that an open block adds. A choice and a WHILE add their end. A CASE also adds the beginning of its last
--- statement. A REPEAT adds none.
+-- The list of ends after the ends of one open block are put before it. An IF, ELSE or WHILE block has its end. A CASE
+-- has the beginning of its last statement, and its end. A REPEAT loop has none.
 abbrev with_end : Kind → ℕ → List ℕ → List ℕ
 with_end kind.If end ends = end ∷ ends
 with_end kind.Else end ends = end ∷ ends
@@ -45,7 +45,7 @@ abbrev ends_of : List Block → List ℕ
 ends_of [] = []
 ends_of (b ∷ bs) = with_end b.kind b.end (ends_of bs)
 
--- Lines that are read inside these blocks describe these statements and the ends of the blocks.
+-- States that reading the lines `ls` inside the open blocks `bs` returns the statements `ss` and the ends of `bs`.
 abbrev Says : List Line → List Block → List Statement → Type 0
 Says ls bs ss = read ls (kinds bs) ≡ Some (record { statements = ss; ends = ends_of bs })
 
@@ -293,7 +293,7 @@ lines_read limit all bs (s ∷ ss) e =
     (word_read limit here s.at s.behind s.leads (open_around limit here s bs) rest ss
     (lines_read limit all next ss parts.1)))
 
--- If each block ends at the target of its jump, the lines describe the statements.
+-- If each block ends at the target of its jump, then reading the lines returns the statements.
 pub read_back : (ss : List Statement) → all_end (code_end ss) ss [] ss ≡ true
     → expanded (lines_from (code_end ss) ss [] ss) ≡ Some ss
 unfolding expanded

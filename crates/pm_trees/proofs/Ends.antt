@@ -33,8 +33,8 @@ leaves_dropped zero l = refl
 leaves_dropped (suc k) [] = refl
 leaves_dropped (suc k) (s ∷ ss) = leaves_dropped k ss
 
--- If the list `l` has at least `k` items, then `l` without its last `k` items, reversed, is the reverse of `l` without
--- its first `k` items.
+-- If the list `l` has at least `k` items, then dropping the first `k` items of the reverse of `l` is the reverse of `l`
+-- without its last `k` items.
 without_few : {A : Type 0} → (k : ℕ) (l : List A) → k ≤ length l → reverse (take (length l - k) l) ≡ drop k (reverse l)
 without_few k l low =
     let i : ℕ = length l - k in

@@ -176,7 +176,7 @@ parts k used exit at [] = []
 parts k used exit at (item ∷ items) =
     part_of k item (place_at used exit at) ∷ parts k used exit (at + size at item) items
 
--- The offsets with a label in the procedure `p`: the targets of its jumps, and its jump entries.
+-- The offsets with a label in the procedure `p`: the targets of its jumps, and of the entries of its jump table.
 abbrev pub labelled_places : Procedure → List ℕ
 labelled_places p = named_places p.items ++ p.entries
 

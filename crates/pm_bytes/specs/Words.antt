@@ -1,4 +1,4 @@
--- Words (16 bits) and bytes in a list of bytes.
+-- Words (16 bits) and bytes in a list of bytes. Offsets are counted from 0.
 use Rattle.byteorder.specs.Endian.{little_bytes}
 use Rattle.std.specs.Prelude.{ℕ, ◌+◌, ◌*◌, ◌++◌, List, drop, length, replicate, slice_index, take}
 

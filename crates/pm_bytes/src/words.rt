@@ -1,4 +1,4 @@
-//! Words (16 bits) and bytes in a slice of bytes.
+//! Functions that read and write words (16 bits) and bytes in a slice of bytes.
 
 ghost use Rattle.std.specs.Prelude.{◌≡◌, ◌+◌, ◌≤◌, length, replicate};
 ghost use Rattle.byteorder.specs.Endian.{little_bytes};

@@ -29,9 +29,9 @@ less_or_none a b = if nat_le b a then Some (a - b) else None
 abbrev pub procedures_in : List ℕ → ℕ
 procedures_in segment = slice_index segment (length segment - 1)
 
--- The attribute table of procedure `p` of a segment. It is `None` unless `p` is one of the procedures, the table (from
--- j - 8 to j + 1) is inside the segment at an even offset, and the offsets of the first instruction and of the exit
--- code are at most j - 8.
+-- The attribute table of procedure `p` of a segment, or `None`. `p` must be one of the procedures. The table, from j -
+-- 8 to j + 1, must be inside the segment at an even offset. The offsets of the first instruction and of the exit code
+-- must be from 0 to j - 8.
 unfoldable pub attributes_in : List ℕ → ℕ → Option Attributes
 attributes_in segment p = do
   _ ← demanded (nat_le 1 p && nat_le p (procedures_in segment))

@@ -142,8 +142,8 @@ fn of_jump(what: Jump) -> Effect
 /// Returns the stack effect of the standard procedure `number`. Returns `None` if this machine has no such procedure
 /// (error 11).
 ///
-/// `EXIT` (4) and the procedures that load and unload a segment (21, 22) can change other parts of the stack. Their
-/// effect is what they pop from the caller's stack.
+/// For `EXIT` (4), and for the procedures that load and unload a segment (21, 22), the effect is what they pop from the
+/// caller's stack.
 pub fn standard_effect(number: u8) -> Option<Effect>
     ensures value { result ≡ effects.standard_effect number }
 {

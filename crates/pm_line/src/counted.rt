@@ -25,7 +25,7 @@ pub(crate) fn pair<'a>(texts: &[&'a [u8]]) -> Option<(&'a [u8], &'a [u8])>
     }
 }
 
-/// Four operands.
+/// A list of exactly four operands, as a tuple.
 type Four<'a> = (&'a [u8], &'a [u8], &'a [u8], &'a [u8]);
 
 /// Returns the operands if `texts` has exactly four. Otherwise returns `None`.

@@ -14,18 +14,18 @@ pub enum Row<'a> {
     One {
         /// The number of the line.
         line: usize,
-        /// The label before the item.
+        /// The label before the item, or `None`.
         label: Option<&'a [u8]>,
-        /// The item.
+        /// The item of the line.
         item: Item<&'a [u8]>,
     },
-    /// A label, items, or both.
+    /// A label, a list of items, or both.
     Items {
         /// The number of the line.
         line: usize,
-        /// The label before the items.
+        /// The label before the items, or `None`.
         label: Option<&'a [u8]>,
-        /// The items, in order.
+        /// The items of the line, in order.
         items: Vec<Item<&'a [u8]>>,
     },
     /// The directive `.EXIT`. The exit code begins at this position.
@@ -72,7 +72,7 @@ pub enum Statement<'a> {
     Entry {
         /// The number of the line.
         line: usize,
-        /// The label to which the entry refers.
+        /// The label to which the entry leads.
         label: &'a [u8],
     },
     /// The end of a procedure (`.END`).

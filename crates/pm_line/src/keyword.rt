@@ -11,17 +11,17 @@ use pm_opcode::row_at;
 /// The kind of the keyword of a line.
 #[derive(Clone, Copy)]
 pub enum Keyword {
-    /// `.SEG`.
+    /// `.SEG`, which begins a segment.
     Segment,
-    /// `.PROC`.
+    /// `.PROC`, which begins a procedure.
     Procedure,
-    /// `.EXIT`.
+    /// `.EXIT`, which marks the beginning of the exit code.
     Exit,
-    /// `.JUMP`.
+    /// `.JUMP`, which defines an entry of the jump table.
     Jump,
-    /// `.END`.
+    /// `.END`, which ends a procedure.
     End,
-    /// `.BYTE`.
+    /// `.BYTE`, which writes bytes.
     Bytes,
     /// A mnemonic, represented by the first opcode that has this mnemonic.
     Mnemonic(u8),

@@ -27,7 +27,7 @@ has_set ends place p end low = by (place == p) refl
         ap (λ (q : ℕ). written (set ends place end) q) same ∙ get_or-set_same ends place end 0 low
     by false e = get_or-set_other ends place p end 0 (λ q. absurd (grind (arith, nat_tests, e, q)))
 
--- If `new` is the list of ends `old` after the statement `s` is recorded, then recording the remaining statements in
+-- Let `new` be the list of ends `old` after the statement `s` is recorded. Then recording the remaining statements in
 -- `new` has the same result as recording `s` and the remaining statements in `old`.
 pub ends_step : (w : Way) (p : ℕ) (s : Statement) (ss now : List Statement) (old new : List ℕ) (back : Option ℕ) (end : ℕ) → now ≡ s ∷ ss
     → back ≡ back_place w s.leads s.at → written new p ≡ later_end p (written old p) back s.behind

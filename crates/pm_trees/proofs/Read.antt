@@ -49,7 +49,7 @@ ends_of (b ∷ bs) = with_end b.kind b.end (ends_of bs)
 abbrev Says : List Line → List Block → List Statement → Type 0
 Says ls bs ss = read ls (kinds bs) ≡ Some (record { statements = ss; ends = ends_of bs })
 
--- ---- ends of blocks
+-- ---- END lines are read back
 
 one_end : (at end : ℕ) (k : Kind) (bs : List Block) (ls : List Line) (ss : List Statement) → (not (closes_itself k) && end == at) ≡ true
     → Says ls bs ss → read (end_line at k ++ ls) (bracket k ∷ kinds bs) ≡ Some (record { statements = ss; ends = with_end k end (ends_of bs) })
@@ -80,7 +80,7 @@ ends_read at (b ∷ bs) ls ss e h = by (nat_le b.end at) (ends_read at bs ls ss)
         ∙ one_end at b.end b.kind bs (end_lines at bs ++ ls) ss parts.0 (more parts.1 g)
     by false more f g = g
 
--- ---- the beginning of a loop
+-- ---- the line of a REPEAT loop is read back
 
 repeat_read : (limit at end : ℕ) (bs : List Block) (ls : List Line) (ss : List Statement)
     → Says ls (with_repeat limit at end bs) ss → Says (repeat_lines limit at end bs ++ ls) bs ss
@@ -91,7 +91,7 @@ repeat_read limit at end bs ls ss h = by (begins_loop limit at end bs) h
     by true g = g
     by false g = g
 
--- ---- a statement followed by other lines
+-- ---- the line of a statement, followed by other lines, is read back
 
 until_kind : (at behind place end : ℕ) (k : Kind) (bs : List Block) (ls : List Line) (ss : List Statement)
     → (is_repeat_from place k && end == behind) ≡ true → Says ls bs ss
@@ -265,7 +265,7 @@ word_read limit here at behind (leads.ByCondition place) bs ls ss h =
 word_read limit here at behind (leads.Always place) bs ls ss h = always_read here.by_value limit at behind place bs ls ss h
 word_read limit here at behind leads.ByValue bs ls ss h = value_read here.by_value at behind bs ls ss h
 
--- ---- all lines
+-- ---- all lines are read back
 
 none_left : (bs : List Block) → is_empty bs ≡ true → Says [] bs []
 none_left [] e = refl

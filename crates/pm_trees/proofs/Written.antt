@@ -118,7 +118,7 @@ text_grows a ps =
     let g : Growing = record { done = Bare; pending = Bare } in
     ap (λ t. (closed_texts t).done) (all_as a ps g) ∙ ap (λ t. t.done) (closed_as a (grown_all ps g))
 
--- ---- one pile whose last trees are pending
+-- ---- trees as one pile, whose last trees are pending
 
 abbrev beside : List Left → List Shown → Pile
 beside l s = record { lefts = l; phrases = s }
@@ -176,7 +176,7 @@ added_in a p n m c k t e f low =
     ∙ ap (λ (i : ℕ). added_with a p m (rest_of k t) (last_of i (last_of k t)) (rest_of i (last_of k t))) e
     ∙ ap (λ (w : Missing). added_with a p w (rest_of k t) (last_of c.trees (last_of k t)) (rest_of c.trees (last_of k t))) f
 
--- ---- a step of the loop
+-- ---- one step of the loop over the parts
 
 pub added_none : (a : Around) (i : ℕ) (ps : List Part) (t : Texts) → length ps ≤ i → added_all a (drop i ps) t ≡ t
 unfolding added_all

@@ -11,15 +11,15 @@ use pm_families::Condition;
 /// The role of the operation of a tree. The statement view uses the role to choose the text and the layout.
 #[derive(Clone, Copy, Drop)]
 pub enum Role {
-    /// A procedure call.
+    /// A call of a procedure or of a standard procedure.
     Call,
-    /// The I/O check.
+    /// The I/O check (`CSP 0`).
     Check,
     /// A jump, with its condition and its target.
     Jump(Condition, Target<usize>),
-    /// A case jump.
+    /// A case jump (`XJP`).
     Case,
-    /// Any other operation.
+    /// Any other operation, which is neither a call nor a jump.
     Other,
 }
 

@@ -26,8 +26,7 @@ pub record Held : Type 0 where
   pub devices : Devices
   pub room : Room
 
--- Whether the bytes by which the console and the printer of `new` are longer than those of `old` fit into the spare
--- capacity `r`.
+-- Whether the bytes that `new` has more than `old`, on the console and on the printer, fit into the spare capacity `r`.
 abbrev pub has_room : Room → Devices → Devices → Bool
 has_room r old new =
     nat_le (length new.console) (length old.console + r.console)

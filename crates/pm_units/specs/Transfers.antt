@@ -26,7 +26,7 @@ pub record Moved : Type 0 where
 abbrev pub idle : ℕ → List ℕ → Devices → Moved
 idle code m d = record { memory = m; devices = d; ioresult = code }
 
--- ---- reading
+-- ---- reading from a unit into memory
 
 -- The result of reading from the input queue. The first bytes of the queue are removed, and written to the console if
 -- `echo` is true. If the queue has fewer bytes than the transfer reads, the program waits, and no byte is removed.
@@ -62,7 +62,7 @@ unit_read Console t m d = from_queue true t m d
 unit_read Terminal t m d = from_queue false t m d
 unit_read (Disk k) t m d = Ok (from_disk (image_at d k) t m d)
 
--- ---- writing
+-- ---- writing from memory to a unit
 
 -- The bytes of the memory `m` that the transfer `t` reads or writes.
 abbrev pub named_bytes : List ℕ → Transfer → List ℕ

@@ -5,18 +5,18 @@ ghost use Rattle.pm_units.specs.Devices.{HasPlace, known, mount_number, unit_of}
 
 use thiserror::Error;
 
-/// The unit that a unit number selects.
+/// The unit that a unit number selects, such as the console or a disk unit.
 #[derive(Clone, Copy)]
 pub enum Port {
     /// The console with echo: each byte that is read from it is also written to it.
     Console,
-    /// The console without echo.
+    /// The terminal: the console without echo.
     Terminal,
     /// A unit that this machine does not have, such as unit 3.
     Absent,
     /// The printer.
     Printer,
-    /// A disk unit, by its index from 0 to 5.
+    /// A disk unit. The field is its index, 0 to 5.
     Disk(u8),
     /// The number selects no unit.
     Unknown,
@@ -34,7 +34,7 @@ pub enum MountFault {
 }
 
 impl MountFault {
-    /// The number of the fault, as the program prints it.
+    /// Returns the number of the fault, as the program prints it.
     pub fn number(self) -> u8
         ensures value { result ≡ mount_number self }
     {

@@ -17,7 +17,7 @@ use std::alloc::AllocError;
 pub struct Transfer {
     /// The address of the first byte in memory.
     pub address: u16,
-    /// The number of bytes.
+    /// The number of bytes that are transferred.
     pub count: u16,
     /// The number of the first block on the disk, as a signed word. Only a disk unit uses this field.
     pub block: u16,

@@ -13,8 +13,8 @@ use std::marker::Model;
 /// The size of a block in bytes.
 pub(crate) const BLOCK: usize = 512;
 
-/// The devices of the machine: the images on the disk units 4, 5, 9, 10, 11 and 12, the input queue of the console, the
-/// bytes that were written to the console and to the printer, and the clock.
+/// The devices of the machine, and the clock. The devices are the images on the disk units 4, 5, 9, 10, 11 and 12, the
+/// input queue of the console, and the bytes that were written to the console and to the printer.
 ///
 /// Unit 1 is the console with echo, unit 2 is the console without echo, and unit 6 is the printer. Units 3, 7 and 8 do
 /// not exist in this machine. Other numbers select no unit.

@@ -153,8 +153,8 @@ copied-none ws from to =
     let e : to + 0 ≡ to = omega arith in
     rw (append-nil, e, take-append-drop to (bytes_of ws)) (words_of-bytes_of ws)
 
--- If the target does not overlap bytes that are still to be read, then copying the first byte and then the other `n`
--- bytes has the same result as copying all at once.
+-- Let a copy, the lowest address first, read no byte that it has written. Then copying the first byte and then the
+-- other `n` bytes has the same result as copying all at once.
 copied-first : (ws : List ℕ) (from to n : ℕ) → IsMemory ws → from + suc n ≤ 65536 → to + suc n ≤ 65536 → (to ≤ from) ⊎ (from + suc n ≤ to)
     → copied (with_byte ws to (byte_at ws from)) (suc from) (suc to) n ≡ copied ws from to (suc n)
 copied-first ws from to n h source room apart =
@@ -184,8 +184,8 @@ copied-first ws from to n h source room apart =
     (cases_lt x (to + suc n)))
     (cases_lt x to))
 
--- If the target is not above the source, or the ranges do not overlap, then a copy one by one, the lowest address
--- first, has the same result as a copy at once.
+-- Let the target be at or below the source, or let the two ranges not overlap. Then a copy one by one, the lowest
+-- address first, has the same result as a copy of all bytes at once.
 pub moved_up-copied : (n : ℕ) (ws : List ℕ) (from to : ℕ) → IsMemory ws → from + n ≤ 65536 → to + n ≤ 65536 → (to ≤ from) ⊎ (from + n ≤ to)
     → moved_up ws from to n ≡ copied ws from to n
 unfolding moved_up
@@ -196,8 +196,8 @@ moved_up-copied (suc n) ws from to h source room apart =
     (omega arith) (⊎_elim (λ l. inl (omega arith)) (λ r. inr (omega arith)) apart)
     ∙ copied-first ws from to n h source room apart
 
--- If the target does not overlap bytes that are still to be read, then copying the last byte and then the other `n`
--- bytes has the same result as copying all at once.
+-- Let a copy, the highest address first, read no byte that it has written. Then copying the last byte and then the
+-- other `n` bytes has the same result as copying all at once.
 copied-last : (ws : List ℕ) (from to n : ℕ) → IsMemory ws → from + suc n ≤ 65536 → to + suc n ≤ 65536 → (from ≤ to) ⊎ (to + suc n ≤ from)
     → copied (with_byte ws (to + n) (byte_at ws (from + n))) from to n ≡ copied ws from to (suc n)
 copied-last ws from to n h source room apart =
@@ -227,8 +227,8 @@ copied-last ws from to n h source room apart =
     (cases_lt x (to + suc n)))
     (cases_lt x to))
 
--- If the target is not below the source, or the ranges do not overlap, then a copy one by one, the highest address
--- first, has the same result as a copy at once.
+-- Let the target be at or above the source, or let the two ranges not overlap. Then a copy one by one, the highest
+-- address first, has the same result as a copy of all bytes at once.
 pub moved_down-copied : (n : ℕ) (ws : List ℕ) (from to : ℕ) → IsMemory ws → from + n ≤ 65536 → to + n ≤ 65536 → (from ≤ to) ⊎ (to + n ≤ from)
     → moved_down ws from to n ≡ copied ws from to n
 unfolding moved_down

@@ -23,7 +23,7 @@ unfoldable pub bytes_of : List ℕ → List ℕ
 bytes_of [] = []
 bytes_of (w ∷ ws) = (w % 256) ∷ (w / 256) ∷ bytes_of ws
 
--- The words of a list of bytes, the low byte of each word first.
+-- The words that consist of a list of bytes, the low byte of each word first. A single last byte is ignored.
 unfoldable pub words_of : List ℕ → List ℕ
 words_of [] = []
 words_of (low ∷ []) = []
@@ -34,7 +34,7 @@ pub record IsMemory (ws : List ℕ) : Type 0 where
   pub size : length ws ≡ 32768
   pub fits : All (λ w. w < 65536) ws
 
--- The word at the even address `a`.
+-- The word of the memory `ws` at the even address `a`.
 unfoldable pub word_at : List ℕ → ℕ → ℕ
 word_at ws a = slice_index ws (a / 2)
 

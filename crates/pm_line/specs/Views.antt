@@ -142,7 +142,7 @@ abbrev pub begins_solid : List ℕ → Bool
 begins_solid [] = false
 begins_solid (c ∷ cs) = not (is_blank c)
 
--- The number of steps that remain until the text is divided into pieces. It decreases with each piece.
+-- A number that decreases with each piece that is read: 0 if no text remains, otherwise 1 plus the length of the text.
 abbrev pub left : Option (List ℕ) → ℕ
 left None = 0
 left (Some rest) = 1 + length rest

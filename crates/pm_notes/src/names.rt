@@ -73,7 +73,7 @@ pub fn system_name(number: u8) -> Option<&'static str>
     }
 }
 
-/// Returns the number that `digits`, one or two decimal digits, write. Otherwise returns `None`.
+/// Returns the number that `digits` writes in one or two decimal digits. Returns `None` for any other bytes.
 pub(crate) fn number_in(digits: &[u8]) -> Option<u8>
     ensures number { result ≡ number_in digits.now }
 {

@@ -2,6 +2,7 @@
 -- - the pops, the top word first (error 7 if the stack has too few words);
 -- - the checks of the rule itself;
 -- - the push (error 4 if SP would be below NP).
+-- A line such as `.., a, b -> .., c` shows the stack before and after the instruction, with the top at the right.
 use Rattle.std.specs.Prelude.{ℕ, ◌&&◌, int_le}
 use Rattle.pm_words.specs.declared.error.ExecError.TheVariants.{InvalidIndex}
 use Rattle.pm_words.specs.Stack.{◌>>=◌, StackRow, demand, pop, push}

@@ -1,4 +1,5 @@
--- The rules of the jump instructions. IPC in the registers before a jump is the address of the next instruction.
+-- The rules of the jump instructions. IPC in the registers before a jump is the address of the next instruction. A line
+-- such as `.., a, b -> .., c` shows the stack before and after the instruction, with the top at the right.
 use Rattle.std.specs.Prelude.{ℕ, ◌≡◌, ◌+◌, ◌-◌, ◌*◌, ◌%◌, Bool, true, not, ◌&&◌, List, Result, Ok, if◌then◌else◌, ◌==◌}
 use Rattle.std.specs.Prelude.{nat_lt, nat_le}
 use Rattle.pm_words.specs.declared.error.ExecError.{ExecError}

@@ -1,4 +1,5 @@
--- The rules of the instructions that push constants in the code.
+-- The rules of the instructions that push constants in the code. A line such as `.., a, b -> .., c` shows the stack
+-- before and after the instruction, with the top at the right.
 use Rattle.std.specs.Prelude.{ℕ, ◌-◌, ◌+◌, ◌*◌, ◌/◌, ◌%◌, ◌&&◌, Ok, reverse, nat_le}
 use Rattle.pm_words.specs.declared.error.ExecError.TheVariants.{InvalidMemory, StackOverflow}
 use Rattle.pm_words.specs.Words.{with_words, words_at}

@@ -1,4 +1,5 @@
--- The rules of the instructions that use an address on the stack. Addresses are modulo 65,536.
+-- The rules of the instructions that use an address on the stack. Addresses are modulo 65,536. A line such as `.., a, b
+-- -> .., c` shows the stack before and after the instruction, with the top at the right.
 use Rattle.std.specs.Prelude.{ℕ, ◌+◌, ◌-◌, ◌*◌, ◌%◌, Ok, nat_le, nat_lt}
 use Rattle.pm_words.specs.declared.error.ExecError.TheVariants.{InvalidMemory, StackOverflow}
 use Rattle.pm_words.specs.Words.{copied}

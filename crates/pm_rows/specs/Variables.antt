@@ -1,5 +1,6 @@
 -- The rules of the instructions on variables of frames. Variable b of the frame at address f is at f + 10 + 2b, so
--- variable 1 is the word after the control words of the frame.
+-- variable 1 is the word after the control words of the frame. A line such as `.., a, b -> .., c` shows the stack
+-- before and after the instruction, with the top at the right.
 use Rattle.std.specs.Prelude.{ℕ, ◌≡◌, ◌+◌, ◌*◌, ◌%◌, ◌<◌, ◌≤◌, false, length, List, Result, Ok, Err, ⊤}
 use Rattle.pm_words.specs.declared.error.ExecError.{ExecError}
 use Rattle.pm_words.specs.Stack.{◌>>=◌, load, pop, push, store}

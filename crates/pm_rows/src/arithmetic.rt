@@ -1,4 +1,5 @@
-//! The rules of the instructions on words as integers.
+//! The rules of the instructions on words as integers. A line such as `.., a, b -> .., c` shows the stack before and
+//! after the instruction, with the top at the right.
 
 ghost use Rattle.std.specs.Prelude.{◌≡◌};
 ghost use Rattle.pm_words.specs.Top.{MovesTop};

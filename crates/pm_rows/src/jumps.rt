@@ -1,4 +1,5 @@
-//! The rules of the jump instructions.
+//! The rules of the jump instructions. A line such as `.., a, b -> .., c` shows the stack before and after the
+//! instruction, with the top at the right.
 
 ghost use Rattle.std.specs.Prelude.{◌≡◌, ◌<◌, IfOk};
 ghost use Rattle.pm_opcode.specs.Spelling.{rank, signed_byte};

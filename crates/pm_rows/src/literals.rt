@@ -1,4 +1,5 @@
-//! The rules of the instructions that push constants in the code.
+//! The rules of the instructions that push constants in the code. A line such as `.., a, b -> .., c` shows the stack
+//! before and after the instruction, with the top at the right.
 
 ghost use Rattle.std.specs.Prelude.{◌≡◌, ◌+◌, ◌-◌, ◌*◌, ◌%◌, ◌≤◌, length, reverse};
 ghost use Rattle.pm_words.specs.Watch.{WatchStays};

@@ -1,4 +1,5 @@
--- Each part pops exactly what its operands push, and what is recorded as missing.
+-- Each part pops exactly what its operands push, and what is recorded as missing. A *part* is one item of the code with
+-- its stack effect. A *tree* is a part with the trees that push its operands.
 use Rattle.std.proofs.Common.{◌≡◌, ◌≤◌, ℕ, zero, suc, ◌+◌, ◌-◌, Bool, true, false, not, List, [], ◌∷◌, ◌++◌, drop, take}
 use Rattle.std.proofs.Common.{refl, sym, ap, ◌∙◌, arith, append_assoc}
 use Rattle.std.specs.Prelude.{◌==◌, ◌||◌, nat_le, if◌then◌else◌, replicate, Some}

@@ -1,4 +1,5 @@
--- What is missing for a statement was on the stack before the statement.
+-- What is missing for a statement was on the stack before the statement. A *part* is one item of the code with its
+-- stack effect. A *tree* is a part with the trees that push its operands.
 use Rattle.std.proofs.Common.{◌≡◌, ℕ, zero, suc, Bool, true, false, List, [], ◌∷◌, refl}
 use Rattle.std.specs.Prelude.{◌||◌, if◌then◌else◌}
 use Rattle.pm_phrases.specs.declared.around.Missing.{Missing}

@@ -1,4 +1,5 @@
--- The statements, read with the operands first, are the code.
+-- The statements, read with the operands first, are the code. A *part* is one item of the code with its stack effect. A
+-- *tree* is a part with the trees that push its operands.
 use Rattle.std.proofs.Common.{◌≡◌, ℕ, zero, suc, ◌+◌, Bool, true, false, List, [], ◌∷◌, ◌++◌, refl, sym, ap, ◌∙◌, append_assoc}
 use Rattle.std.specs.Prelude.{◌||◌, map, if◌then◌else◌}
 use Rattle.std.proofs.lemmas.List.{append-nil}

@@ -1,4 +1,5 @@
--- In a statement, only the first part can have a label or begin the exit code.
+-- In a statement, only the first part can have a label or begin the exit code. A *part* is one item of the code with
+-- its stack effect. A *tree* is a part with the trees that push its operands.
 use Rattle.std.proofs.Common.{◌≡◌, Bool, true, false, List, [], ◌∷◌, ◌++◌, refl, sym, ap, ◌∙◌, subst, append_assoc}
 use Rattle.std.specs.Prelude.{◌||◌, if◌then◌else◌}
 use Rattle.pm_trees.specs.Parts.{Part, is_reached, procedure_parts}

@@ -1,4 +1,5 @@
--- The phrases that are built part by part are the phrases of the statements.
+-- The phrases that are built part by part are the phrases of the statements. A *part* is one item of the code with its
+-- stack effect. A *tree* is a part with the trees that push its operands.
 use Rattle.std.proofs.Common.{◌≡◌, ◌≤◌, ℕ, zero, suc, ◌+◌, ◌-◌, Bool, true, false, List, [], ◌∷◌, drop, length, refl, sym, ap, ◌∙◌, arith}
 use Rattle.std.specs.Prelude.{◌||◌, if◌then◌else◌}
 use Rattle.std.proofs.lemmas.List.{drop-drop, drop-take, take-append-drop, take-take}

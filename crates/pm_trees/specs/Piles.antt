@@ -1,5 +1,6 @@
 -- Trees as summaries and phrases, built part by part. A *phrase* is the text of a tree (`phrase_of` of pm_phrases).
--- *Pending* trees are the last trees, which can still become operands.
+-- *Pending* trees are the last trees, which can still become operands. A *part* is one item of the code with its stack
+-- effect. A *tree* is a part with the trees that push its operands.
 use Rattle.std.specs.Prelude.{◌≡◌, ℕ, List, [], ◌∷◌, ◌++◌, reverse}
 use Rattle.std.specs.Prelude.{take, drop}
 use Rattle.std.specs.Prelude.{◌||◌, if◌then◌else◌}

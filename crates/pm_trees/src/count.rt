@@ -1,5 +1,6 @@
 //! Counting of the trees that are the operands of a part. A *share* is an amount of the stack: a number of words, or
-//! one set.
+//! one set. A *part* is one item of the code with its stack effect. A *tree* is a part with the trees that push its
+//! operands.
 
 ghost use Rattle.std.specs.Prelude.{◌≡◌, ◌≤◌, ◌+◌, length, reverse};
 ghost use Rattle.pm_trees.specs.Piles.{leaves_left};

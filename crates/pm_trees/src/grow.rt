@@ -1,4 +1,5 @@
 //! Building of statements from the parts of code. *Pending* trees are the last trees, which can still become operands.
+//! A *part* is one item of the code with its stack effect. A *tree* is a part with the trees that push its operands.
 
 ghost use Rattle.std.specs.Prelude.{◌≡◌, ◌≤◌, ◌<◌, ◌-◌, ◌^◌, suc, if◌then◌else◌};
 ghost use Rattle.std.specs.Prelude.{drop, length, reverse, IfOk, OnOk};

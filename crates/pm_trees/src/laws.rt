@@ -1,4 +1,5 @@
-//! Laws about statements. The functions have empty bodies.
+//! Laws about statements. The functions have empty bodies. A *part* is one item of the code with its stack effect. A
+//! *tree* is a part with the trees that push its operands.
 
 ghost use Rattle.pm_trees.specs.Laws.{LabelsStandBeforeStatements, MissingIsBelow, OperandsAreWhatIsTaken};
 ghost use Rattle.pm_trees.specs.Laws.{StatementsAreTheCode};

@@ -1,4 +1,5 @@
-//! The summary of a tree, which decides whether the tree can become an operand.
+//! The summary of a tree, which decides whether the tree can become an operand. A *part* is one item of the code with
+//! its stack effect. A *tree* is a part with the trees that push its operands.
 
 ghost use Rattle.std.specs.Prelude.{◌≡◌, reverse};
 ghost use Rattle.pm_trees.specs.Parts.{is_reached};

@@ -1,4 +1,5 @@
-//! A list of trees, each as its summary and its phrase. The phrase is the text of the tree.
+//! A list of trees, each as its summary and its phrase. The phrase is the text of the tree. A *part* is one item of the
+//! code with its stack effect. A *tree* is a part with the trees that push its operands.
 
 ghost use Rattle.std.specs.Prelude.{◌≡◌, ◌-◌, drop, length, IfOk, OnOk};
 ghost use Rattle.pm_trees.specs.Piles as texts;

@@ -1,5 +1,6 @@
 -- Typed comparisons. The left operand is below the right operand on the stack. If the relation is not defined for the
--- type, the result is `Unimplemented` (error 11); this error is checked before the stack is read.
+-- type, the result is `Unimplemented` (error 11); this error is checked before the stack is read. A line such as `..,
+-- a, b -> .., c` shows the stack before and after the instruction, with the top at the right.
 use Rattle.std.specs.Cmp.Lexicographic.{slice_cmp}
 use Rattle.std.specs.Ordering.{is_eq, is_ge, is_gt, is_le, is_lt, is_ne, nat_cmp}
 use Rattle.std.specs.declared.cmp.Ordering.{Ordering}

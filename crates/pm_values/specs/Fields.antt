@@ -1,6 +1,7 @@
 -- The rules of instructions on bytes and on packed fields. A packed field is a range of bits of a word. A rule first
 -- pops its words, the top one first; then it checks them; then it writes or pushes. The lines of a rule are in the
--- order in which errors are checked.
+-- order in which errors are checked. A line such as `.., a, b -> .., c` shows the stack before and after the
+-- instruction, with the top at the right.
 use Rattle.std.specs.Prelude.{ℕ, ◌+◌, ◌-◌, ◌*◌, ◌/◌, ◌%◌, ◌^◌, ◌==◌, ◌&&◌, Bool, not, [], ◌∷◌, Ok, nat_lt, nat_le}
 use Rattle.pm_words.specs.Words.{byte_at, with_byte}
 use Rattle.pm_words.specs.declared.error.ExecError.TheVariants.{InvalidIndex}

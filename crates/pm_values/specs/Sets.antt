@@ -1,5 +1,6 @@
 -- Sets of numbers as lists of words: the number e is in the set if bit e mod 16 of word e div 16 is 1. On the stack,
--- the count of the words is on top. The words follow at higher addresses, the word with the least numbers first.
+-- the count of the words is on top. The words follow at higher addresses, the word with the least numbers first. A line
+-- such as `.., a, b -> .., c` shows the stack before and after the instruction, with the top at the right.
 use Rattle.std.specs.Prelude.{ℕ, zero, suc, ◌+◌, ◌*◌, ◌/◌, ◌%◌, ◌^◌, ◌==◌, ◌&&◌, ◌||◌, Bool, not, max, min}
 use Rattle.std.specs.Prelude.{if◌then◌else◌, List, [], ◌∷◌, length, slice_index, int_lt, Result, Ok, nat_lt, nat_le}
 use Rattle.pm_words.specs.Words.{words_at}

@@ -1,4 +1,5 @@
--- Strings in memory: a byte with the number of characters, then the characters.
+-- Strings in memory: a byte with the number of characters, then the characters. A line such as `.., a, b -> .., c`
+-- shows the stack before and after the instruction, with the top at the right.
 use Rattle.std.specs.Prelude.{ℕ, ◌+◌, if◌then◌else◌, List, [], ◌∷◌, length, Result, Ok, nat_lt, nat_le}
 use Rattle.pm_words.specs.Words.{byte_at, bytes_at, with_bytes}
 use Rattle.pm_words.specs.declared.error.ExecError.{ExecError}

@@ -1,5 +1,6 @@
 -- Laws of ranges of memory: a word or a byte after a copy, and when a copy one by one equals a copy of all bytes at
--- once.
+-- once. `touched` is *updated for* some bytes if it is true afterwards exactly if it was true before or one of these
+-- bytes belongs to a watched word.
 use Rattle.std.proofs.Common.{◌≡◌, ◌≢◌, ℕ, zero, suc, ◌+◌, ◌-◌, ◌*◌, ◌/◌, ◌%◌, ◌<◌, ◌≤◌, ◌⊎◌, List, [], ◌∷◌, length}
 use Rattle.std.proofs.Common.{drop, get_or, replicate, refl, sym, ap, ◌∙◌, subst, arith, inl, inr, ⊎_elim, nat_lt}
 use Rattle.std.specs.Prelude.{IsTrue, ◌↔◌}

@@ -1,4 +1,5 @@
-//! Operations on ranges of bytes in memory: copy, fill and scan.
+//! Operations on ranges of bytes in memory: copy, fill and scan. A scan for a byte is stopped by an equal byte if
+//! `equal` is true, otherwise by a different byte.
 
 ghost use Rattle.std.specs.Prelude.{◌≡◌, ◌+◌, ◌/◌, ◌%◌, ◌∷◌, [], ◌⊎◌, ◌<◌, ◌≤◌, ◌↔◌, All};
 ghost use Rattle.std.specs.Prelude.{IfOk, IfSome, IsTrue, length, position, replicate, reverse};

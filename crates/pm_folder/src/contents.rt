@@ -79,8 +79,8 @@ pub(crate) fn how_of(text: Option<Ends>, kind: u8, bytes: &[u8]) -> How
     }
 }
 
-/// Returns the contents that are written for a file with the kind `kind` and the bytes `bytes`. `text` has the line ends
-/// of texts, or is `None` if no file is written as a text.
+/// Returns the contents that are written for a file with the kind `kind` and the bytes `bytes`. `text` has the line
+/// ends of texts, or is `None` if no file is written as a text.
 pub(crate) fn content_of(
     alloc: Global,
     text: Option<Ends>,

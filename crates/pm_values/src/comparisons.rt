@@ -71,7 +71,7 @@ fn compare_strings(
     push(memory, left.above, np, u16::from(found))
 }
 
-// Compares two truth values on the stack. Only bit 0 of each word counts.
+// Compares two truth values, by bit 0 only.
 #[tactic(auto, unfolding(crate::specs::Comparisons::compare_booleans_row), using(pm_words::proofs::WatchLaws::stays))]
 fn compare_booleans(
     memory: &mut Memory,

@@ -1,7 +1,7 @@
--- Sequences of definitions that may fail.
+-- Chaining of definitions that return a `Result`: the second one is used only if the first one succeeds.
 use Rattle.std.specs.Prelude.{Result, Ok, Err}
 
--- The result of `f` on `x` if the first result is `Ok x`; otherwise the error of the first result.
+-- If the left side is `Ok x`, then the result is `f x`. If the left side is `Err e`, then the result is `Err e`.
 infixl 10 ◌>>=◌
 abbrev pub ◌>>=◌ : {A B E : Type 0} → Result A E → (A → Result B E) → Result B E
 (Ok x) >>= f = f x

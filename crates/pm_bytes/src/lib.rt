@@ -1,4 +1,4 @@
-//! Words and blocks: reads and writes the bytes of disks, volumes and code files.
+//! Words and blocks of bytes: functions that read and write the bytes of disks, volumes and code files.
 #![tactic(auto)]
 
 mod blocks;

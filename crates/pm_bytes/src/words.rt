@@ -1,4 +1,4 @@
-//! Words (16 bits) and bytes in a slice of bytes.
+//! Functions that read and write words (16 bits) and bytes in a slice of bytes.
 
 ghost use Rattle.std.specs.Prelude.{◌≡◌, ◌+◌, ◌≤◌, length, replicate};
 ghost use Rattle.byteorder.specs.Endian.{little_bytes};
@@ -6,7 +6,7 @@ ghost use Rattle.pm_bytes.specs.Words.{word_in, written, zeros};
 
 use byteorder::{ByteOrder, LittleEndian};
 
-/// Returns the word at byte offset `place`. Its low byte is at `place`, its high byte at `place + 1`.
+/// Returns the word at byte offset `place` of `bytes`. Its low byte is at `place`, and its high byte is at `place + 1`.
 ///
 /// Both bytes must be in `bytes`.
 #[tactic(auto, unfolding(crate::specs::Words::word_in))]
@@ -17,9 +17,9 @@ pub fn word(bytes: &[u8], place: usize) -> u16
     LittleEndian::read_u16(&bytes[place..])
 }
 
-/// Writes `word` at byte offset `place`, the low byte first.
+/// Writes `word` at byte offset `place` of `bytes`, the low byte first.
 ///
-/// Both bytes must be in `bytes`.
+/// Offsets `place` and `place + 1` must be in `bytes`.
 #[tactic(auto, unfolding(crate::specs::Words::written))]
 pub fn set_word(bytes: &mut [u8], place: usize, word: u16)
     requires room { place + 2 ≤ length bytes.old }
@@ -28,9 +28,9 @@ pub fn set_word(bytes: &mut [u8], place: usize, word: u16)
     LittleEndian::write_u16(&mut bytes[place..place + 2], word);
 }
 
-/// Overwrites the bytes from offset `place` on with `new`.
+/// Overwrites the bytes of `bytes` from offset `place` on with the bytes of `new`.
 ///
-/// The bytes that are overwritten must be in `bytes`.
+/// All bytes that are overwritten must be in `bytes`.
 #[tactic(auto, unfolding(crate::specs::Words::written))]
 pub fn set_bytes(bytes: &mut [u8], place: usize, new: &[u8])
     requires room { place + length new.now ≤ length bytes.old }
@@ -39,9 +39,9 @@ pub fn set_bytes(bytes: &mut [u8], place: usize, new: &[u8])
     bytes[place..place + new.len()].copy_from_slice(new);
 }
 
-/// Overwrites `count` bytes from offset `place` on with zeros.
+/// Overwrites `count` bytes of `bytes`, from offset `place` on, with zeros.
 ///
-/// These bytes must be in `bytes`.
+/// The bytes that are overwritten must be in `bytes`.
 #[tactic(auto, unfolding(crate::specs::Words::written))]
 pub fn clear(bytes: &mut [u8], place: usize, count: usize)
     requires room { place + count ≤ length bytes.old }
@@ -50,7 +50,7 @@ pub fn clear(bytes: &mut [u8], place: usize, count: usize)
     bytes[place..place + count].fill(0);
 }
 
-/// Overwrites all bytes with zeros.
+/// Overwrites all bytes of `bytes` with zeros.
 #[tactic(auto, unfolding(crate::specs::Words::zeros))]
 pub fn clear_all(bytes: &mut [u8])
     ensures cleared { bytes.new ≡ zeros (length bytes.old) }

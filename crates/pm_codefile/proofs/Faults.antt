@@ -1,4 +1,4 @@
--- One step of the search for a fault.
+-- Laws of the search for the first fault of a code file.
 use Rattle.std.proofs.Common.{◌≡◌, ◌⊎◌, inl, inr, ℕ, suc, ◌+◌, ◌-◌, ◌<◌, ◌≤◌, Bool, true, false, cond, List, length, None, Some, refl, arith}
 use Rattle.pm_codefile.specs.declared.fault.CodeFault.{CodeFault}
 use Rattle.pm_codefile.specs.declared.fault.CodeFault.TheVariants.{SlotPastEnd, OddLength}
@@ -18,18 +18,18 @@ first_fault-here file n left fault l e =
     let step : left - n ≡ suc (left - (n + 1)) = omega arith in
     rw (step, e) refl
 
--- one of two faults, by two tests
+-- If a choice between two faults by two tests returns the fault `z`, then `z` is one of these two faults.
 one_of : (a b : Bool) (x y z : CodeFault) → cond a (Some x) (cond b (Some y) None) ≡ Some z → (z ≡ x) ⊎ (z ≡ y)
 one_of true b x y z h = inl cc
 one_of false true x y z h = inr cc
 one_of false false x y z h = cc
 
--- a slot's fault names the slot
+-- If slot `n` has a fault, then the fault is `OddLength n` or `SlotPastEnd n`.
 names_slot : (file : List ℕ) (n : ℕ) (fault : CodeFault) → slot_fault file n ≡ Some fault → (fault ≡ OddLength n) ⊎ (fault ≡ SlotPastEnd n)
 unfolding slot_fault
 names_slot file n fault h = one_of _ _ _ _ _ h
 
--- the fault of a slot is the first of the file if no slot before it has one
+-- If slot `n` has a fault and no slot before it has one, then this fault is the first fault of the file.
 pub first-from_slot : (file : List ℕ) (n : ℕ) (fault : CodeFault) → 512 ≤ length file → n < 16 → ((k : ℕ) → k < n → slot_fault file k ≡ None)
     → slot_fault file n ≡ Some fault → IsFirstCodeFault file fault
 first-from_slot file n fault d l before h = elim (names_slot file n fault h) [

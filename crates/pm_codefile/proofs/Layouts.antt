@@ -1,4 +1,4 @@
--- One step of the loops that write the parts of a file.
+-- Laws of the loops that write the parts of a code file, for one more slot.
 use Rattle.std.proofs.Common.{◌≡◌, ℕ, ◌+◌, ◌<◌, List, ◌++◌, length, take, drop, get_or, refl, add-one, drop-cons}
 use Rattle.std.specs.Prelude.{sum}
 use Rattle.std.proofs.lemmas.List.Sums.{sum_by-drop_more}

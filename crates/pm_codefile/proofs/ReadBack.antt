@@ -1,4 +1,4 @@
--- A written file reads as it was written.
+-- If a code file was written, then reading it returns what was written.
 use Rattle.std.proofs.Common.{◌≡◌, ◌<◌, ◌≤◌, ℕ, zero, suc, ◌+◌, ◌*◌, ◌%◌, Bool, ◌&&◌, List, [], ◌++◌, All, None, Some, length, take, replicate, get_or, ◌∙◌}
 use Rattle.std.proofs.Common.{sym, cond, eqb, ltb, true, false, refl, inl, inr, arith, length-append}
 use Rattle.std.specs.Prelude.{slice_range, sum}
@@ -12,12 +12,12 @@ use Rattle.pm_codefile.specs.ReadBack.{ReadsBack, begin_of, first_block_of}
 use Rattle.pm_codefile.proofs.Written.{length-names, length-padded, length-pairs, names-name, padded-part, pairs-block, pairs-length, part-within}
 use Rattle.pm_codefile.proofs.Written.{slice_range-left, slice_range-right, word_in-left, word_in-right}
 
--- a word of a list of zeros
+-- A word inside a list of zeros is 0.
 zero-word : (n p : ℕ) → p + 2 ≤ n → word_in (replicate n 0) p ≡ 0
 unfolding word_in
 zero-word n p h = rw (get_or-replicate {A = ℕ} n p 0 0 (omega arith), get_or-replicate {A = ℕ} n (p + 1) 0 0 (omega arith)) refl
 
--- if no slot has a fault, there is no first fault
+-- If none of the slots has a fault, then the search for the first fault returns `None`.
 none-first : (file : List ℕ) (left n : ℕ) → ((k : ℕ) → k < n + left → slot_fault file k ≡ None) → first_slot_fault file n left ≡ None
 unfolding first_slot_fault
 none-first file zero n none = refl
@@ -59,7 +59,7 @@ module _ (names : List (List ℕ)) (ns segments : List ℕ) (named : length name
         length-padded ns segments (omega arith),
       )
 
-  -- a word of the pairs
+  -- A word at an offset below 62 of the file is the word at this offset of the list of blocks and lengths.
   word_of_pairs : (p : ℕ) → p + 2 ≤ 64 → word_in (layout names ns segments) p ≡ word_in (pairs 1 ns) p
   unfolding layout
   word_of_pairs p h =
@@ -141,7 +141,7 @@ module _ (names : List (List ℕ)) (ns segments : List ℕ) (named : length name
             rw (neither (ltb 0 (get_or ns n 0)) (ltb (length (layout names ns segments)) (512 * first_block_of ns n + get_or ns n 0)) none) refl
       ])
 
--- the result of `write` reads as it was written
+-- The file that `layout` defines reads back as it was written (`ReadsBack`).
 pub layout-reads_back : (names : List (List ℕ)) (ns segments : List ℕ) → length names ≡ 16 → length ns ≡ 16
     → ((k : ℕ) → k < length names → length (get_or names k []) ≡ 8) → ((k : ℕ) → get_or ns k 0 < 65536) → sum ns ≡ length segments
     → All (λ n. n % 2 ≡ 0) ns → ReadsBack names ns segments (layout names ns segments)

@@ -1,4 +1,4 @@
--- Words and parts of joined lists, and the parts of a written file.
+-- Laws of words and ranges of joined lists, and of the parts of a written code file.
 use Rattle.std.proofs.Common.{◌≡◌, ◌<◌, ◌≤◌, ℕ, zero, suc, ◌+◌, ◌-◌, ◌*◌, List, [], ◌∷◌, ◌++◌, length, take, drop, get_or, ◌∙◌, cond, eqb, refl, inl, inr}
 use Rattle.std.proofs.Common.{arith, append_assoc, length-append}
 use Rattle.std.specs.Prelude.{slice_range, sum}
@@ -12,12 +12,12 @@ use Rattle.byteorder.specs.Numbers.{little_number-reads_back}
 use Rattle.pm_codefile.specs.Dictionary.{word_in}
 use Rattle.pm_codefile.specs.Layout.{blocks_for, name_for, names_for, in_blocks, block_padding, slot_pair, pairs}
 
--- a word in the first of two lists
+-- If both bytes of a word are in the first of two joined lists, then the word is the word of the first list.
 pub word_in-left : (xs ys : List ℕ) (p : ℕ) → p + 2 ≤ length xs → word_in (xs ++ ys) p ≡ word_in xs p
 unfolding word_in
 word_in-left xs ys p h = rw (get_or_append_left xs ys 0 p (omega arith), get_or_append_left xs ys 0 (p + 1) (omega arith)) refl
 
--- a word in the second of two lists
+-- A word at `n + p` of two joined lists, the first of which has `n` bytes, is the word at `p` of the second list.
 pub word_in-right : (xs ys : List ℕ) (n p : ℕ) → length xs ≡ n → word_in (xs ++ ys) (n + p) ≡ word_in ys p
 unfolding word_in
 word_in-right xs ys n p h =
@@ -27,30 +27,31 @@ word_in-right xs ys n p h =
     let f : ((n + p) + 1) - n ≡ p + 1 = omega arith in
     rw (low, high, e, f) refl
 
--- a word at the start of a list
+-- If a list begins with the two bytes of the word `w`, then its word at offset 0 is `w`.
 pub word_in-start : (w : ℕ) (rest : List ℕ) → w < 65536 → word_in (little_bytes 2 w ++ rest) 0 ≡ w
 unfolding word_in
 word_in-start w rest h = omega (arith, little_number-reads_back 2 w rest h)
 
--- a part of the first of two lists
+-- If a range ends inside the first of two joined lists, then it is the same range of the first list.
 pub slice_range-left : (xs ys : List ℕ) (a b : ℕ) → a ≤ b → b ≤ length xs → slice_range (xs ++ ys) a b ≡ slice_range xs a b
 slice_range-left xs ys a b l h =
     rw (drop-append-le a xs ys (omega arith)) (take-append-le (b - a) (drop a xs) ys (omega (arith, length-drop a xs)))
 
--- a part of the second of two lists
+-- The range from `n + a` to `n + b` of two joined lists, the first of which has `n` items, is the range from `a` to `b`
+-- of the second list.
 pub slice_range-right : (xs ys : List ℕ) (n a b : ℕ) → length xs ≡ n → slice_range (xs ++ ys) (n + a) (n + b) ≡ slice_range ys a b
 slice_range-right xs ys n a b h =
     let e : (n + b) - (n + a) ≡ b - a = omega arith in
     rw (e, ← drop-drop a n (xs ++ ys), drop_at xs ys n h) refl
 
--- the length of all pairs
+-- The blocks and lengths of the slots have four bytes for each slot.
 pub length-pairs : (ns : List ℕ) (b : ℕ) → length (pairs b ns) ≡ 4 * length ns
 unfolding pairs
 length-pairs [] b = refl
 length-pairs (n ∷ ns) b =
     omega (arith, length-append (slot_pair b n) (pairs (b + blocks_for n) ns), length-pairs ns (b + blocks_for n))
 
--- the length of a slot
+-- The second word for slot `i` is the length of this slot.
 pub pairs-length : (ns : List ℕ) (b i : ℕ) → i < length ns → ((k : ℕ) → get_or ns k 0 < 65536) → word_in (pairs b ns) (4 * i + 2) ≡ get_or ns i 0
 unfolding pairs
 pairs-length [] b i l small = absurd (omega arith)
@@ -66,7 +67,8 @@ pairs-length (n ∷ ns) b (suc i) l small =
 small_block : (n b : ℕ) → b < 65536 → cond (eqb n 0) 0 b < 65536
 small_block n b h = elim (cases_Bool (eqb n 0)) [ inl e ↦ rw e (omega arith) | inr e ↦ rw e h ]
 
--- the block of a slot
+-- The first word for slot `i` is its block: the first block after the segments of the slots before it, or 0 for length
+-- 0.
 pub pairs-block : (ns : List ℕ) (b i : ℕ) → i < length ns → b + sum_by blocks_for ns < 65536
     → word_in (pairs b ns) (4 * i) ≡ cond (eqb (get_or ns i 0) 0) 0 (b + sum_by blocks_for (take i ns))
 unfolding pairs
@@ -87,7 +89,7 @@ pairs-block (n ∷ ns) b (suc i) l small =
 length-name : (name : List ℕ) (n : ℕ) → length name ≡ 8 → length (name_for name n) ≡ 8
 length-name name n h = elim (cases_Bool (eqb n 0)) [ inl e ↦ rw e refl | inr e ↦ rw e h ]
 
--- the length of all names
+-- The names of the slots have eight bytes for each slot.
 pub length-names : (names : List (List ℕ)) (ns : List ℕ) → length names ≡ length ns → ((k : ℕ) → k < length names → length (get_or names k []) ≡ 8)
     → length (names_for names ns) ≡ 8 * length ns
 unfolding names_for
@@ -102,7 +104,7 @@ length-names (name ∷ names) (n ∷ ns) h each =
       length-names names ns (omega arith) (λ k l. each (suc k) (omega arith)),
     )
 
--- the name of a slot
+-- The eight bytes from `8 * i` on are the name of slot `i`.
 pub names-name : (names : List (List ℕ)) (ns : List ℕ) (i : ℕ) → i < length ns → length names ≡ length ns
     → ((k : ℕ) → k < length names → length (get_or names k []) ≡ 8)
     → slice_range (names_for names ns) (8 * i) (8 * i + 8) ≡ name_for (get_or names i []) (get_or ns i 0)
@@ -120,7 +122,7 @@ length-filled : (n : ℕ) (segments : List ℕ) → n ≤ length segments → le
 length-filled n segments h =
     omega (arith, length-append (take n segments) (block_padding n), length-take-le n segments h, length-replicate {A = ℕ} (512 * blocks_for n - n) 0)
 
--- the length of all segments
+-- The padded segments have 512 bytes for each of their blocks.
 pub length-padded : (ns segments : List ℕ) → sum ns ≤ length segments → length (in_blocks ns segments) ≡ 512 * sum_by blocks_for ns
 unfolding in_blocks
 length-padded [] segments h = refl
@@ -134,14 +136,14 @@ length-padded (n ∷ ns) segments h =
       sum_by-cons blocks_for n ns,
     )
 
--- a segment lies within its blocks
+-- The segment of slot `i` ends inside the blocks of all segments.
 pub part-within : (ns : List ℕ) (i : ℕ) → i < length ns → 512 * sum_by blocks_for (take i ns) + get_or ns i 0 ≤ 512 * sum_by blocks_for ns
 part-within [] i l = absurd (omega arith)
 part-within (n ∷ ns) zero l = omega (arith, sum_by-cons blocks_for n ns)
 part-within (n ∷ ns) (suc i) l =
     omega (arith, sum_by-cons blocks_for n ns, sum_by-cons blocks_for n (take i ns), part-within ns i (omega arith))
 
--- the segment of a slot
+-- The bytes at the blocks of slot `i` are the segment of this slot.
 pub padded-part : (ns segments : List ℕ) (i : ℕ) → i < length ns → sum ns ≤ length segments
     → slice_range (in_blocks ns segments) (512 * sum_by blocks_for (take i ns)) (512 * sum_by blocks_for (take i ns) + get_or ns i 0)
     ≡ slice_range segments (sum (take i ns)) (sum (take i ns) + get_or ns i 0)

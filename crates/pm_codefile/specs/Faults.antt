@@ -1,4 +1,4 @@
--- The numbers of the faults, and the slots that they name.
+-- The numbers of the faults, and the slots that the faults report.
 use Rattle.std.specs.Prelude.{ℕ, Option, Some, None}
 use Rattle.pm_codefile.specs.declared.fault.CodeFault.{CodeFault}
 use Rattle.pm_codefile.specs.declared.fault.CodeFault.TheVariants.{NoDictionary, SlotPastEnd, OddLength}

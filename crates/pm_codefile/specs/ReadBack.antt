@@ -1,4 +1,4 @@
--- The contents of a written file when it is read.
+-- The result of reading a written code file.
 use Rattle.std.specs.Prelude.{◌≡◌, ◌==◌, ◌<◌, ℕ, ◌+◌, List, [], slice_index, slice_index_or, slice_range, sum, take}
 use Rattle.std.specs.Prelude.{None, Some, if◌then◌else◌}
 use Rattle.std.specs.List.{sum_by}
@@ -9,12 +9,13 @@ use Rattle.pm_codefile.specs.Layout.{blocks_for, name_for}
 abbrev pub begin_of : List ℕ → ℕ → ℕ
 begin_of lengths n = sum (take n lengths)
 
--- The block of slot `n`: the one after the dictionary and the blocks of the slots below it. It is 0 if the length is 0.
+-- The block of slot `n`: the first block after the dictionary and the segments of lower slots. It is 0 if the length is
+-- 0.
 abbrev pub first_block_of : List ℕ → ℕ → ℕ
 first_block_of lengths n = if slice_index lengths n == 0 then 0 else 1 + sum_by blocks_for (take n lengths)
 
--- `file` is accepted and reads as it was written. Each slot has its length, its name and kind 0. Each segment is its
--- part of the joined bytes. A slot with length 0 has no segment.
+-- States that `file` is accepted and that reading it returns what was written. Each slot has its length, its name and
+-- kind 0. The segment of each slot is its range of the joined bytes. A slot with length 0 has no segment.
 pub record ReadsBack (names : List (List ℕ)) (lengths segments file : List ℕ) : Type 0 where
   pub accepted : file_fault file ≡ None
   pub slots : (n : ℕ) → n < 16 → slot_in file n ≡ Some (record {

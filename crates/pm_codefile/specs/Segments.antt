@@ -1,6 +1,6 @@
--- Segments. The last byte is the number of procedures. The word at offset length - 2 - 2 p contains the distance from
--- itself down to the table of procedure p. A table at offset j extends downwards:
---   j        procedure number (low byte) and lex level (high byte, signed)
+-- Segments. The last byte of a segment is the number of its procedures. The word at offset length - 2 - 2 p is the
+-- distance from this word down to the attribute table of procedure p. A table at offset j has these words:
+--   j        procedure number (low byte) and level (high byte, signed)
 --   j - 2    distance from this word down to the first instruction
 --   j - 4    distance from this word down to the exit code
 --   j - 6    size of the parameters in bytes
@@ -11,26 +11,27 @@ use Rattle.std.specs.Int.{w8, cast_signed}
 use Rattle.pm_codefile.specs.declared.table.Attributes.{Attributes}
 use Rattle.pm_codefile.specs.Dictionary.{word_in}
 
--- The function applied to the value of an option, or None if there is no value.
+-- If the left side is `Some x`, then the result is `f x`. If it is `None`, then the result is `None`.
 infixl 10 ◌>>=◌
 abbrev pub ◌>>=◌ : {A B : Type 0} → Option A → (A → Option B) → Option B
 (Some x) >>= f = f x
 None >>= f = None
 
--- A condition without which the result is None.
+-- `Some` if `holds` is true, otherwise `None`. In a sequence, it ends the sequence with `None`.
 abbrev pub demanded : Bool → Option (Unit {0})
 demanded holds = if holds then Some tt else None
 
--- The difference `a - b`, or None if it is below 0.
+-- The difference `a - b`, or `None` if it is below 0.
 abbrev pub less_or_none : ℕ → ℕ → Option ℕ
 less_or_none a b = if nat_le b a then Some (a - b) else None
 
--- The number of procedures: the last byte of a segment, or 0 if there is none.
+-- The number of procedures of a segment: its last byte, or 0 if the segment is empty.
 abbrev pub procedures_in : List ℕ → ℕ
 procedures_in segment = slice_index segment (length segment - 1)
 
--- The contents of the table of procedure `p` of a segment. `p` must be one of its procedures. The table, from j - 8 to
--- j + 1, must lie in the segment at an even offset. The first instruction and the exit code must not be above j - 8.
+-- The attribute table of procedure `p` of a segment, or `None`. `p` must be one of the procedures. The table, from j -
+-- 8 to j + 1, must be inside the segment at an even offset. The offsets of the first instruction and of the exit code
+-- must be from 0 to j - 8.
 unfoldable pub attributes_in : List ℕ → ℕ → Option Attributes
 attributes_in segment p = do
   _ ← demanded (nat_le 1 p && nat_le p (procedures_in segment))

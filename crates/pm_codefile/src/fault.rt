@@ -1,11 +1,11 @@
-//! Why bytes are not a code file.
+//! The reasons why bytes are not a code file.
 
 ghost use Rattle.std.specs.Prelude.{◌≡◌};
 ghost use Rattle.pm_codefile.specs.Faults.{number_of, slot_of_fault};
 
 use thiserror::Error;
 
-/// Why bytes are not a code file. A number is the slot of the dictionary, 0 to 15.
+/// The reason why bytes are not a code file. The field is the number of a slot of the dictionary, 0 to 15.
 #[derive(Clone, Copy, Debug, Error)]
 pub enum CodeFault {
     /// 1: the file has fewer than 512 bytes, the length of a dictionary.
@@ -20,7 +20,7 @@ pub enum CodeFault {
 }
 
 impl CodeFault {
-    /// The fault's number, as the program prints it.
+    /// Returns the number of the fault, as the program prints it.
     pub fn number(self) -> u8
         ensures value { result ≡ number_of self }
     {
@@ -31,7 +31,7 @@ impl CodeFault {
         }
     }
 
-    /// The slot that the fault names, if it names one.
+    /// Returns the slot that the fault reports, or `None` if the fault has no slot.
     pub fn slot(self) -> Option<u8>
         ensures value { result ≡ slot_of_fault self }
     {

@@ -1,4 +1,4 @@
-//! Code files and their slots.
+//! Code files and their slots. `slot_fault` of the definitions states which slots are invalid.
 
 ghost use Rattle.std.specs.Prelude.{◌≡◌, ◌+◌, ◌*◌, ◌%◌, ◌<◌, ◌≤◌, ◌↔◌, ℕ, length, option_map, slice_range, IfOk};
 ghost use Rattle.std.specs.Prelude.{IfErr, IfSome, IsOk, OnOk, None, Some};
@@ -13,17 +13,18 @@ use std::marker::Model;
 /// A slot of the dictionary of a code file.
 #[derive(Clone, Copy, Debug, PartialEq, Eq)]
 pub struct Slot {
-    /// The block of the file at which its segment begins.
+    /// The block of the file at which the segment begins.
     pub block: u16,
-    /// The number of bytes in its segment. If it is 0, the slot has no segment.
+    /// The length of the segment in bytes. If it is 0, the slot has no segment.
     pub length: u16,
-    /// Its kind. A slot with a segment can be loaded for any kind.
+    /// The kind of the slot. A segment can be loaded for any kind.
     pub kind: u16,
-    /// Its name of 8 bytes, padded with spaces.
+    /// The name of the segment: 8 bytes, padded with spaces.
     pub name: [u8; 8],
 }
 
-/// A code file, borrowed as its bytes. It has at least 512 bytes and contains the segment of each slot.
+/// A code file, as a borrowed slice of its bytes. The file has at least 512 bytes, and each segment of a slot is inside
+/// it.
 #[derive(Drop)]
 pub struct CodeFile<'a> {
     bytes: &'a [u8],
@@ -40,7 +41,7 @@ impl<'a> Model for CodeFile<'a> {
     ghost invariant = { λ f. IsCodeFile f.bytes.now };
 }
 
-// Returns the reason to refuse slot `n`, if there is one.
+// Returns the fault of slot `n`, or `None` if the slot has no fault.
 #[tactic(auto, unfolding(crate::specs::Dictionary::slot_fault))]
 fn slot_fault(bytes: &[u8], n: u8) -> Option<CodeFault>
     requires dictionary { BLOCK ≤ length bytes.now }
@@ -58,7 +59,7 @@ fn slot_fault(bytes: &[u8], n: u8) -> Option<CodeFault>
     None
 }
 
-// Returns the fault of the first slot that has one.
+// Returns the fault of the first slot that has a fault, or `None` if no slot has one.
 fn first_fault(bytes: &[u8]) -> Option<CodeFault>
     requires dictionary { BLOCK ≤ length bytes.now }
     ensures fault { result ≡ first_slot_fault bytes.now 0 16 }
@@ -73,7 +74,7 @@ fn first_fault(bytes: &[u8]) -> Option<CodeFault>
     None
 }
 
-// Returns the reason to refuse a file, if there is one.
+// Returns the first fault of the file `bytes`, or `None` if it is a code file.
 #[tactic(auto, unfolding(crate::specs::Dictionary::file_fault))]
 fn file_fault(bytes: &[u8]) -> Option<CodeFault>
     ensures fault { result ≡ file_fault bytes.now }
@@ -86,7 +87,7 @@ fn file_fault(bytes: &[u8]) -> Option<CodeFault>
     first_fault(bytes)
 }
 
-// Returns the 8 bytes that begin at offset `place`.
+// Returns the 8 bytes of `bytes` from offset `place` on.
 fn name_at(bytes: &[u8], place: usize) -> [u8; 8]
     requires within { place + 8 ≤ length bytes.now }
     ensures name { result ≡ slice_range bytes.now place (place + 8) }
@@ -97,14 +98,14 @@ fn name_at(bytes: &[u8], place: usize) -> [u8; 8]
 }
 
 impl<'a> CodeFile<'a> {
-    /// Returns the code file with the given bytes. It borrows them.
+    /// Returns the code file that consists of `bytes`, which are borrowed.
     ///
-    /// Block 0 is allowed as the block of a slot, and segments may overlap. Nothing else is checked.
+    /// Block 0 is allowed as the block of a slot, and segments may overlap. Only the conditions below are checked.
     ///
     /// # Errors
     ///
-    /// Checked in this order, for the slots from 0 to 15:
-    /// - `NoDictionary`: there are fewer than 512 bytes.
+    /// The errors are checked in this order, the slots from 0 to 15:
+    /// - `NoDictionary`: the file has fewer than 512 bytes.
     /// - `OddLength`: the length of a slot is odd.
     /// - `SlotPastEnd`: the length of a slot is not 0, and its block times 512 plus its length exceeds the number of
     ///   bytes.
@@ -128,7 +129,7 @@ impl<'a> CodeFile<'a> {
         self.bytes.len()
     }
 
-    /// Returns slot `n` of the dictionary, or None if `n` is above 15.
+    /// Returns slot `n` of the dictionary, or `None` if `n` is above 15.
     #[tactic(auto, unfolding(crate::specs::Dictionary::slot_in, crate::specs::Dictionary::slot_fault))]
     pub fn slot(&self, n: u8) -> Option<Slot>
         ensures slot { result ≡ slot_in self.now n }
@@ -147,7 +148,8 @@ impl<'a> CodeFile<'a> {
         })
     }
 
-    /// Returns the bytes of the segment of slot `n`. Returns None if `n` is above 15 or the length of the slot is 0.
+    /// Returns the bytes of the segment in slot `n`. Returns `None` if `n` is above 15, or if the length of the slot is
+    /// 0.
     #[tactic(auto, unfolding(crate::specs::Dictionary::segment_in, crate::specs::Dictionary::slot_fault))]
     pub fn segment(&self, n: u8) -> Option<&'a [u8]>
         ensures segment { option_map (λ bytes. bytes.now) result ≡ segment_in self.now n }

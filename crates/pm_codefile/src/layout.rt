@@ -1,4 +1,4 @@
-//! Writing code files.
+//! Writing of code files.
 
 ghost use Rattle.std.specs.Prelude.{All, ◌≡◌, ◌+◌, ◌-◌, ◌*◌, ◌%◌, ◌<◌, ◌≤◌, ◌++◌, length, replicate, slice_index_or};
 ghost use Rattle.std.specs.Prelude.{sum, ℕ, [], IfOk, OnOk};
@@ -13,15 +13,14 @@ use std::alloc::{AllocError, Global};
 
 const BLANK: [u8; 8] = [b' '; 8];
 
-/// Returns a code file in the canonical layout. Slot n has `names[n]` as its name and `lengths[n]` as its length in
-/// bytes.
+/// Returns a code file in the canonical layout. Slot n has the name `names[n]` and the length `lengths[n]` in bytes.
 ///
-/// `segments` are the bytes of all segments, joined in the order of the slots. The lengths must add up to the number of
-/// these bytes.
+/// `segments` has the bytes of all segments, joined in the order of the slots. The sum of `lengths` must be the number
+/// of these bytes.
 ///
-/// In the file the segments follow the dictionary in ascending order of their slots. Each begins at the next block and
-/// is padded with zeros to whole blocks. A slot with length 0 gets block 0 and spaces as its name. All kinds are 0. If
-/// all 16 lengths are 0, the file is only the dictionary, 512 bytes.
+/// In the file, the segments follow the dictionary in the order of their slots. Each segment begins at the next block,
+/// and is padded with zeros to whole blocks. A slot with length 0 gets block 0 and a name of spaces. All kinds are 0.
+/// If all 16 lengths are 0, the file is only the dictionary, 512 bytes.
 #[tactic(auto, unfolding(crate::specs::Layout::layout))]
 pub fn write(
     alloc: Global,
@@ -42,7 +41,7 @@ pub fn write(
     Ok(file)
 }
 
-// Appends a word, low byte first.
+// Appends `word` to `file`, the low byte first.
 fn put_word(file: &mut Vec<u8>, word: u16) -> Result<(), AllocError>
     ensures added { OnOk result (file.new.items ≡ file.old.items ++ little_bytes 2 word) }
 {
@@ -51,7 +50,7 @@ fn put_word(file: &mut Vec<u8>, word: u16) -> Result<(), AllocError>
     file.extend_from_slice(&bytes)
 }
 
-// Appends `count` zeros.
+// Appends `count` zeros to `file`.
 fn put_zeros(file: &mut Vec<u8>, count: usize) -> Result<(), AllocError>
     ensures added { OnOk result (file.new.items ≡ file.old.items ++ replicate count 0) }
 {
@@ -69,7 +68,8 @@ fn blocks_for(count: u16) -> u16
     pm_bytes::blocks_for(usize::from(count)) as u16
 }
 
-// Appends the block and the length of a slot with `count` bytes.
+// Appends the block and the length of a slot whose segment has `count` bytes. If `count` is 0, the block is written as
+// 0.
 fn put_pair(file: &mut Vec<u8>, block: u16, count: u16) -> Result<(), AllocError>
     ensures added { OnOk result (file.new.items ≡ file.old.items ++ slot_pair block count) }
 {
@@ -77,7 +77,7 @@ fn put_pair(file: &mut Vec<u8>, block: u16, count: u16) -> Result<(), AllocError
     put_word(file, count)
 }
 
-// Appends the blocks and lengths of the slots.
+// Appends the blocks and the lengths of the slots with the lengths `lengths`. The first segment is at block 1.
 fn put_pairs(file: &mut Vec<u8>, lengths: &[u16]) -> Result<(), AllocError>
     requires few { length lengths.now ≤ 16 }
     ensures added { OnOk result (file.new.items ≡ file.old.items ++ pairs 1 lengths.now) }
@@ -90,7 +90,7 @@ fn put_pairs(file: &mut Vec<u8>, lengths: &[u16]) -> Result<(), AllocError>
     Ok(())
 }
 
-// Appends the name of a slot with `count` bytes.
+// Appends the name of a slot whose segment has `count` bytes. If `count` is 0, the name is written as spaces.
 fn put_name(file: &mut Vec<u8>, name: &[u8; 8], count: u16) -> Result<(), AllocError>
     ensures added { OnOk result (file.new.items ≡ file.old.items ++ name_for name.now count) }
     ensures eight { OnOk result (length name.now ≡ 8) }
@@ -101,7 +101,7 @@ fn put_name(file: &mut Vec<u8>, name: &[u8; 8], count: u16) -> Result<(), AllocE
     file.extend_from_slice(name)
 }
 
-// Appends the names of the slots.
+// Appends the names of the slots with the names `names` and the lengths `lengths`.
 fn put_names(file: &mut Vec<u8>, names: &[[u8; 8]], lengths: &[u16]) -> Result<(), AllocError>
     requires each { length names.now ≡ length lengths.now }
     ensures added { OnOk result (file.new.items ≡ file.old.items ++ names_for names.now lengths.now) }
@@ -113,7 +113,7 @@ fn put_names(file: &mut Vec<u8>, names: &[[u8; 8]], lengths: &[u16]) -> Result<(
     Ok(())
 }
 
-// Appends a segment, padded with zeros to whole blocks.
+// Appends `segment`, padded with zeros to whole blocks.
 fn put_segment(file: &mut Vec<u8>, segment: &[u8]) -> Result<(), AllocError>
     requires size { length segment.now < 65536 }
     ensures added { OnOk result (file.new.items ≡ file.old.items
@@ -124,7 +124,8 @@ fn put_segment(file: &mut Vec<u8>, segment: &[u8]) -> Result<(), AllocError>
     put_zeros(file, BLOCK * pm_bytes::blocks_for(count) - count)
 }
 
-// Appends the segments, each padded with zeros to whole blocks.
+// Appends the segments with the lengths `lengths`, each padded with zeros to whole blocks. `segments` has their joined
+// bytes.
 fn put_segments(file: &mut Vec<u8>, lengths: &[u16], segments: &[u8]) -> Result<(), AllocError>
     requires joined { sum lengths.now ≡ length segments.now }
     ensures added { OnOk result (file.new.items ≡ file.old.items ++ in_blocks lengths.now segments.now) }

@@ -1,4 +1,4 @@
-//! Segments and the tables of their procedures.
+//! Segments, and the attribute tables of their procedures.
 
 ghost use Rattle.std.specs.Prelude.{◌≡◌, ◌+◌, ◌%◌, ◌≤◌, length};
 ghost use Rattle.pm_codefile.specs.Dictionary.{word_in};
@@ -7,7 +7,7 @@ ghost use Rattle.pm_codefile.specs.Segments.{attributes_in, less_or_none, proced
 use crate::table::Attributes;
 use pm_bytes::word;
 
-/// Returns the number of procedures of a segment, which is its last byte. Returns 0 if there are no bytes.
+/// Returns the number of procedures of a segment, which is the last byte of `segment`. Returns 0 if `segment` is empty.
 pub fn procedures(segment: &[u8]) -> u8
     ensures count { result ≡ procedures_in segment.now }
 {
@@ -17,7 +17,8 @@ pub fn procedures(segment: &[u8]) -> u8
     }
 }
 
-// Returns the offset that the self-relative word at offset `place` points to, or None if it is below 0.
+// Returns the offset to which the word at offset `place` points: `place` less this word. Returns `None` if the result
+// would be below 0.
 fn self_relative(segment: &[u8], place: u16) -> Option<u16>
     requires within { place + 2 ≤ length segment.now }
     ensures place { result ≡ less_or_none place (word_in segment.now place) }
@@ -25,17 +26,17 @@ fn self_relative(segment: &[u8], place: u16) -> Option<u16>
     place.checked_sub(word(segment, usize::from(place)))
 }
 
-/// Returns the table of procedure `procedure` of a segment. The segment must have an even number of bytes, at most
-/// 65,534.
+/// Returns the attribute table of procedure `procedure` of `segment`. The segment must have an even number of bytes, at
+/// most 65,534.
 ///
-/// Returns None unless all of these conditions are true:
+/// Returns `None` unless all of these conditions are true:
 ///
-/// - `procedure` is from 1 to the procedure count of the segment.
-/// - The table lies in the segment, at an even offset.
-/// - The offsets of the first instruction and of the exit code are at most `jtab` - 8, where `jtab` is the offset of
+/// - `procedure` is from 1 to the number of procedures of the segment.
+/// - The table is inside the segment, at an even offset.
+/// - The offsets of the first instruction and of the exit code are from 0 to `jtab` - 8, where `jtab` is the offset of
 ///   the table.
 ///
-/// An offset below 0 is not in the segment. The number in the table, the sizes and the jump entries are not checked.
+/// The number in the table, the sizes and the jump entries are not checked.
 #[tactic(auto, unfolding(crate::specs::Segments::attributes_in))]
 pub fn attributes(segment: &[u8], procedure: u8) -> Option<Attributes>
     requires even { length segment.now % 2 ≡ 0 }

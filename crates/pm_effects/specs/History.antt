@@ -1,5 +1,5 @@
--- The stack effects that instructions had on the historical machine, for instructions that cause error 11 on this
--- machine. A real number has two words. No law of this machine is about these effects.
+-- The stack effects on the historical machine, of instructions that cause error 11 on this machine. A real number has
+-- two words. No law of this machine is about these effects.
 use Rattle.std.specs.Prelude.{ℕ, List, [], ◌∷◌, ◌==◌, Option, Some, None}
 use Rattle.std.specs.Map.{lookup}
 use Rattle.std.specs.Option.{option_or}
@@ -12,8 +12,8 @@ use Rattle.pm_opcode.specs.Operations.{operation_of}
 use Rattle.pm_effects.specs.declared.effect.Effect.{Effect}
 use Rattle.pm_effects.specs.Effects.{effect_of, words}
 
--- By opcode: ABR, ADR, DVR, FLO, FLT, MPR, NGR, SBR, SQR, LDE, LAE, STE. FLO converts the integer below a real number
--- to a real number.
+-- The effects of opcodes: ABR, ADR, DVR, FLO, FLT, MPR, NGR, SBR, SQR, LDE, LAE and STE, in the order of the opcodes.
+-- FLO converts the integer below a real number to a real number.
 unfoldable pub opcode_effects : List (ℕ × Effect)
 opcode_effects =
     (129, words 2 2) ∷
@@ -30,7 +30,7 @@ opcode_effects =
     (209, words 1 0) ∷
     []
 
--- Standard procedures by number: TRUNC and ROUND; SIN, COS, LOG, ATAN, LN, EXP, SQRT; the power of ten.
+-- The effects of standard procedures: TRUNC and ROUND; SIN, COS, LOG, ATAN, LN, EXP and SQRT; and the power of ten.
 unfoldable pub standard_effects : List (ℕ × Effect)
 standard_effects =
     (23, words 2 1) ∷
@@ -51,13 +51,14 @@ opcode_effect op = lookup (λ m. m == op) opcode_effects
 unfoldable pub standard_effect : ℕ → Option Effect
 standard_effect n = lookup (λ m. m == n) standard_effects
 
--- A comparison of real numbers takes two of them.
+-- The historical effect of an instruction that this machine does not execute. A comparison of real numbers pops two of
+-- them, which are four words.
 abbrev pub historical_effect : Operation → ℕ → Option Effect
 historical_effect (operation.Value (value.Compare r kind.Real)) op = Some (words 4 1)
 historical_effect (operation.Standard n) op = standard_effect n
 historical_effect operation.Unimplemented op = opcode_effect op
 historical_effect _ op = None
 
--- The stack effect of an instruction: that of this machine, or else that of the historical machine.
+-- The stack effect of instruction `i` on this machine or, if this machine defines none, on the historical machine.
 abbrev pub instruction_effect : Instr → Option Effect
 instruction_effect i = option_or (effect_of (operation_of i)) (historical_effect (operation_of i) i.op)

@@ -1,21 +1,22 @@
-//! Shares of the stack.
+//! Stack effects: what an operation pops from the stack and what it pushes. A *share* is an amount of the stack: a
+//! number of words, or one set.
 
-/// A part of the stack that an operation takes or leaves.
+/// An amount of the stack that an operation pops or pushes.
 #[derive(Clone, Copy)]
 pub enum Share {
-    /// This number of words.
+    /// The given number of words.
     Words(u16),
-    /// A set: a word with its size in words, and below it that many words.
+    /// A set: the count of its words on top, and the words below the count.
     Set,
 }
 
-/// What an operation takes from the stack and leaves there.
+/// The stack effect of an operation: what it pops from the stack and what it pushes.
 #[derive(Clone, Copy)]
 pub struct Effect {
-    /// What it takes at the top of the stack.
+    /// What the operation pops first, from the top of the stack.
     pub top: Share,
-    /// What it takes below that.
+    /// What the operation pops after `top`.
     pub below: Share,
-    /// What it leaves.
+    /// What the operation pushes.
     pub leaves: Share,
 }

@@ -1,5 +1,4 @@
-//! The stack effects that instructions had on the historical machine, for instructions that cause error 11 on this
-//! machine.
+//! The stack effects on the historical machine, of instructions that cause error 11 on this machine.
 
 ghost use Rattle.std.specs.Prelude.{◌≡◌};
 ghost use Rattle.pm_effects.specs.History as history;
@@ -9,7 +8,8 @@ use crate::table::{effect_of, words};
 use pm_families::{Kind, Value};
 use pm_opcode::{Instr, Operation};
 
-/// Returns the effect of an opcode for real numbers, which have two words, or for variables of other segments.
+/// Returns the historical stack effect of the opcode `op`, if it is for real numbers, which have two words, or for
+/// variables of other segments. Otherwise returns `None`.
 #[tactic(auto, unfolding(crate::specs::History::opcode_effect, crate::specs::History::opcode_effects))]
 fn of_opcode(op: u8) -> Option<Effect>
     ensures value { result ≡ history.opcode_effect op }
@@ -25,7 +25,8 @@ fn of_opcode(op: u8) -> Option<Effect>
     }
 }
 
-/// Returns the effect of a standard procedure by its number: the functions on real numbers, and the power of ten.
+/// Returns the historical stack effect of the standard procedure `number`, if it is a function on real numbers or the
+/// power of ten. Otherwise returns `None`.
 #[tactic(auto, unfolding(crate::specs::History::standard_effect, crate::specs::History::standard_effects))]
 fn of_standard(number: u8) -> Option<Effect>
     ensures value { result ≡ history.standard_effect number }
@@ -38,7 +39,8 @@ fn of_standard(number: u8) -> Option<Effect>
     }
 }
 
-/// Returns the historical effect of an instruction that this machine does not execute.
+/// Returns the historical stack effect of an instruction with the operation `what` and the opcode `op`, if this machine
+/// does not execute it. Otherwise returns `None`.
 fn historical_effect(what: Operation, op: u8) -> Option<Effect>
     ensures value { result ≡ history.historical_effect what op }
 {
@@ -50,10 +52,10 @@ fn historical_effect(what: Operation, op: u8) -> Option<Effect>
     }
 }
 
-/// Returns the stack effect of an instruction. It is that of this machine or, if this machine has none, that of the
-/// historical machine.
+/// Returns the stack effect of instruction `i` on this machine or, if this machine defines none, on the historical
+/// machine.
 ///
-/// Returns `None` for calls, for `IDSEARCH` and `TREESEARCH`, for standard procedures with other numbers, and for
+/// Returns `None` for calls, for `IDSEARCH` and `TREESEARCH`, for standard procedures without a definition, and for
 /// opcodes that are not assigned.
 pub fn instruction_effect(i: &Instr) -> Option<Effect>
     ensures value { result ≡ history.instruction_effect i.now }

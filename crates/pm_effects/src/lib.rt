@@ -1,4 +1,4 @@
-//! The stack effects of instructions: how many words each instruction takes from the stack, and how many it leaves.
+//! The stack effects of instructions: how many words each instruction pops from the stack, and how many it pushes.
 #![tactic(auto)]
 
 mod effect;

@@ -1,4 +1,4 @@
-//! The stack effects of operations.
+//! The stack effects of operations on this machine.
 
 ghost use Rattle.std.specs.Prelude.{◌≡◌, ◌<◌, ◌≤◌};
 ghost use Rattle.pm_effects.specs.Effects as effects;
@@ -9,7 +9,7 @@ use pm_families::{
 };
 use pm_opcode::Operation;
 
-/// Returns the effect of taking `takes` words and leaving `leaves` words.
+/// Returns the effect of an operation that pops `takes` words and pushes `leaves` words.
 pub fn words(takes: u16, leaves: u16) -> Effect
     ensures value { result ≡ effects.words takes leaves }
 {
@@ -20,7 +20,7 @@ pub fn words(takes: u16, leaves: u16) -> Effect
     }
 }
 
-/// Returns the effect of taking `takes` words and leaving a set.
+/// Returns the effect of an operation that pops `takes` words and pushes a set.
 fn makes_set(takes: u16) -> Effect
     ensures value { result ≡ effects.makes_set takes }
 {
@@ -31,7 +31,7 @@ fn makes_set(takes: u16) -> Effect
     }
 }
 
-/// Returns the effect of taking a set and the share `below` it, and leaving `leaves`.
+/// Returns the effect of an operation that pops a set and then `below`, and pushes `leaves`.
 fn takes_set(below: Share, leaves: Share) -> Effect
     ensures value { result ≡ effects.takes_set below leaves }
 {
@@ -139,10 +139,10 @@ fn of_jump(what: Jump) -> Effect
     }
 }
 
-/// Returns the stack effect of a standard procedure by its number. Returns `None` for a number that causes error 11 on
-/// this machine.
+/// Returns the stack effect of the standard procedure `number`. Returns `None` if this machine has no such procedure
+/// (error 11).
 ///
-/// For `EXIT` (4), and for the procedures that load and unload a segment (21, 22), the effect is what is taken from the
+/// For `EXIT` (4), and for the procedures that load and unload a segment (21, 22), the effect is what they pop from the
 /// caller's stack.
 pub fn standard_effect(number: u8) -> Option<Effect>
     ensures value { result ≡ effects.standard_effect number }
@@ -161,8 +161,8 @@ pub fn standard_effect(number: u8) -> Option<Effect>
     }
 }
 
-/// Returns the stack effect of an operation. Returns `None` for a call, and for operations that cause error 11 on this
-/// machine.
+/// Returns the stack effect of the operation `what`. Returns `None` for a call, and for an operation that causes error
+/// 11 on this machine.
 pub fn effect_of(what: Operation) -> Option<Effect>
     ensures value { result ≡ effects.effect_of what }
 {

@@ -1,4 +1,4 @@
--- Names that come back, and the worked examples, computed.
+-- The laws of names, and the worked examples, computed by the checker.
 use Rattle.std.proofs.Common.{◌≡◌, ℕ, All, Bool, true, false, List, [], ◌∷◌, ◌++◌, refl, ap, ◌∙◌, sym, arith}
 use Rattle.std.specs.Prelude.{◌==◌, codes, if◌then◌else◌}
 use Rattle.std.specs.Str.{bytes_eq}

@@ -1,4 +1,4 @@
--- Counting the files with a name.
+-- Laws of counting the files that have a name.
 use Rattle.std.proofs.Common.{◌≡◌, ◌+◌, ◌-◌, ℕ, zero, suc, Bool, true, false, List, ◌∷◌, length, take, refl, arith}
 use Rattle.std.specs.Prelude.{if◌then◌else◌, nat_lt}
 use Rattle.std.proofs.lemmas.Bool.Decides.{nat_tests}
@@ -11,7 +11,8 @@ one-more : (b : Bool) (e : Entry) (files : List Entry)
 one-more true e files = omega arith
 one-more false e files = omega arith
 
--- the first of some files and those after it
+-- The number of the first `left` entries with a name is the count for the first entry plus the number of the first
+-- `left - 1` entries after it.
 pub counted_first : (name : List ℕ) (left : ℕ) (e : Entry) (rest : List Entry)
     → counted left name e + length (filter (has_name name) (take (left - 1) rest))
     ≡ length (filter (has_name name) (take left (e ∷ rest)))

@@ -1,4 +1,4 @@
--- A text with other line ends, from a position on.
+-- Laws of a text with other line ends, from a position on.
 use Rattle.std.proofs.Common.{◌≡◌, ◌++◌, ◌+◌, ◌<◌, ◌≤◌, ℕ, zero, suc, List, [], ◌∷◌, drop, length, get_or, refl, arith}
 use Rattle.std.proofs.Common.{append_assoc, add-one}
 use Rattle.std.proofs.Math.Seq.{drop-cons}

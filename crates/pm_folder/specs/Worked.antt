@@ -1,4 +1,4 @@
--- What the names and lines of a folder are: laws, and worked examples.
+-- Laws and worked examples of the names and lines of a folder.
 use Rattle.std.specs.Prelude.{◌≡◌, ℕ, ◌<◌, All, true, false, List, [], ◌∷◌, ◌++◌, None, Some, codes, map}
 use Rattle.std.specs.Fmt.{decimal}
 use Rattle.percent_encoding.specs.AsciiSet.{should_percent_encode}
@@ -10,9 +10,9 @@ use Rattle.pm_folder.specs.declared.contents.Ends.TheVariants as ends
 use Rattle.pm_folder.specs.declared.contents.How.TheVariants as how
 use Rattle.pm_folder.specs.declared.names.TheConstants.{HOSTED, LISTED}
 
--- A name of bytes comes back if the escapes of its form in LIST, or in the folder, are replaced by their bytes. So two
--- names have the same form only if they are equal. The examples are: the bytes that are replaced, at the limits;
--- names in the folder, of the first, the second and the third file with a name; line ends; and kinds.
+-- If the escapes in the form of a name in LIST, or in the folder, are replaced by their bytes, the result is the name.
+-- So two names have the same form only if they are equal. The examples are: the bytes that are replaced, at the limits;
+-- names in the folder of the first, the second and the third file with a name; line ends; and kinds.
 pub record WorkedFolders : Type 0 where
   pub listed_back : (name : List ℕ) → All (λ b. b < 256) name → percent_decode (listed_name name) ≡ name
   pub hosted_back : (name : List ℕ) → All (λ b. b < 256) name → percent_decode (plain_host name) ≡ name

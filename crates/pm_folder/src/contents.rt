@@ -1,4 +1,4 @@
-//! What the files of a folder contain.
+//! The contents of the files that are written to a folder.
 ghost use Rattle.std.specs.Prelude.{◌≡◌, ◌++◌, [], IfOk, OnOk, unwrap_or};
 ghost use Rattle.pm_folder.specs.Contents.{byte_with_ends, content_of, how_of, is_text, with_ends};
 ghost use Rattle.pm_volume.specs.Files.{file_bytes};
@@ -7,30 +7,30 @@ use pm_textfile::{TextFault, decode};
 use pm_volume::{Entry, Volume, kinds};
 use std::alloc::{AllocError, Global};
 
-/// How the lines of a text end.
+/// The line ends of a text.
 #[derive(Clone, Copy)]
 pub enum Ends {
-    /// With byte 10.
+    /// Each line ends with byte 10.
     Lf,
-    /// With bytes 13 and 10.
+    /// Each line ends with the bytes 13 and 10.
     CrLf,
-    /// With byte 13.
+    /// Each line ends with byte 13.
     Cr,
 }
 
-/// How a file is written.
+/// The form in which a file of a volume is written to the folder.
 #[derive(Clone, Copy)]
 pub enum How {
-    /// Its text.
+    /// The text of the file is written.
     Text,
-    /// Its bytes.
+    /// The bytes of the file are written unchanged.
     Bytes,
 }
 
 /// The length of the header of a text file in bytes.
 const HEADER: usize = 1024;
 
-/// Appends a byte of a text, with other line ends.
+/// Appends the character `byte` of a text to `text`. If `byte` is 10, appends the line end `ends` instead.
 fn push_byte(text: &mut Vec<u8>, ends: Ends, byte: u8) -> Result<(), AllocError>
     ensures text { OnOk result (text.new.items ≡ text.old.items ++ byte_with_ends ends byte) }
 {
@@ -42,7 +42,7 @@ fn push_byte(text: &mut Vec<u8>, ends: Ends, byte: u8) -> Result<(), AllocError>
     Ok(())
 }
 
-/// Returns a text with other line ends.
+/// Returns the text `text` with the line ends `ends` instead of byte 10.
 fn with_ends(alloc: Global, text: &[u8], ends: Ends) -> Result<Vec<u8>, AllocError>
     ensures text { IfOk result (λ bytes. bytes.items ≡ with_ends ends text.now) }
 {
@@ -53,21 +53,22 @@ fn with_ends(alloc: Global, text: &[u8], ends: Ends) -> Result<Vec<u8>, AllocErr
     Ok(bytes)
 }
 
-/// Returns the bytes of a file on its volume.
+/// Returns the bytes of the file of `entry` on `volume`.
 pub(crate) fn stored<'a>(volume: &'a Volume, entry: &Entry) -> &'a [u8]
     ensures bytes { result.now ≡ unwrap_or (file_bytes volume.now entry.now) [] }
 {
     volume.file(entry).unwrap_or(&[])
 }
 
-/// Whether bytes are written as a text.
+/// Returns whether a file with the kind `kind` and the bytes `bytes` is written as a text. `text` has the line ends, or
+/// is `None` if no file is written as a text.
 fn is_text(text: Option<Ends>, kind: u8, bytes: &[u8]) -> bool
     ensures text { result ≡ is_text text kind bytes.now }
 {
     text.is_some() && kind == kinds::TEXT && HEADER <= bytes.len()
 }
 
-/// Returns how the bytes of a file are written.
+/// Returns the form in which a file with the kind `kind` and the bytes `bytes` is written.
 pub(crate) fn how_of(text: Option<Ends>, kind: u8, bytes: &[u8]) -> How
     ensures how { result ≡ how_of text kind bytes.now }
 {
@@ -78,7 +79,8 @@ pub(crate) fn how_of(text: Option<Ends>, kind: u8, bytes: &[u8]) -> How
     }
 }
 
-/// Returns what is written of the bytes of a file.
+/// Returns the contents that are written for a file with the kind `kind` and the bytes `bytes`. `text` has the line
+/// ends of texts, or is `None` if no file is written as a text.
 pub(crate) fn content_of(
     alloc: Global,
     text: Option<Ends>,

@@ -1,4 +1,4 @@
-//! The files of a folder, and the lines of its file `LIST`.
+//! The files that a folder gets for a volume, and the lines of its file `LIST`.
 ghost use Rattle.std.specs.Prelude.{◌≡◌, ◌++◌, ◌<◌, ◌≤◌, IfOk, OnOk, map, string_bytes};
 ghost use Rattle.pm_folder.specs.Folder.{counted, file_line, first_line, folder_of, has_name, host_file, host_of};
 ghost use Rattle.pm_folder.specs.Folder.{how_text, if_wanted, is_wanted, kind_text, same_before, seen};
@@ -9,29 +9,30 @@ use pm_filer::{DateWord, fits, kind_word};
 use pm_volume::{Entry, Volume};
 use std::alloc::{AllocError, Global};
 
-/// Which files of a volume a folder gets.
+/// The files of a volume that the folder gets.
 #[derive(Drop)]
 pub enum Wanted {
-    /// All of them.
+    /// All files.
     All,
-    /// Those whose names match this pattern, in which `=` matches any characters.
+    /// The files whose names match this pattern, in which `=` matches any characters.
     Matching(String),
-    /// The file of this slot.
+    /// The file in this slot.
     Slot(u16),
 }
 
-/// A file of a folder.
+/// A file of the folder.
 #[derive(Drop)]
 pub struct FolderFile {
-    /// Its name in the folder.
+    /// The name of the file in the folder.
     pub host: String,
-    /// Its contents.
+    /// The contents of the file.
     pub contents: Vec<u8>,
-    /// Its line in `LIST`.
+    /// The line of the file in `LIST`.
     pub line: String,
 }
 
-/// Returns the first line of `LIST`: `volume`, the volume's name, its number of blocks and its last date.
+/// Returns the first line of `LIST`: the word `volume`, then the name of the volume, its number of blocks and its last
+/// date.
 #[tactic(auto, unfolding(crate::specs::Folder::first_line))]
 pub fn first_line(alloc: Global, volume: &Volume) -> Result<String, AllocError>
     ensures line { IfOk result (λ line. string_bytes line ≡ first_line volume.now) }
@@ -45,7 +46,7 @@ pub fn first_line(alloc: Global, volume: &Volume) -> Result<String, AllocError>
     Ok(line)
 }
 
-/// Appends a kind.
+/// Appends the word for the kind `kind` to `text`, or its number if it has no word.
 fn push_kind(text: &mut String, kind: u8) -> Result<(), AllocError>
     ensures text { OnOk result (string_bytes text.new ≡ string_bytes text.old ++ kind_text kind) }
 {
@@ -56,7 +57,7 @@ fn push_kind(text: &mut String, kind: u8) -> Result<(), AllocError>
     Ok(())
 }
 
-/// Returns the word of `LIST` for how a file is written.
+/// Returns the word of `LIST` for the form in which a file is written.
 fn how_text(how: How) -> &'static str
     ensures text { result.now ≡ how_text how }
 {
@@ -66,7 +67,7 @@ fn how_text(how: How) -> &'static str
     }
 }
 
-/// Returns the line of a file in `LIST`.
+/// Returns the line in `LIST` of the file in slot `slot`, whose name in the folder is `host`.
 #[tactic(auto, unfolding(crate::specs::Folder::file_line))]
 fn file_line(
     alloc: Global,
@@ -88,14 +89,15 @@ fn file_line(
     Ok(line)
 }
 
-/// Whether a file has a name, in the same case.
+/// Returns whether the file of `entry` has the name `name`. Upper and lower case differ.
 fn has_name(entry: &Entry, name: &[u8]) -> bool
     ensures named { result ≡ has_name name.now entry.now }
 {
     entry.characters() == name
 }
 
-/// Returns 1 if a file is counted: it is one of the first `left` files, and has a name.
+/// Returns 1 if the file of `entry` has the name `name` and `left` is above 0. Otherwise returns 0. `left` is the
+/// number of files that are still to be examined.
 fn counted(left: u16, name: &[u8], entry: &Entry) -> u16
     ensures count { result ≡ counted left name.now entry.now }
 {
@@ -106,7 +108,7 @@ fn counted(left: u16, name: &[u8], entry: &Entry) -> u16
     }
 }
 
-/// Returns how many files before a slot have a name.
+/// Returns how many files in slots before `slot` have the name `name`.
 #[tactic(auto, using(crate::proofs::Counting::counted_first))]
 fn same_before(volume: &Volume, slot: u16, name: &[u8]) -> u16
     ensures count { result ≡ same_before volume.now slot name.now }
@@ -122,7 +124,7 @@ fn same_before(volume: &Volume, slot: u16, name: &[u8]) -> u16
     count
 }
 
-/// Returns the name in the folder of the file of a slot.
+/// Returns the name in the folder of the file in slot `slot`, which has the entry `entry`.
 fn host_of(alloc: Global, volume: &Volume, slot: u16, entry: &Entry) -> Result<String, AllocError>
     ensures host { IfOk result (λ host. string_bytes host ≡ host_of volume.now slot entry.now) }
 {
@@ -132,7 +134,7 @@ fn host_of(alloc: Global, volume: &Volume, slot: u16, entry: &Entry) -> Result<S
     Ok(host)
 }
 
-/// Returns the file of a slot.
+/// Returns the folder's file for the file in slot `slot`, which has the entry `entry`.
 #[tactic(auto, unfolding(crate::specs::Folder::host_file))]
 fn host_file(
     alloc: Global,
@@ -155,7 +157,7 @@ fn host_file(
     })
 }
 
-/// Whether the file of a slot is wanted.
+/// Returns whether `wanted` selects the file in slot `slot` with the name `name`.
 fn is_wanted(wanted: &Wanted, slot: u16, name: &[u8]) -> bool
     ensures wanted { result ≡ is_wanted wanted.now slot name.now }
 {
@@ -166,7 +168,7 @@ fn is_wanted(wanted: &Wanted, slot: u16, name: &[u8]) -> bool
     }
 }
 
-/// Appends the file of a slot if it is wanted.
+/// Appends the folder's file for the file in slot `slot` to `files` if `wanted` selects it.
 fn push_wanted(
     alloc: Global,
     files: &mut Vec<FolderFile>,
@@ -186,9 +188,9 @@ fn push_wanted(
     Ok(())
 }
 
-/// Returns the files of the folder of a volume, in the order of their slots: those that are wanted.
-/// With `text`, files of kind text that have a header are written as plain text with these line ends. No file is
-/// `LIST`.
+/// Returns the files that the folder gets for the files of `volume` that `wanted` selects, in the order of their slots.
+/// If `text` has line ends, files of the kind text that have a header are written as plain text with these line ends.
+/// No file of the folder has the name `LIST`.
 pub fn folder_of(
     alloc: Global,
     volume: &Volume,

@@ -1,4 +1,5 @@
-//! A volume as a folder of files: how its files are named there, what they contain, and the lines of the file `LIST`.
+//! A volume as a folder of files: the names of the files in the folder, their contents, and the lines of the file
+//! `LIST`.
 #![tactic(auto)]
 
 mod contents;

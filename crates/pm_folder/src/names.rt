@@ -1,27 +1,27 @@
-//! How the files of a volume are named in a folder.
+//! The names that the files of a volume get in a folder.
 ghost use Rattle.std.specs.Prelude.{◌≡◌, ◌++◌, ◌<◌, OnOk, string_bytes};
 ghost use Rattle.pm_folder.specs.Names.{dotless, host_name, listed_name, plain_host};
 
 use percent_encoding::{AsciiSet, CONTROLS, ascii_set, percent_encode};
 use std::alloc::AllocError;
 
-/// The ASCII characters that are replaced in a name in `LIST`.
+/// The ASCII characters that are escaped in a name in `LIST`, as `%` and two hexadecimal digits.
 pub const LISTED: AsciiSet = ascii_set!(CONTROLS.add(b' ').add(b'%'));
 
-/// The ASCII characters that are replaced in the name of a file of the folder.
+/// The ASCII characters that are escaped in the name of a file of the folder, as `%` and two hexadecimal digits.
 pub const HOSTED: AsciiSet = ascii_set!(CONTROLS.add(b' ').add(b'%').add(b'/'));
 
-/// The name of the list of the files in a folder.
+/// The name of the file in the folder that lists the other files.
 const LIST: &str = "LIST";
 
-/// Appends a name as `LIST` has it.
+/// Appends `name` to `text`, escaped as in `LIST`.
 pub(crate) fn push_listed(text: &mut String, name: &[u8]) -> Result<(), AllocError>
     ensures text { OnOk result (string_bytes text.new ≡ string_bytes text.old ++ listed_name name.now) }
 {
     percent_encode(name, LISTED).append_to(text)
 }
 
-/// Appends a name without a full stop at its start.
+/// Appends `name` to `text`, escaped as in the folder. A full stop at the start is escaped too.
 fn push_dotless(text: &mut String, name: &[u8]) -> Result<(), AllocError>
     ensures text { OnOk result (string_bytes text.new ≡ string_bytes text.old ++ dotless name.now) }
 {
@@ -36,7 +36,7 @@ fn push_dotless(text: &mut String, name: &[u8]) -> Result<(), AllocError>
     }
 }
 
-/// Appends the name in the folder of the first file with a name.
+/// Appends the name in the folder of the first file with the name `name` to `text`.
 fn push_plain(text: &mut String, name: &[u8]) -> Result<(), AllocError>
     ensures text { OnOk result (string_bytes text.new ≡ string_bytes text.old ++ plain_host name.now) }
 {
@@ -47,7 +47,8 @@ fn push_plain(text: &mut String, name: &[u8]) -> Result<(), AllocError>
     }
 }
 
-/// Appends the name in the folder of a file that comes after `before` files with the same name.
+/// Appends to `text` the name in the folder of a file with the name `name` that follows `before` files with the same
+/// name.
 pub(crate) fn push_host(text: &mut String, before: u16, name: &[u8]) -> Result<(), AllocError>
     requires few { before < 65535 }
     ensures text { OnOk result (string_bytes text.new ≡ string_bytes text.old ++ host_name before name.now) }

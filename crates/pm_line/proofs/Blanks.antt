@@ -1,4 +1,4 @@
--- Words between spaces and tabs.
+-- Laws of words, which spaces and tabs separate.
 use Rattle.std.proofs.Common.{◌≡◌, ◌<◌, ◌≤◌, ℕ, Bool, true, false, not, List, [], ◌∷◌, length, refl, ap, sym, ◌∙◌, arith, if◌then◌else◌}
 use Rattle.std.specs.List.{onto_first}
 use Rattle.pm_source.specs.Words.{cut_word, ends_word, is_blank, onto_word, unindented, words}
@@ -12,7 +12,7 @@ unindented_twice (c ∷ cs) = go (is_blank c) refl (unindented_twice cs)
     go true e more = rw e more
     go false e more = rw e (rw e refl)
 
--- Leading spaces and tabs do not change the words.
+-- If leading spaces and tabs are removed, the words of a text do not change.
 pub words_unindented : (cs : List ℕ) → words (unindented cs) ≡ words cs
 words_unindented [] = refl
 words_unindented (c ∷ cs) = go (is_blank c) refl (words_unindented cs)
@@ -24,7 +24,7 @@ words_unindented (c ∷ cs) = go (is_blank c) refl (words_unindented cs)
 words_after_blank : (d : ℕ) (ds : List ℕ) → is_blank d ≡ true → words (d ∷ ds) ≡ words ds
 words_after_blank d ds e = rw e refl
 
--- The first word and the other words.
+-- If a text begins with the character `c` of a word, then its words are its first word and the words of the rest.
 pub words_first : (c : ℕ) (cs : List ℕ) → is_blank c ≡ false → words (c ∷ cs) ≡ (cut_word (c ∷ cs)).word ∷ words (cut_word (c ∷ cs)).rest
 words_first c [] e = rw e refl
 words_first c (d ∷ ds) e = go (is_blank d) refl (words_first d ds)
@@ -63,7 +63,7 @@ solid_is_no_blank false h = refl
 not_shorter : (xs ys : List ℕ) → xs ≡ ys → length xs < length ys → ⊥
 not_shorter xs ys e h = omega (arith, ap length e, h)
 
--- The first word and the other words of a text that begins with a word.
+-- If a text begins with a word, then its words are this word and the words of the rest without leading spaces.
 pub words_at_once : (cs : List ℕ) → begins_solid cs ≡ true → words cs ≡ (cut_word cs).word ∷ words (unindented (cut_word cs).rest)
 words_at_once [] h = absurd (cc)
 words_at_once (c ∷ cs) h =
@@ -75,7 +75,7 @@ shorter_behind (c ∷ cs) h =
     let solid : is_blank c ≡ false = solid_is_no_blank (is_blank c) h in
     rw solid (omega (arith, unindented_shorter (cut_word cs).rest, cut_shorter cs))
 
--- After leading spaces and tabs are removed, a text is empty or begins with a word.
+-- If a text is not empty and has no leading spaces and tabs, then it begins with a word.
 pub solid_if_left : (cs : List ℕ) → unindented cs ≡ cs → 0 < length cs → begins_solid cs ≡ true
 solid_if_left [] e some = absurd (omega (arith, some))
 solid_if_left (c ∷ cs) e some = go (is_blank c) refl

@@ -1,4 +1,4 @@
--- Too few or too many operands are malformed.
+-- If an instruction or a directive has too few or too many operands, then the operands are malformed.
 use Rattle.std.proofs.Common.{◌≡◌, ℕ, ◌<◌, List, [], ◌∷◌, length, None, Some, refl, arith, Bor}
 use Rattle.std.proofs.lemmas.List.{length-map}
 use Rattle.pm_source.specs.Line.{byte_and_number, byte_operand, case_jump, entry_operands, one_comparison, one_jump, one_long_number, one_number}

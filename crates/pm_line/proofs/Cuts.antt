@@ -1,4 +1,4 @@
--- Pieces, character by character.
+-- Laws of cutting a text into pieces, character by character.
 use Rattle.std.proofs.Common.{◌≡◌, ℕ, ◌+◌, ◌<◌, ◌≤◌, Bool, false, not, List, [], ◌∷◌, length, take, drop, get_or, ap, sym, ◌∙◌, if◌then◌else◌}
 use Rattle.std.specs.Prelude.{◌&&◌, ◌==◌}
 use Rattle.std.specs.List.{onto_first}
@@ -10,7 +10,7 @@ use Rattle.pm_line.proofs.Onto.{onto_end, onto_next}
 pieces_on : (q : Bool) (c : ℕ) (cs : List ℕ) → ((c == 44) && not q) ≡ false → pieces q (c ∷ cs) ≡ onto_first c (pieces (if c == 34 then not q else q) cs)
 pieces_on q c cs h = ap (λ b. if b then [] ∷ pieces q cs else onto_first c (pieces (if c == 34 then not q else q) cs)) h
 
--- A character of the piece.
+-- If character `i` is not a comma outside quotes, then it belongs to the first piece.
 pub piece_on : (text : List ℕ) (i : ℕ) (q : Bool) → i < length text → ((get_or text i 0 == 44) && not q) ≡ false
     → onto_piece (take (i + 1) text) (pieces (if get_or text i 0 == 34 then not q else q) (drop (i + 1) text))
     ≡ onto_piece (take i text) (pieces q (drop i text))
@@ -21,7 +21,7 @@ piece_on text i q h n =
     ∙ ap (onto_piece (take i text)) (sym (pieces_on q c (drop (i + 1) text) n))
     ∙ ap (λ cs. onto_piece (take i text) (pieces q cs)) (sym (drop_more text i 0 h))
 
--- The comma after the piece.
+-- If character `i` is a comma outside quotes, then the first piece is the characters before it.
 pub piece_ends : (text : List ℕ) (i : ℕ) → i < length text → get_or text i 0 ≡ 44
     → onto_piece (take i text) (pieces false (drop i text)) ≡ take i text ∷ pieces false (drop (i + 1) text)
 piece_ends text i h e =
@@ -29,7 +29,7 @@ piece_ends text i h e =
     ∙ ap (λ c. onto_piece (take i text) (pieces false (c ∷ drop (i + 1) text))) e
     ∙ onto_end (take i text) (pieces false (drop (i + 1) text))
 
--- No comma after the piece.
+-- If no character remains, then the whole text is the first piece.
 pub piece_whole : (text : List ℕ) (i : ℕ) (q : Bool) → length text ≤ i → onto_piece (take i text) (pieces q (drop i text)) ≡ text ∷ []
 piece_whole text i q h =
     ap (λ cs. onto_piece (take i text) (pieces q cs)) (drop_all i text h)

@@ -1,4 +1,4 @@
--- The lines that end a procedure.
+-- A line ends a procedure if and only if its first word is `.END`.
 use Rattle.std.proofs.Common.{◌≡◌, ℕ, Bool, true, false, List, [], ◌∷◌, refl, sym, ap, ◌∙◌, subst, Option, Some, None}
 use Rattle.std.specs.Prelude.{codes, if◌then◌else◌}
 use Rattle.std.specs.List.{list_all}
@@ -19,7 +19,7 @@ use Rattle.pm_source.specs.Line.{size_operand, slot_operand, spoken, uncommented
 use Rattle.pm_source.specs.Line.Keyword.{OfSegment, OfProcedure, OfExit, OfJump, OfEnd, OfBytes, Mnemonic}
 use Rattle.pm_source.specs.Line.Line.{Wrong}
 
--- Whether the parsed statement is the end of a procedure.
+-- States that the parsed statement, if any, is the end of a procedure if and only if `b` is true.
 abbrev OperandEnds : Bool → Operand Statement → Type 0
 OperandEnds b None = Unit {0}
 OperandEnds b (Some x) = is_end x.0 ≡ b
@@ -102,7 +102,7 @@ labelled_ends n label rest (c ∷ cs) = by (keyword_of (c ∷ cs))
     by None = refl
     by (Some keyword) = named_ends (is_name label) _ (saying_ends false _ (code_ends n (Some label) (items_said keyword rest)))
 
--- A keyword ends a procedure if the word is `.END`.
+-- A keyword that is a mnemonic does not end a procedure.
 mnemonic_ends : (op : Option ℕ) → keyword_is_end (mnemonic_keyword op) ≡ false
 mnemonic_ends None = refl
 mnemonic_ends (Some op) = refl

@@ -1,4 +1,4 @@
--- The characters between quotes, one after another.
+-- Laws of the characters between quotes, one character after the other.
 use Rattle.std.proofs.Common.{◌≡◌, ◌<◌, ◌≤◌, ◌-◌, ◌+◌, ℕ, true, false, List, [], ◌∷◌, ◌++◌, length, take, drop}
 use Rattle.std.proofs.Common.{reverse, get_or, suc, slice_index_or, refl, ap, sym, ◌∙◌, Option, Some, None, arith}
 use Rattle.std.specs.Prelude.{◌==◌}
@@ -18,24 +18,24 @@ bound_is_onto : (c : ℕ) (more : Option (List ℕ)) → (more >>= λ cs. Some (
 bound_is_onto c None = refl
 bound_is_onto c (Some cs) = refl
 
--- A character that represents itself.
+-- If the first character represents itself, then its byte is put before the bytes of the rest.
 pub plain_first : (c : ℕ) (cs : List ℕ) → is_plain c ≡ true → unescaped (c ∷ cs) ≡ onto_bytes (c ∷ []) (unescaped cs)
 plain_first c [] h = rw h refl
 plain_first c (d ∷ []) h = rw h (bound_is_onto c (unescaped (d ∷ [])))
 plain_first c (d ∷ e ∷ rest) h = let n : (c == 92) ≡ false = plain_is_no_escape c h in rw (h, n) (bound_is_onto c (unescaped (d ∷ e ∷ rest)))
 
--- The same for a slice, as in the code.
+-- If the first character of a slice represents itself, then its byte is put before the bytes of the rest of the slice.
 pub plain_slice : (text : List ℕ) → 0 < length text → is_plain (slice_index_or text 0 0) ≡ true
     → unescaped text ≡ onto_bytes (slice_index_or text 0 0 ∷ []) (unescaped (take (length text - 1) (drop 1 text)))
 plain_slice [] some h = absurd (omega (arith, some))
 plain_slice (c ∷ cs) some h = plain_first c cs h ∙ ap (λ rest. onto_bytes (c ∷ []) (unescaped rest)) (sym (take_all (length (c ∷ cs) - 1) cs (omega (arith))))
 
--- Two groups of bytes are prepended.
+-- Putting `bs` followed by `cs` before bytes has the same result as putting `cs` and then `bs` before them.
 pub onto_both : (bs cs : List ℕ) (more : Option (List ℕ)) → onto_bytes (bs ++ cs) more ≡ onto_bytes bs (onto_bytes cs more)
 onto_both bs cs None = refl
 onto_both bs cs (Some ds) = ap Some (append_assoc bs cs ds)
 
--- A list and its last element.
+-- A list that is not empty consists of its items before the last one, and the last one.
 by_last : (cs : List ℕ) → 1 ≤ length cs → cs ≡ take (length cs - 1) cs ++ (get_or cs (length cs - 1) 0 ∷ [])
 by_last cs some =
     let i = length cs - 1 in
@@ -44,7 +44,7 @@ by_last cs some =
 unquoted_both : (c d : ℕ) (inner : List ℕ) → c ≡ 34 → d ≡ 34 → unquoted c (d ∷ reverse inner) ≡ unescaped inner
 unquoted_both c d inner first last = rw (first, last) (ap unescaped (reverse-reverse inner))
 
--- The text between a first and a last quote.
+-- If a text begins and ends with a quote, then its bytes are those of the characters between the quotes.
 pub quoted_slice : (text : List ℕ) → 2 ≤ length text → slice_index_or text 0 0 ≡ 34 → slice_index_or text (length text - 1) 0 ≡ 34
     → text_operand text ≡ unescaped (take (length text - 1 - 1) (drop 1 text))
 quoted_slice [] some first last = absurd (omega (arith, some))

@@ -1,10 +1,10 @@
--- The first opcode with a mnemonic.
+-- Laws of the search for the first opcode with a mnemonic.
 use Rattle.std.proofs.Common.{◌≡◌, ℕ, suc, ◌+◌, ◌-◌, ◌<◌, true, false, List, ap, ◌∙◌, arith, Some, None, if◌then◌else◌}
 use Rattle.std.specs.Str.{bytes_eq}
 use Rattle.pm_opcode.specs.Table.{mnemonic_of}
 use Rattle.pm_source.specs.Line.{named_from}
 
--- The opcodes from `op` to 255, `op` first.
+-- The search from `op` on checks `op`, and then searches from `op + 1` on.
 from_here : (name : List ℕ) (op : ℕ) → op < 256 → named_from name op (256 - op)
     ≡ (if bytes_eq name (mnemonic_of op) then Some op else named_from name (op + 1) (256 - (op + 1)))
 from_here name op h = let e : 256 - op ≡ suc (256 - (op + 1)) = omega (arith, h) in ap (named_from name op) e

@@ -1,4 +1,4 @@
--- A line that has only allowed characters and is not empty.
+-- Laws of a line that has only allowed characters and is not empty.
 use Rattle.std.proofs.Common.{◌≡◌, ℕ, true, false, List, [], ◌∷◌, length, refl, ap, sym, ◌∙◌}
 use Rattle.std.specs.Prelude.{◌==◌}
 use Rattle.std.specs.List.{list_all}

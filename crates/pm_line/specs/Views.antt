@@ -1,4 +1,4 @@
--- The values of the code, as values of the specification.
+-- Maps from the values of the code to the values of the definitions.
 use Rattle.std.specs.Prelude.{ℕ, ◌+◌, Bool, true, not, List, [], ◌∷◌, ◌++◌, ◌&&◌, Vec, Option}
 use Rattle.std.specs.Prelude.{Some, None, map, length, option_map, false, if◌then◌else◌}
 use Rattle.std.specs.Borrow.{Bor}
@@ -40,14 +40,14 @@ texts_seen ts = map text_seen ts
 abbrev pub labelled_target : Target (Bor (List ℕ)) → model.Target Name
 labelled_target target = target_seen text_seen target
 
--- An item with its labels.
+-- An item of the code as an item of the definitions, in which labels are lists of bytes.
 abbrev pub labelled_item : Item (Bor (List ℕ)) → model.Item Name
 labelled_item item = item_seen text_seen item
 
 abbrev pub items_seen : {R : Type 0} → Vec (Item (Bor (List ℕ))) R → List (model.Item Name)
 items_seen list = map labelled_item list.items
 
--- The items of a line.
+-- The items that a line has, as a list.
 abbrev pub said_items_seen : SaidItems → List (model.Item Name)
 said_items_seen (alone.One item) = labelled_item item ∷ []
 said_items_seen (alone.Many list) = items_seen list
@@ -69,7 +69,7 @@ flaw_seen flaws.NoFlaw = NoFlaw
 flaw_seen flaws.OutOfRange = OutOfRange
 flaw_seen flaws.UnknownType = UnknownType
 
--- A parsed line.
+-- A parsed line of the code as a line of the definitions.
 abbrev pub line_seen : Line → text.Line
 line_seen lines.Blank = Blank
 line_seen (lines.Wrong ends) = Wrong ends
@@ -88,7 +88,7 @@ keyword_seen (keywords.Mnemonic op) = Mnemonic op
 abbrev pub number_seen : Number → ℕ × Bool
 number_seen n = (n.value, n.long)
 
--- An operand, or a parsed statement, with its value converted by `f`.
+-- The pair `x` after `f` is applied to its first item.
 abbrev pub pair_seen : {A B C : Type 0} → (A → B) → A × C → B × C
 pair_seen f x = (f x.0, x.1)
 
@@ -107,13 +107,13 @@ vec_seen list = list.items
 abbrev pub labels_seen : {R : Type 0} → Vec (Bor (List ℕ)) R → List Name
 labels_seen list = texts_seen list.items
 
--- Whether a keyword is a directive whose operands are words.
+-- Whether a keyword is a directive whose operands are words: any directive except `.BYTE`.
 abbrev pub is_directive : text.Keyword → Bool
 is_directive OfBytes = false
 is_directive (Mnemonic op) = false
 is_directive _ = true
 
--- The pieces after a comma, if there is one.
+-- The pieces of the text after a comma, or no pieces if the argument is `None`.
 abbrev pub pieces_behind : Option (List ℕ) → List (List ℕ)
 pieces_behind None = []
 pieces_behind (Some rest) = pieces false rest
@@ -122,17 +122,17 @@ pieces_behind (Some rest) = pieces false rest
 abbrev pub cut_seen : List ℕ → List ℕ → Cut
 cut_seen word rest = record { word = word; rest = rest }
 
--- The list does not have exactly one text.
+-- States that the list does not have exactly one text.
 abbrev pub IsNotOne : List (List ℕ) → Type 0
 IsNotOne (t ∷ []) = ⊥
 IsNotOne _ = Unit {0}
 
--- The list does not have exactly two texts.
+-- States that the list does not have exactly two texts.
 abbrev pub IsNotTwo : List (List ℕ) → Type 0
 IsNotTwo (t ∷ u ∷ []) = ⊥
 IsNotTwo _ = Unit {0}
 
--- The list does not have exactly four texts.
+-- States that the list does not have exactly four texts.
 abbrev pub IsNotFour : List (List ℕ) → Type 0
 IsNotFour (t ∷ u ∷ v ∷ w ∷ []) = ⊥
 IsNotFour _ = Unit {0}
@@ -142,32 +142,33 @@ abbrev pub begins_solid : List ℕ → Bool
 begins_solid [] = false
 begins_solid (c ∷ cs) = not (is_blank c)
 
--- A measure of the text that is still to be divided into pieces.
+-- A number that decreases with each piece that is read: 0 if no text remains, otherwise 1 plus the length of the text.
 abbrev pub left : Option (List ℕ) → ℕ
 left None = 0
 left (Some rest) = 1 + length rest
 
--- Prepends characters to the first of several pieces.
+-- The list of pieces `ps` after the characters are put before its first piece.
 abbrev pub onto_piece : List ℕ → List (List ℕ) → List (List ℕ)
 onto_piece [] ps = ps
 onto_piece (c ∷ cs) ps = onto_first c (onto_piece cs ps)
 
--- Prepends bytes to other bytes, if there are any.
+-- The bytes after `bs` is put before them, or `None` if the argument is `None`.
 abbrev pub onto_bytes : List ℕ → Option (List ℕ) → Option (List ℕ)
 onto_bytes bs None = None
 onto_bytes bs (Some cs) = Some (bs ++ cs)
 
--- The bytes of a text, by its first byte and its remaining characters.
+-- The bytes that a text represents, from its first byte and its remaining characters.
 abbrev pub first_unescaped : Option (ℕ × List ℕ) → Option (List ℕ)
 first_unescaped None = None
 first_unescaped (Some x) = onto_bytes (x.0 ∷ []) (text.unescaped x.1)
 
--- The bytes of the text between quotes, if there are quotes.
+-- The bytes that the text between quotes represents, or `None` if the argument is `None`.
 abbrev pub unescaped_if : Option (List ℕ) → Option (List ℕ)
 unescaped_if None = None
 unescaped_if (Some cs) = text.unescaped cs
 
--- Prepends operands to other operands, if these are well-formed.
+-- The operands after `xs` is put before them, or `None` if the other operands are malformed. `good` states whether `xs`
+-- is in range.
 abbrev pub onto_operands : {A : Type 0} → List A → Bool → Operand (List A) → Operand (List A)
 onto_operands xs good None = None
 onto_operands xs good (Some more) = Some (xs ++ more.0, good && more.1)

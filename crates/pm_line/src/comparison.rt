@@ -1,4 +1,4 @@
-//! Comparisons. Their operand is a type word, which is followed by a size for some types.
+//! Parsing of comparisons. The operand is a type keyword, such as `BYTES`, and a size after it for some types.
 
 ghost use Rattle.std.specs.Prelude.{◌≡◌, option_map, IfOk};
 ghost use Rattle.std.specs.Map.{lookup};
@@ -16,10 +16,11 @@ use pm_code::Item;
 use pm_opcode::{Form, Instr};
 use std::alloc::{AllocError, Global};
 
-/// A parsed value and its flaw, `None` if the text is malformed, or `AllocError` if memory runs out.
+/// The result of parsing: a value and its flaw, `None` if the text is malformed, or `AllocError` if the host has no
+/// memory.
 pub(crate) type Said<T> = Result<Option<(T, Flaw)>, AllocError>;
 
-/// Returns `NoFlaw` if a value is in range, else `OutOfRange`.
+/// Returns `NoFlaw` if `in_range` is true, otherwise `OutOfRange`.
 pub(crate) fn flaw_of(in_range: bool) -> Flaw
     ensures flaw { flaw_seen result ≡ range_flaw in_range }
 {
@@ -30,7 +31,7 @@ pub(crate) fn flaw_of(in_range: bool) -> Flaw
     }
 }
 
-/// Returns the type byte of a type word without a size.
+/// Returns the type byte of `word` if it is the keyword of a type without a size. Otherwise returns `None`.
 fn unsized_type(word: &[u8]) -> Option<u8>
     ensures type_byte { result ≡ lookup (bytes_eq word.now) type_words }
 {
@@ -43,7 +44,7 @@ fn unsized_type(word: &[u8]) -> Option<u8>
     }
 }
 
-/// Returns the type byte of a type word with a size.
+/// Returns the type byte of `word` if it is the keyword of a type with a size. Otherwise returns `None`.
 fn sized_type(word: &[u8]) -> Option<u8>
     ensures type_byte { result ≡ lookup (bytes_eq word.now) sized_type_words }
 {
@@ -54,8 +55,8 @@ fn sized_type(word: &[u8]) -> Option<u8>
     }
 }
 
-/// Returns a comparison of the type `sized`, whose size is the only word in `others`. If `sized` is `None`, the type is
-/// unknown.
+/// Returns the item of a comparison with the type byte `sized`. The size is the only word of `others`. If `sized` is
+/// `None`, the type is unknown, and the flaw is `UnknownType`.
 #[tactic(auto, using(crate::proofs::Counts::no_sized))]
 fn sized_comparison<'a>(
     alloc: Global,
@@ -79,7 +80,8 @@ fn sized_comparison<'a>(
     Some((plain(alloc, instr), flaw_of(in_range)))
 }
 
-/// Returns a comparison from the words of its operand. Returns `None` if the operand is malformed.
+/// Returns the item of a comparison whose operand consists of `words`, and its flaw. Returns `None` if the operand is
+/// malformed.
 fn comparison<'a>(alloc: Global, op: u8, words: &[&'a [u8]]) -> Option<(Item<&'a [u8]>, Flaw)>
     ensures item { said_seen labelled_item result ≡ comparison op (texts_seen words.now) }
 {
@@ -116,7 +118,8 @@ fn one_comparison<'a>(alloc: Global, op: u8, texts: &[&'a [u8]]) -> Said<Item<&'
     Ok(comparison(alloc, op, &words))
 }
 
-/// Returns an instruction from its operands, by the form of its opcode.
+/// Returns the item of the instruction with the opcode `op` and the operands `texts`, and its flaw. `form` is the
+/// operand format of the opcode.
 pub(crate) fn instruction_said<'a>(
     alloc: Global,
     form: Form,

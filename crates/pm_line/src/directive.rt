@@ -1,6 +1,6 @@
-//! Directives, parsed from the words after them.
+//! Parsing of directives, from the words after the directive.
 //!
-//! Each function returns `None` if the words are malformed. Otherwise it returns the statement and whether its numbers
+//! Each function returns `None` if the words are malformed. Otherwise it returns the statement, and whether its numbers
 //! are in range.
 
 ghost use Rattle.std.specs.Prelude.{◌≡◌, true, option_map};
@@ -20,14 +20,14 @@ fn are_name_characters(name: &[u8]) -> bool
     name.iter().all(|byte| is_name_character(*byte))
 }
 
-/// Whether a word is a valid segment name: 1 to 8 characters.
+/// Returns whether `name` is a valid name of a segment: 1 to 8 allowed characters.
 fn is_segment_name(name: &[u8]) -> bool
     ensures name { result ≡ is_segment_name name.now }
 {
     !name.is_empty() && name.len() <= 8 && are_name_characters(name)
 }
 
-/// Parses the number and the name of a segment.
+/// Parses the operands of `.SEG`: the number and the name of a segment.
 #[tactic(auto, using(crate::proofs::Counts::no_segment))]
 pub(crate) fn segment_operands<'a>(words: &[&'a [u8]]) -> Option<(Statement<'a>, bool)>
     ensures said { operand_seen statement_seen result ≡ segment_operands (texts_seen words.now) }
@@ -40,7 +40,7 @@ pub(crate) fn segment_operands<'a>(words: &[&'a [u8]]) -> Option<(Statement<'a>,
     Some((Statement::Segment { number, name }, in_range))
 }
 
-/// Parses the number, the level, the parameter size and the local size of a procedure.
+/// Parses the operands of `.PROC`: the number, the level, the size of the parameters and the size of the locals.
 #[tactic(auto, using(crate::proofs::Counts::no_procedure))]
 pub(crate) fn procedure_operands<'a>(words: &[&'a [u8]]) -> Option<(Statement<'a>, bool)>
     ensures said { operand_seen statement_seen result ≡ procedure_operands (texts_seen words.now) }
@@ -62,7 +62,7 @@ pub(crate) fn procedure_operands<'a>(words: &[&'a [u8]]) -> Option<(Statement<'a
     ))
 }
 
-/// Parses the label of a jump table entry.
+/// Parses the operand of `.JUMP`, which is a label. `line` is the number of the line.
 #[tactic(auto, using(crate::proofs::Counts::no_entry))]
 pub(crate) fn entry_operands<'a>(line: usize, words: &[&'a [u8]]) -> Option<(Statement<'a>, bool)>
     ensures said { operand_seen statement_seen result ≡ entry_operands line (texts_seen words.now) }
@@ -72,7 +72,7 @@ pub(crate) fn entry_operands<'a>(line: usize, words: &[&'a [u8]]) -> Option<(Sta
     Some((Statement::Entry { line, label }, in_range))
 }
 
-/// Returns the statement of a directive without operands, or `None` if there are words after it.
+/// Returns the statement `said` of a directive without operands, or `None` if `words` is not empty.
 pub(crate) fn no_operands<'a>(
     said: Statement<'a>,
     words: &[&'a [u8]],

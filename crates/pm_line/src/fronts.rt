@@ -1,4 +1,4 @@
-//! The first words of a line.
+//! The first words of a line: its label and the word that is its mnemonic or directive.
 
 ghost use Rattle.std.specs.Prelude.{◌≡◌, option_map};
 ghost use Rattle.pm_line.specs.Fronts.{front_of, front_seen, keyword_in};
@@ -9,17 +9,18 @@ use crate::pieces::uncommented;
 use crate::spoken::label_of;
 use crate::words::cut;
 
-/// The first words of a line.
+/// The first words of a line: its label and the word that is its mnemonic or directive.
 #[derive(Clone, Copy)]
 pub struct Front<'a> {
-    /// The label, without its colon, if the first word is one.
+    /// The label without its colon, if the first word is a label.
     pub label: Option<&'a [u8]>,
-    /// The first word that is not the label. It is empty if there is none.
+    /// The first word after the label, or the first word of a line without a label. It is empty if the line has no such
+    /// word.
     pub word: &'a [u8],
 }
 
 impl Front<'_> {
-    /// Returns the mnemonic or directive that `word` is.
+    /// Returns the mnemonic or directive that `word` is, or `None` if it is neither.
     pub fn keyword(&self) -> Option<Keyword>
         ensures keyword { option_map keyword_seen result ≡ keyword_in (front_seen self.now) }
     {

@@ -1,6 +1,6 @@
-//! Instructions by the forms of their operands, except comparisons.
+//! Parsing of instructions, except comparisons, by their operand format.
 //!
-//! Each function returns `None` if the operands are malformed. Otherwise it returns the item and whether its numbers,
+//! Each function returns `None` if the operands are malformed. Otherwise it returns the item, and whether its numbers,
 //! lengths and counts are in range.
 
 ghost use Rattle.std.specs.Prelude.{◌≡◌, ◌<◌, ◌≤◌, ◌+◌, option_map, IfOk, IfSome};
@@ -19,17 +19,18 @@ use pm_code::Item;
 use pm_opcode::{Form, Instr, jumps_between};
 use std::alloc::{AllocError, Global};
 
-/// A parsed operand and whether it is in range, `None` if it is malformed, or `AllocError` if memory runs out.
+/// The result of parsing an operand: its value and whether it is in range, `None` if it is malformed, or `AllocError`
+/// if the host has no memory.
 pub(crate) type Operand<T> = Result<Option<(T, bool)>, AllocError>;
 
-/// Returns an item that names no bytes.
+/// Returns the item of `instr`, an instruction without a text or a list of words.
 pub(crate) fn plain<'a>(alloc: Global, instr: Instr) -> Item<&'a [u8]>
     ensures item { labelled_item result ≡ plain instr }
 {
     Item::Plain(instr, Vec::new(alloc))
 }
 
-/// Returns an item with one operand, which is a byte or a word.
+/// Returns the item of the instruction with the opcode `op` and the operand `a`, which is a byte or a word.
 fn with_number<'a>(alloc: Global, op: u8, a: u16) -> Item<&'a [u8]>
     ensures item { labelled_item result ≡ plain (record (bare op) { a = a }) }
 {
@@ -37,8 +38,8 @@ fn with_number<'a>(alloc: Global, op: u8, a: u16) -> Item<&'a [u8]>
     plain(alloc, Instr { a, ..bare })
 }
 
-/// Returns the lowest and the highest number that the opcodes of one mnemonic include. `op` is the first of these
-/// opcodes.
+/// Returns the lowest and the highest number of the opcodes that contain their number and have one mnemonic. `op` is
+/// the first of these opcodes. Returns `None` for every other opcode.
 pub fn short_range(op: u8) -> Option<(u8, u8)>
     ensures range { result ≡ short_range op }
     ensures small { IfSome result (λ range. (range.1 ≤ 127) × (op + range.1 < 256)) }
@@ -51,7 +52,8 @@ pub fn short_range(op: u8) -> Option<(u8, u8)>
     }
 }
 
-/// Parses an instruction whose opcode includes its number.
+/// Parses the operand of an instruction whose opcode contains its number. `op` is the first opcode of the mnemonic, and
+/// `range` has its lowest and highest number.
 #[tactic(auto, using(crate::proofs::Counts::no_short))]
 fn short_instruction<'a>(
     alloc: Global,
@@ -71,7 +73,7 @@ fn short_instruction<'a>(
     Some((plain(alloc, Instr::bare(op)), in_range))
 }
 
-/// Parses an instruction without operands, or one whose opcode includes its number.
+/// Parses the operands of an instruction without operands, or of one whose opcode contains its number.
 fn bare_instruction<'a>(alloc: Global, op: u8, texts: &[&'a [u8]]) -> Option<(Item<&'a [u8]>, bool)>
     ensures item { operand_seen labelled_item result ≡ bare_instruction op (short_range op) (texts_seen texts.now) }
 {
@@ -147,7 +149,7 @@ fn byte_and_number<'a>(alloc: Global, op: u8, texts: &[&'a [u8]]) -> Option<(Ite
     Some((plain(alloc, instr), first_good && second_good))
 }
 
-/// Parses an instruction with a string of at most 255 bytes. A longer string is out of range.
+/// Parses the operand of an instruction with a string. A string of more than 255 bytes is out of range.
 #[tactic(auto, using(crate::proofs::Counts::no_text))]
 fn one_text<'a>(alloc: Global, op: u8, texts: &[&'a [u8]]) -> Operand<Item<&'a [u8]>>
     ensures item { IfOk result (λ item. operand_seen labelled_item item ≡ one_text op (texts_seen texts.now)) }
@@ -169,7 +171,7 @@ fn one_text<'a>(alloc: Global, op: u8, texts: &[&'a [u8]]) -> Operand<Item<&'a [
     Ok(Some((Item::Plain(instr, bytes), true)))
 }
 
-/// Parses an instruction with at most 255 words. A higher count is out of range.
+/// Parses the operands of an instruction with words. More than 255 words are out of range.
 fn many_words<'a>(alloc: Global, op: u8, texts: &[&'a [u8]]) -> Operand<Item<&'a [u8]>>
     ensures item { IfOk result (λ item. operand_seen labelled_item item ≡ many_words op (texts_seen texts.now)) }
 {
@@ -197,7 +199,8 @@ fn one_jump<'a>(op: u8, texts: &[&'a [u8]]) -> Option<(Item<&'a [u8]>, bool)>
     Some((Item::Jump(op, target), in_range))
 }
 
-/// Parses a case jump: its bounds, its target for other values, and a label for each value from bound to bound.
+/// Parses the operands of a case jump: two bounds, a target for other values, and a label for each value from bound to
+/// bound.
 #[tactic(auto, using(crate::proofs::Counts::no_case_texts))]
 fn case_jump<'a>(alloc: Global, texts: &[&'a [u8]]) -> Operand<Item<&'a [u8]>>
     ensures item { IfOk result (λ item. operand_seen labelled_item item ≡ case_jump (texts_seen texts.now)) }
@@ -225,7 +228,7 @@ fn case_jump<'a>(alloc: Global, texts: &[&'a [u8]]) -> Operand<Item<&'a [u8]>>
     Ok(Some((item, low_good && high_good && target_good && is_counted)))
 }
 
-/// Parses the operands of an instruction, by the form of its opcode.
+/// Parses the operands of the instruction with the opcode `op`, whose operand format is `form`.
 pub(crate) fn instruction<'a>(
     alloc: Global,
     form: Form,

@@ -1,4 +1,4 @@
-//! The results of parsing a line.
+//! The results of parsing a line: statements, rows and flaws.
 
 ghost use Rattle.std.specs.Prelude.{◌≡◌, map};
 ghost use Rattle.pm_line.specs.Views.{labelled_item, row_seen};
@@ -7,33 +7,33 @@ ghost use Rattle.pm_source.specs.Source.{row_items};
 use pm_code::Item;
 use std::slice::from_ref;
 
-/// A line of a procedure's code.
+/// A row of a procedure's code: a line with a label, items or both, or the position of the exit code.
 #[derive(Drop)]
 pub enum Row<'a> {
-    /// One item, with or without a label. The variant needs no memory for a list.
+    /// One item, with or without a label. This variant allocates no memory for a list.
     One {
-        /// The line number.
+        /// The number of the line.
         line: usize,
-        /// The label before the item.
+        /// The label before the item, or `None`.
         label: Option<&'a [u8]>,
-        /// The item.
+        /// The item of the line.
         item: Item<&'a [u8]>,
     },
-    /// A label, items, or both.
+    /// A label, a list of items, or both.
     Items {
-        /// The line number.
+        /// The number of the line.
         line: usize,
-        /// The label before the items.
+        /// The label before the items, or `None`.
         label: Option<&'a [u8]>,
-        /// The items, in order.
+        /// The items of the line, in order.
         items: Vec<Item<&'a [u8]>>,
     },
-    /// The directive `.EXIT`: the exit code begins here.
+    /// The directive `.EXIT`. The exit code begins at this position.
     Exit,
 }
 
 impl<'a> Row<'a> {
-    /// Returns the items of the line, in order. `Exit` has none.
+    /// Returns the items of the row, in order. `Exit` has no items.
     pub fn items(&self) -> &[Item<&'a [u8]>]
         ensures items { map labelled_item result.now ≡ row_items (row_seen self.now) }
     {
@@ -45,63 +45,63 @@ impl<'a> Row<'a> {
     }
 }
 
-/// A well-formed line that is not empty.
+/// The statement of a line that is well-formed and not empty.
 #[derive(Drop)]
 pub enum Statement<'a> {
-    /// The beginning of a segment.
+    /// The beginning of a segment (`.SEG`).
     Segment {
-        /// Its number, or 16 if the number in the text is out of range.
+        /// The number of the segment, or 16 if the number in the text is out of range.
         number: u8,
-        /// Its name, 1 to 8 bytes.
+        /// The name of the segment, 1 to 8 bytes.
         name: &'a [u8],
     },
-    /// The beginning of a procedure.
+    /// The beginning of a procedure (`.PROC`).
     Begin {
-        /// Its number.
+        /// The number of the procedure.
         number: u8,
-        /// Its level, as a byte in two's complement.
+        /// The level of the procedure, as a byte in two's complement.
         level: u8,
-        /// The size of its parameters, in bytes.
+        /// The size of the parameters, in bytes.
         parameters: u16,
-        /// The size of its locals, in bytes.
+        /// The size of the locals, in bytes.
         locals: u16,
     },
-    /// A line of code of a procedure.
+    /// A row of a procedure's code.
     Code(Row<'a>),
-    /// An entry of a procedure's jump table.
+    /// An entry of a procedure's jump table (`.JUMP`).
     Entry {
-        /// The line number.
+        /// The number of the line.
         line: usize,
-        /// The label to which the entry refers.
+        /// The label to which the entry leads.
         label: &'a [u8],
     },
-    /// The end of a procedure.
+    /// The end of a procedure (`.END`).
     End,
 }
 
-/// An error in a well-formed line.
+/// What is wrong with a line that is well-formed.
 #[derive(Clone, Copy)]
 pub enum Flaw {
-    /// No error.
+    /// Nothing is wrong.
     NoFlaw,
     /// A number, a length or a count is out of range.
     OutOfRange,
-    /// A comparison has an unknown type word.
+    /// The type keyword of a comparison is unknown.
     UnknownType,
 }
 
 /// The result of parsing a line.
 #[derive(Drop)]
 pub enum Line<'a> {
-    /// The line is empty or only a comment.
+    /// The line is empty, or has only a comment.
     Blank,
     /// The line is malformed.
     Wrong {
-        /// Whether the first word is `.END`. If so, the line ends its procedure.
+        /// Whether the first word is `.END`. If it is, the line ends its procedure.
         ends: bool,
     },
     /// The mnemonic or directive is unknown.
     Strange,
-    /// The line is well-formed.
+    /// The line is well-formed. The fields are its statement and what is wrong with it.
     Says(Statement<'a>, Flaw),
 }

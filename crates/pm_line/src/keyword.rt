@@ -8,26 +8,26 @@ ghost use Rattle.pm_line.specs.Views.{keyword_seen};
 
 use pm_opcode::row_at;
 
-/// A keyword.
+/// The kind of the keyword of a line.
 #[derive(Clone, Copy)]
 pub enum Keyword {
-    /// `.SEG`.
+    /// `.SEG`, which begins a segment.
     Segment,
-    /// `.PROC`.
+    /// `.PROC`, which begins a procedure.
     Procedure,
-    /// `.EXIT`.
+    /// `.EXIT`, which marks the beginning of the exit code.
     Exit,
-    /// `.JUMP`.
+    /// `.JUMP`, which defines an entry of the jump table.
     Jump,
-    /// `.END`.
+    /// `.END`, which ends a procedure.
     End,
-    /// `.BYTE`.
+    /// `.BYTE`, which writes bytes.
     Bytes,
-    /// A mnemonic, represented by the first opcode that has it.
+    /// A mnemonic, represented by the first opcode that has this mnemonic.
     Mnemonic(u8),
 }
 
-/// Returns the first opcode that has this mnemonic.
+/// Returns the first opcode with the mnemonic `name`, or `None` if no opcode has it.
 fn opcode_named(name: &[u8]) -> Option<u8>
     ensures opcode { result ≡ named_from name.now 0 256 }
 {
@@ -40,7 +40,7 @@ fn opcode_named(name: &[u8]) -> Option<u8>
     None
 }
 
-/// Returns the directive that a word is.
+/// Returns the directive that `word` is, or `None` if it is no directive.
 #[tactic(auto, unfolding(pm_source::specs::Line::directives))]
 fn directive_named(word: &[u8]) -> Option<Keyword>
     ensures directive { option_map keyword_seen result ≡ lookup (bytes_eq word.now) directives }
@@ -56,7 +56,7 @@ fn directive_named(word: &[u8]) -> Option<Keyword>
     }
 }
 
-/// Returns the directive or mnemonic that a word is.
+/// Returns the directive or mnemonic that `word` is, or `None` if it is neither.
 #[tactic(auto, unfolding(pm_source::specs::Line::keyword_of))]
 pub(crate) fn keyword_of(word: &[u8]) -> Option<Keyword>
     ensures keyword { option_map keyword_seen result ≡ keyword_of word.now }

@@ -1,4 +1,4 @@
-//! Lines of assembler source text.
+//! Parsing of the lines of an assembly text.
 //!
 //! `line` parses one line. Its result borrows from the text: names and labels are slices of the line. `line_ends` only
 //! tests whether a line ends a procedure. `front_of` returns the first words of a line. `text_operand` parses a quoted

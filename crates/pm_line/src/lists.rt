@@ -1,4 +1,4 @@
-//! Any number of operands.
+//! Parsing of lists of operands of the same kind.
 
 ghost use Rattle.std.specs.Prelude.{◌≡◌, length, map, option_map, IfOk};
 ghost use Rattle.pm_code.specs.Item.Item.{OneByte};
@@ -9,7 +9,8 @@ use crate::operand::{byte_operand, label_operand, word_operand};
 use pm_code::Item;
 use std::alloc::{AllocError, Global};
 
-/// Parses words, and returns whether all are in range. Returns `None` if an operand is malformed.
+/// Parses the operands `texts`, which are words. Returns their values and whether all are in range. Returns `None` if
+/// an operand is malformed.
 #[tactic(auto, using(crate::proofs::Onto::onto_more, crate::proofs::Onto::onto_none))]
 pub(crate) fn word_operands(
     alloc: Global,
@@ -30,7 +31,8 @@ pub(crate) fn word_operands(
     Ok(Some((words, in_range)))
 }
 
-/// Parses bytes, and returns whether all are in range. Returns `None` if an operand is malformed.
+/// Parses the operands `texts`, which are bytes. Returns their values and whether all are in range. Returns `None` if
+/// an operand is malformed.
 #[tactic(auto, using(crate::proofs::Onto::onto_more, crate::proofs::Onto::onto_none))]
 pub(crate) fn byte_operands(
     alloc: Global,
@@ -51,7 +53,8 @@ pub(crate) fn byte_operands(
     Ok(Some((bytes, in_range)))
 }
 
-/// Parses labels. Returns `None` if an operand is malformed. Labels are always in range.
+/// Parses the operands `texts`, which are labels. Returns them and true, because labels are always in range. Returns
+/// `None` if an operand is malformed.
 #[tactic(auto, using(crate::proofs::Onto::onto_more, crate::proofs::Onto::onto_none))]
 pub(crate) fn label_operands<'a>(
     alloc: Global,
@@ -72,7 +75,7 @@ pub(crate) fn label_operands<'a>(
     Ok(Some((labels, in_range)))
 }
 
-/// Returns the bytes of words, the low byte first.
+/// Returns the bytes of the items of `words`, the low byte of each word first.
 pub(crate) fn flat_words(alloc: Global, words: &[u16]) -> Result<Vec<u8>, AllocError>
     ensures bytes { IfOk result (λ bytes. bytes.items ≡ flat_words words.now) }
 {
@@ -84,7 +87,7 @@ pub(crate) fn flat_words(alloc: Global, words: &[u16]) -> Result<Vec<u8>, AllocE
     Ok(bytes)
 }
 
-/// Returns each byte as an item.
+/// Returns a list with one item for each byte of `bytes`.
 pub(crate) fn byte_items<'a>(alloc: Global, bytes: &[u8]) -> Result<Vec<Item<&'a [u8]>>, AllocError>
     ensures items { IfOk result (λ items. items_seen items ≡ map OneByte bytes.now) }
 {

@@ -1,4 +1,4 @@
-//! Numbers in source text.
+//! Parsing of numbers in an assembly text.
 
 ghost use Rattle.std.specs.Prelude.{◌≡◌, ◌<◌};
 ghost use Rattle.std.specs.Char.{is_ascii_digit, is_ascii_hexdigit};
@@ -20,7 +20,7 @@ fn are_hexadecimal(digits: &[u8]) -> bool
     digits.iter().all(|digit| digit.is_ascii_hexdigit())
 }
 
-/// Parses decimal digits. Returns `None` if there are none or another character occurs.
+/// Parses `digits` as a decimal number. Returns `None` if `digits` is empty or has a character that is no digit.
 fn decimal_number(negative: bool, digits: &[u8]) -> Option<Numeral>
     ensures number { result ≡ decimal_number negative digits.now }
 {
@@ -34,7 +34,7 @@ fn decimal_number(negative: bool, digits: &[u8]) -> Option<Numeral>
     })
 }
 
-/// Parses one to four hexadecimal digits.
+/// Parses `digits` as a number of one to four hexadecimal digits. Returns `None` if `digits` is none.
 #[tactic(auto, using(pm_code::proofs::Capped::four_digits))]
 fn hexadecimal_number(digits: &[u8]) -> Option<Numeral>
     ensures number { result ≡ hexadecimal_number digits.now }
@@ -49,7 +49,8 @@ fn hexadecimal_number(digits: &[u8]) -> Option<Numeral>
     })
 }
 
-/// Parses a number: decimal digits, `-` and decimal digits, or `$` and hexadecimal digits.
+/// Parses a number: decimal digits, `-` and decimal digits, or `$` and hexadecimal digits. Returns `None` if `text` is
+/// none.
 pub(crate) fn number(text: &[u8]) -> Option<Numeral>
     ensures number { result ≡ number text.now }
 {
@@ -60,7 +61,7 @@ pub(crate) fn number(text: &[u8]) -> Option<Numeral>
     }
 }
 
-/// Whether a number is between `-below` and `above`, inclusive.
+/// Returns whether the number `n` is from `-below` to `above`.
 pub(crate) fn is_within(below: u32, above: u32, n: Numeral) -> bool
     ensures within { result ≡ within below above n }
 {
@@ -71,7 +72,7 @@ pub(crate) fn is_within(below: u32, above: u32, n: Numeral) -> bool
     }
 }
 
-/// Returns a number modulo `values`. A negative number whose magnitude is at least `values` results in 0.
+/// Returns the number `n` modulo `values`. A negative number whose magnitude is at least `values` has the result 0.
 pub(crate) fn stored(values: u32, n: Numeral) -> u32
     requires some { 0 < values }
     ensures value { result ≡ stored values n }

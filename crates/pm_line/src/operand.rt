@@ -1,4 +1,4 @@
-//! The operands of instructions and directives.
+//! Parsing of the operands of instructions and directives. Each function returns `None` if its operand is malformed.
 
 ghost use Rattle.std.specs.Prelude.{◌≡◌, ◌<◌, ◌≤◌, ◌∷◌, [], length, option_map, IfOk, IfSome};
 ghost use Rattle.pm_source.specs.Line.{bound_operand, byte_operand, is_plain, jump_operand, label_operand};
@@ -12,14 +12,14 @@ use crate::words::is_name;
 use pm_code::Target;
 use std::alloc::{AllocError, Global};
 
-/// A number, and whether it is encoded in two bytes although it is below 128.
+/// A number, and whether its encoding has two bytes although it is below 128.
 #[derive(Clone, Copy)]
 pub(crate) struct Number {
     pub value: u16,
     pub long: bool,
 }
 
-/// Parses a number. Returns it as one of `values` values, and whether it is between `-below` and `above`.
+/// Parses a number. Returns its value modulo `values`, and whether it is from `-below` to `above`.
 pub(crate) fn numeral_operand(
     below: u32,
     above: u32,
@@ -34,7 +34,7 @@ pub(crate) fn numeral_operand(
     Some((stored(values, n), is_within(below, above, n)))
 }
 
-/// Parses a byte, 0 to 255.
+/// Parses a byte, 0 to 255. Returns its value and whether it is in range.
 pub(crate) fn byte_operand(text: &[u8]) -> Option<(u8, bool)>
     ensures operand { result ≡ byte_operand text.now }
 {
@@ -42,7 +42,7 @@ pub(crate) fn byte_operand(text: &[u8]) -> Option<(u8, bool)>
     Some((n as u8, in_range))
 }
 
-/// Parses a word, -32,768 to 65,535.
+/// Parses a word, -32,768 to 65,535. Returns its value modulo 65,536 and whether it is in range.
 pub(crate) fn word_operand(text: &[u8]) -> Option<(u16, bool)>
     ensures operand { result ≡ word_operand text.now }
 {
@@ -50,7 +50,7 @@ pub(crate) fn word_operand(text: &[u8]) -> Option<(u16, bool)>
     Some((n as u16, in_range))
 }
 
-/// Parses a bound of a case jump, -32,768 to 32,767.
+/// Parses a bound of a case jump, -32,768 to 32,767. Returns its value modulo 65,536 and whether it is in range.
 pub(crate) fn bound_operand(text: &[u8]) -> Option<(u16, bool)>
     ensures operand { result ≡ bound_operand text.now }
 {
@@ -58,7 +58,7 @@ pub(crate) fn bound_operand(text: &[u8]) -> Option<(u16, bool)>
     Some((n as u16, in_range))
 }
 
-/// Parses the level of a procedure, -128 to 127.
+/// Parses the level of a procedure, -128 to 127. Returns its value modulo 256 and whether it is in range.
 pub(crate) fn level_operand(text: &[u8]) -> Option<(u8, bool)>
     ensures operand { result ≡ numeral_operand 128 127 256 text.now }
 {
@@ -66,7 +66,8 @@ pub(crate) fn level_operand(text: &[u8]) -> Option<(u8, bool)>
     Some((n as u8, in_range))
 }
 
-/// Parses the size of a procedure's data: an even number of bytes up to 65,534.
+/// Parses the size of a procedure's parameters or locals: an even number of bytes up to 65,534. Returns the size and
+/// whether it is in range and even.
 pub(crate) fn size_operand(text: &[u8]) -> Option<(u16, bool)>
     ensures operand { result ≡ size_operand text.now }
 {
@@ -74,7 +75,7 @@ pub(crate) fn size_operand(text: &[u8]) -> Option<(u16, bool)>
     Some((n as u16, in_range && n % 2 == 0))
 }
 
-/// Parses a segment number, 0 to 15. Returns 16 if it is out of range.
+/// Parses the number of a segment, 0 to 15. Returns the number and true, or 16 and false if the number is out of range.
 pub(crate) fn slot_operand(text: &[u8]) -> Option<(u8, bool)>
     ensures operand { result ≡ slot_operand text.now }
 {
@@ -86,7 +87,7 @@ pub(crate) fn slot_operand(text: &[u8]) -> Option<(u8, bool)>
     }
 }
 
-/// Parses `n` up to 32,767, or `n!` up to 127. The mark `!` requests an encoding in two bytes.
+/// Parses a number `n` up to 32,767, or `n!` with `n` up to 127. The mark `!` requests an encoding in two bytes.
 pub(crate) fn number_operand(text: &[u8]) -> Option<(Number, bool)>
     ensures operand { operand_seen number_seen result ≡ number_operand text.now }
 {
@@ -100,7 +101,7 @@ pub(crate) fn number_operand(text: &[u8]) -> Option<(Number, bool)>
     Some((Number { value, long: false }, in_range))
 }
 
-/// Parses a label.
+/// Parses a label. Returns the label and true.
 pub(crate) fn label_operand(text: &[u8]) -> Option<(&[u8], bool)>
     ensures operand { operand_seen text_seen result ≡ label_operand text.now }
 {
@@ -111,7 +112,7 @@ pub(crate) fn label_operand(text: &[u8]) -> Option<(&[u8], bool)>
     }
 }
 
-/// Parses a jump target: a label, or `^k` for entry k of the jump table, up to 59.
+/// Parses the target of a jump: a label, or `^k` for entry k of the jump table. k is at most 59.
 pub(crate) fn jump_operand(text: &[u8]) -> Option<(Target<&[u8]>, bool)>
     ensures operand { operand_seen labelled_target result ≡ jump_operand text.now }
 {
@@ -136,14 +137,14 @@ fn lower_hex(digit: u8) -> Option<u8>
     }
 }
 
-/// Whether a character between quotes represents its own byte.
+/// Returns whether the character `byte` represents itself between quotes.
 fn is_plain(byte: u8) -> bool
     ensures plain { result ≡ is_plain byte }
 {
     (32..=126).contains(&byte) && byte != b'"' && byte != b'\\'
 }
 
-/// Parses the first byte of quoted text. Returns it and the remaining characters.
+/// Parses the first byte that the characters between quotes represent. Returns this byte and the remaining characters.
 #[tactic(auto, using(crate::proofs::Escapes::plain_slice))]
 fn first_unescaped(text: &[u8]) -> Option<(u8, &[u8])>
     requires some { 0 < length text.now }
@@ -161,7 +162,7 @@ fn first_unescaped(text: &[u8]) -> Option<(u8, &[u8])>
     }
 }
 
-/// Parses the characters between quotes. `\` and two lower case hexadecimal digits represent one byte.
+/// Parses all characters between quotes. `\` and two lower case hexadecimal digits represent one byte.
 #[tactic(auto, using(crate::proofs::Escapes::onto_both))]
 fn unescaped(alloc: Global, text: &[u8]) -> Result<Option<Vec<u8>>, AllocError>
     ensures bytes { IfOk result (λ list. option_map (λ bytes. bytes.items) list ≡ unescaped text.now) }
@@ -178,7 +179,8 @@ fn unescaped(alloc: Global, text: &[u8]) -> Result<Option<Vec<u8>>, AllocError>
     Ok(Some(bytes))
 }
 
-/// Returns the text between a quote at the start and one at the end.
+/// Returns the text between a quote at the start of `text` and a quote at its end. Returns `None` if one of them is
+/// missing.
 #[tactic(auto, using(crate::proofs::Escapes::quoted_slice))]
 fn between_quotes(text: &[u8]) -> Option<&[u8]>
     ensures inner { text_operand text.now ≡ unescaped_if (option_map text_seen result) }
@@ -189,10 +191,10 @@ fn between_quotes(text: &[u8]) -> Option<&[u8]>
     }
 }
 
-/// Parses a string that is enclosed in quotes, and returns its bytes.
+/// Parses a string in quotes, and returns the bytes that it represents.
 ///
 /// Each character from 32 to 126, except `"` and `\`, represents itself. `\` and two lower case hexadecimal digits
-/// represent one byte. Returns `None` if the text is malformed.
+/// represent one byte. Returns `None` if `text` is malformed.
 pub fn text_operand(alloc: Global, text: &[u8]) -> Result<Option<Vec<u8>>, AllocError>
     ensures bytes { IfOk result (λ list. option_map (λ bytes. bytes.items) list ≡ text_operand text.now) }
 {

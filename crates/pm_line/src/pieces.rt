@@ -1,4 +1,4 @@
-//! A line without its comment, and the operands between its commas.
+//! The part of a line before its comment, and the operands between its commas.
 
 ghost use Rattle.std.specs.Prelude.{◌≡◌, ◌<◌, ◌∷◌, false, length, map, option_map, IfOk, IfSome};
 ghost use Rattle.pm_source.specs.Words.{trimmed};
@@ -8,7 +8,7 @@ ghost use Rattle.pm_line.specs.Views.{pieces_behind, texts_seen};
 use crate::words::{trimmed, unindented};
 use std::alloc::{AllocError, Global};
 
-/// Returns the text before the first `;` that is not in quotes, or the whole text if there is none.
+/// Returns the text before the first `;` that is outside quotes, or the whole text if it has no such `;`.
 pub(crate) fn uncommented(text: &[u8]) -> &[u8]
     ensures text { result.now ≡ uncommented false text.now }
 {
@@ -24,7 +24,7 @@ pub(crate) fn uncommented(text: &[u8]) -> &[u8]
     text
 }
 
-/// Returns the text before the first comma that is not in quotes, and the text after that comma, if there is one.
+/// Returns the text before the first comma that is outside quotes, and the text after this comma, if it exists.
 #[tactic(auto, using(crate::proofs::Onto::onto_next, crate::proofs::Onto::onto_end))]
 fn first_piece(text: &[u8]) -> (&[u8], Option<&[u8]>)
     ensures pieces { pieces false text.now ≡ result.0.now ∷ pieces_behind (option_map (λ rest. rest.now) result.1) }
@@ -42,7 +42,8 @@ fn first_piece(text: &[u8]) -> (&[u8], Option<&[u8]>)
     (text, None)
 }
 
-/// Returns the pieces between the commas outside quotes, each without spaces and tabs at its ends.
+/// Returns the pieces of `text` between the commas that are outside quotes, each without leading and trailing spaces
+/// and tabs.
 fn pieces<'a>(alloc: Global, text: &'a [u8]) -> Result<Vec<&'a [u8]>, AllocError>
     ensures pieces { IfOk result (λ list. texts_seen list.items ≡ map trimmed (pieces false text.now)) }
 {
@@ -56,7 +57,7 @@ fn pieces<'a>(alloc: Global, text: &'a [u8]) -> Result<Vec<&'a [u8]>, AllocError
     Ok(list)
 }
 
-/// Returns the operands after a mnemonic. There are none if the text has only spaces and tabs.
+/// Returns the operands after a mnemonic, which commas separate. The list is empty if `text` has only spaces and tabs.
 pub(crate) fn operands<'a>(alloc: Global, text: &'a [u8]) -> Result<Vec<&'a [u8]>, AllocError>
     ensures operands { IfOk result (λ list. texts_seen list.items ≡ operands text.now) }
 {

@@ -1,4 +1,4 @@
-//! Parsing a line.
+//! Parsing of a whole line.
 
 ghost use Rattle.std.specs.Prelude.{◌≡◌, ℕ, List, true, option_map, IfOk};
 ghost use Rattle.std.specs.List.{list_all};
@@ -20,14 +20,14 @@ use pm_code::Item;
 use pm_opcode::form_at;
 use std::alloc::{AllocError, Global};
 
-/// The items of a line. One item needs no list.
+/// The items of a line. A line with one item needs no list.
 #[derive(Drop)]
 enum SaidItems<'a> {
     One(Item<&'a [u8]>),
     Many(Vec<Item<&'a [u8]>>),
 }
 
-/// Parses the operands of `.BYTE`.
+/// Parses the operands `texts` of `.BYTE`.
 fn bytes_said<'a>(alloc: Global, texts: &[&'a [u8]]) -> Said<SaidItems<'a>>
     ensures items { IfOk result (λ list. said_seen said_items_seen list ≡ checked (bytes_said (texts_seen texts.now))) }
 {
@@ -44,7 +44,8 @@ fn bytes_said<'a>(alloc: Global, texts: &[&'a [u8]]) -> Said<SaidItems<'a>>
     Ok(Some((items, flaw_of(in_range))))
 }
 
-/// Parses the items of a keyword and the text after it. Returns `None` if the keyword defines no items.
+/// Parses the items of a line with the keyword `keyword` and the text `rest` after it. Returns `None` if the keyword is
+/// a directive other than `.BYTE`, or if the operands are malformed.
 fn items_said<'a>(alloc: Global, keyword: Keyword, rest: &'a [u8]) -> Said<SaidItems<'a>>
     ensures items { IfOk result (λ list. said_seen said_items_seen list ≡ items_said (keyword_seen keyword) rest.now) }
 {
@@ -61,7 +62,7 @@ fn items_said<'a>(alloc: Global, keyword: Keyword, rest: &'a [u8]) -> Said<SaidI
     }
 }
 
-/// Returns the line of code with these items.
+/// Returns the statement of a line of code with this line number, label and items.
 fn code_said<'a>(
     line: usize,
     label: Option<&'a [u8]>,
@@ -78,7 +79,7 @@ fn code_said<'a>(
     Some((Statement::Code(row), flaw))
 }
 
-/// Parses a directive from the words after it. Returns `None` for `.BYTE` and for mnemonics.
+/// Parses the directive `keyword` with the words `texts` after it. Returns `None` for `.BYTE` and for mnemonics.
 fn directive<'a>(line: usize, keyword: Keyword, texts: &[&'a [u8]]) -> Option<(Statement<'a>, bool)>
     requires directive { is_directive (keyword_seen keyword) ≡ true }
     ensures said { (rest : List ℕ) → texts_seen texts.now ≡ words rest
@@ -94,7 +95,7 @@ fn directive<'a>(line: usize, keyword: Keyword, texts: &[&'a [u8]]) -> Option<(S
     }
 }
 
-/// Parses a keyword and the text after it.
+/// Parses the statement of the line `line` with the keyword `keyword` and the text `rest` after it.
 fn said<'a>(alloc: Global, line: usize, keyword: Keyword, rest: &'a [u8]) -> Said<Statement<'a>>
     ensures said { IfOk result (λ s. said_seen statement_seen s ≡ said line (keyword_seen keyword) rest.now) }
 {
@@ -108,7 +109,8 @@ fn said<'a>(alloc: Global, line: usize, keyword: Keyword, rest: &'a [u8]) -> Sai
     Ok(Some((said, flaw_of(in_range))))
 }
 
-/// Parses a line without a label. `keyword` is its first word, or `None` if this is unknown.
+/// Parses a line without a label. `keyword` is its first word, or `None` if this word is unknown. `rest` is the text
+/// after it.
 fn spoken<'a>(
     alloc: Global,
     line: usize,
@@ -154,7 +156,7 @@ fn labelled<'a>(
     })
 }
 
-/// Returns the label before a `:` at the end of a word.
+/// Returns the label before a `:` at the end of `word`, or `None` if `word` has no `:` at its end.
 pub(crate) fn label_of(word: &[u8]) -> Option<&[u8]>
     ensures label { option_map text_seen result ≡ label_of word.now }
 {
@@ -164,7 +166,7 @@ pub(crate) fn label_of(word: &[u8]) -> Option<&[u8]>
     }
 }
 
-/// Whether all characters are allowed in source text: tabs, and 32 to 126.
+/// Returns whether all characters of `text` are allowed in an assembly text: tabs, and the characters 32 to 126.
 fn are_characters(text: &[u8]) -> bool
     ensures characters { result ≡ list_all is_character text.now }
 {
@@ -172,7 +174,7 @@ fn are_characters(text: &[u8]) -> bool
         .all(|byte| *byte == b'\t' || (32..=126).contains(byte))
 }
 
-/// Parses a line from its first word and the text after it.
+/// Parses the line with the number `number`, from its first word `word` and the text `rest` after it.
 fn line_of_words<'a>(
     alloc: Global,
     number: usize,
@@ -189,21 +191,21 @@ fn line_of_words<'a>(
     labelled(alloc, number, label, word, rest)
 }
 
-/// Whether a line ends a procedure, even if it is malformed. This holds if and only if its first word is `.END`. The
-/// rest of the line is not parsed, and no memory is allocated.
+/// Returns whether a line ends a procedure, even if the line is malformed. This is true if and only if its first word
+/// is `.END`. The call does not parse the rest of the line, and allocates no memory.
 pub fn line_ends(text: &[u8]) -> bool
     ensures ends { (number : ℕ) → result ≡ ends (line_of number text.now) }
 {
     cut(uncommented(text)).0 == b".END".as_slice()
 }
 
-/// Parses a line. `number` is its line number, and `text` is the line without its line feed.
+/// Parses a line. `number` is the number of the line, and `text` is the line without its line feed.
 ///
-/// Errors in the line are part of the result: `Line::Wrong`, `Line::Strange`, and the flaw of `Line::Says`.
+/// Faults of the line are part of the result: `Line::Wrong`, `Line::Strange`, and the flaw of `Line::Says`.
 ///
 /// # Errors
 ///
-/// `AllocError` if memory runs out.
+/// `AllocError`: the host has no memory for the result.
 #[tactic(auto, unfolding(pm_source::specs::Line::line_of))]
 pub fn line<'a>(alloc: Global, number: usize, text: &'a [u8]) -> Result<Line<'a>, AllocError>
     ensures line { IfOk result (λ l. line_seen l ≡ line_of number text.now) }

@@ -1,4 +1,4 @@
-//! White space, words and names in source text.
+//! Spaces, words and names in an assembly text.
 
 ghost use Rattle.std.specs.Prelude.{◌≡◌, ◌<◌, ◌∷◌, true, reverse, length, IfOk};
 ghost use Rattle.std.specs.List.{list_all};
@@ -8,14 +8,14 @@ ghost use Rattle.pm_line.specs.Views.{begins_solid, texts_seen};
 
 use std::alloc::{AllocError, Global};
 
-/// Whether a character is a space or a tab.
+/// Returns whether `byte` is a space or a tab.
 pub(crate) fn is_blank(byte: u8) -> bool
     ensures blank { result ≡ is_blank byte }
 {
     byte == b' ' || byte == b'\t'
 }
 
-/// Returns the text without leading spaces and tabs.
+/// Returns `text` without its leading spaces and tabs.
 pub(crate) fn unindented(text: &[u8]) -> &[u8]
     ensures text { result.now ≡ unindented text.now }
 {
@@ -27,7 +27,7 @@ pub(crate) fn unindented(text: &[u8]) -> &[u8]
     text.split_at(text.len()).1
 }
 
-/// Returns the text without trailing spaces and tabs.
+/// Returns `text` without its trailing spaces and tabs.
 fn without_end_blanks(text: &[u8]) -> &[u8]
     ensures text { result.now ≡ reverse (unindented (reverse text.now)) }
 {
@@ -38,14 +38,14 @@ fn without_end_blanks(text: &[u8]) -> &[u8]
     &text[..count]
 }
 
-/// Returns the text without leading and trailing spaces and tabs.
+/// Returns `text` without its leading and trailing spaces and tabs.
 pub(crate) fn trimmed(text: &[u8]) -> &[u8]
     ensures text { result.now ≡ trimmed text.now }
 {
     without_end_blanks(unindented(text))
 }
 
-/// Returns the text before the first space or tab, and the text from there.
+/// Returns the text before the first space or tab, and the text from this character on.
 fn cut_word(text: &[u8]) -> (&[u8], &[u8])
     ensures word { result.0.now ≡ (cut_word text.now).word }
     ensures rest { result.1.now ≡ (cut_word text.now).rest }
@@ -58,7 +58,7 @@ fn cut_word(text: &[u8]) -> (&[u8], &[u8])
     text.split_at(text.len())
 }
 
-/// Returns the first word and the text after it.
+/// Returns the first word of `text`, and the text after this word.
 #[tactic(auto, unfolding(pm_source::specs::Words::cut))]
 pub(crate) fn cut(text: &[u8]) -> (&[u8], &[u8])
     ensures word { result.0.now ≡ (cut text.now).word }
@@ -67,7 +67,8 @@ pub(crate) fn cut(text: &[u8]) -> (&[u8], &[u8])
     cut_word(unindented(text))
 }
 
-/// Returns the first word of a text that begins with it, and the text after it without leading spaces and tabs.
+/// Returns the first word of `text`, and the text after it without leading spaces and tabs. `text` must begin with a
+/// word.
 #[tactic(auto, using(crate::proofs::Blanks::unindented_twice, crate::proofs::Blanks::words_at_once, crate::proofs::Blanks::shorter_behind))]
 fn next_word(text: &[u8]) -> (&[u8], &[u8])
     requires solid { begins_solid text.now ≡ true }
@@ -79,7 +80,7 @@ fn next_word(text: &[u8]) -> (&[u8], &[u8])
     (word, unindented(behind))
 }
 
-/// Returns all words of a text.
+/// Returns all words of `text`.
 #[tactic(auto, using(crate::proofs::Blanks::solid_if_left, crate::proofs::Blanks::words_unindented, crate::proofs::Blanks::unindented_twice))]
 pub(crate) fn words<'a>(alloc: Global, text: &'a [u8]) -> Result<Vec<&'a [u8]>, AllocError>
     ensures words { IfOk result (λ list. texts_seen list.items ≡ words text.now) }
@@ -108,7 +109,7 @@ fn continue_name(bytes: &[u8]) -> bool
         .all(|byte| byte.is_ascii_alphanumeric() || *byte == b'_')
 }
 
-/// Whether a word can be a label: a letter or `_`, then letters, digits and `_`, at most 32 characters.
+/// Returns whether `word` can be a label: a letter or `_`, then letters, digits and `_`, at most 32 characters in all.
 pub fn is_name(word: &[u8]) -> bool
     ensures name { result ≡ is_name word.now }
 {

@@ -5,7 +5,7 @@ use Rattle.std.specs.Map.{lookup}
 use Rattle.std.specs.Option.{option_and_then, option_or}
 use Rattle.std.specs.Str.{bytes_eq}
 
--- the standard procedures that the machine has, by number
+-- The names of the standard procedures that the machine has, by their number.
 unfoldable pub standard_names : List (ℕ × List ℕ)
 standard_names =
     (0, codes "IOCHECK") ∷
@@ -30,7 +30,7 @@ standard_names =
     (40, codes "MEMAVAIL") ∷
     []
 
--- the procedures of the operating system, by number in segment 0
+-- The names of the procedures of the operating system, by their number in segment 0.
 unfoldable pub system_names : List (ℕ × List ℕ)
 system_names =
     (2, codes "EXECERROR") ∷
@@ -72,21 +72,22 @@ system_name n = lookup (λ m. m == n) system_names
 abbrev pub is_digit : ℕ → Bool
 is_digit c = nat_le 48 c && nat_le c 57
 
--- the number that one or two decimal digits write; a procedure with a higher number has no name
+-- The number that one or two decimal digits write, or `None`. No procedure with a greater number has a name.
 abbrev pub number_in : List ℕ → Option ℕ
 number_in (d ∷ []) = if is_digit d then Some (d - 48) else None
 number_in (c ∷ d ∷ []) = if is_digit c && is_digit d then Some (10 * (c - 48) + (d - 48)) else None
 number_in _ = None
 
--- the rest of a line after the prefix `front`, if it begins with it
+-- The rest of `line` after the prefix `front`, or `None` if `line` does not begin with `front`.
 abbrev pub behind : List ℕ → List ℕ → Option (List ℕ)
 behind front line = if bytes_eq (take (length front) line) front then Some (drop (length front) line) else None
 
--- the name of the standard procedure that a line calls, which must be only `CSP` and its number
+-- The name of the standard procedure that `line` calls. The line must consist of only `CSP` and its number.
 unfoldable pub standard_called : List ℕ → Option (List ℕ)
 standard_called line = option_and_then standard_name (option_and_then number_in (behind (codes "  CSP ") line))
 
--- the name of the procedure of the operating system that a line calls, which must be only `CXP 0` and its number
+-- The name of the procedure of the operating system that `line` calls. The line must consist of only `CXP 0` and its
+-- number.
 unfoldable pub system_called : List ℕ → Option (List ℕ)
 system_called line = option_and_then system_name (option_and_then number_in (behind (codes "  CXP 0, ") line))
 

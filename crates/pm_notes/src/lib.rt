@@ -1,5 +1,5 @@
-//! Comments on the lines of the text of a code file. They state the names of the procedures that a line calls by
-//! number. They also mark code that is not p-code of this machine.
+//! Notes on the lines of the text of a code file, written as comments after the lines (`dis --names`). A note states
+//! the name of the procedure that a line calls by number, or marks code that is not p-code of this machine.
 #![tactic(auto)]
 
 mod lines;

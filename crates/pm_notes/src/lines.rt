@@ -1,4 +1,4 @@
-//! The text of a code file with comments on its lines.
+//! The text of a code file with notes, written as comments after its lines.
 
 ghost use Rattle.std.specs.Prelude.{◌≡◌, ◌++◌, Some, string_bytes, IfOk, OnOk};
 ghost use Rattle.pm_notes.specs.Lines.{comment, named_line, with_names};
@@ -9,7 +9,7 @@ use crate::names::name_called;
 use pm_codefile::CodeFile;
 use std::alloc::{AllocError, Global};
 
-/// Appends a note as a comment.
+/// Appends `note` to `named` as a comment.
 fn push_comment(named: &mut Vec<u8>, note: &str) -> Result<(), AllocError>
     ensures note { OnOk result (named.new.items ≡ named.old.items ++ comment (Some note.now)) }
 {
@@ -17,14 +17,14 @@ fn push_comment(named: &mut Vec<u8>, note: &str) -> Result<(), AllocError>
     named.extend_from_slice(note.as_bytes())
 }
 
-/// Returns the note on the number in the highest word of a segment.
+/// Returns the note which states that the highest word of a segment has the number `number`.
 fn number_note(alloc: Global, number: u8) -> Result<String, AllocError>
     ensures note { IfOk result (λ note. string_bytes note ≡ number_note number) }
 {
     format!(in alloc; "number {number} in its highest word")
 }
 
-/// Appends the note on a slot, if it has one.
+/// Appends the note on slot `slot` of `file` to `named`. If the slot has no note, appends nothing.
 fn push_slot_note(
     alloc: Global,
     named: &mut Vec<u8>,
@@ -49,7 +49,7 @@ fn push_slot_note(
     }
 }
 
-/// Appends the note on a line, if it has one.
+/// Appends the note on `line` to `named`. If the line has no note, appends nothing.
 #[tactic(auto, unfolding(crate::specs::Marks::note_on))]
 fn push_note(
     alloc: Global,
@@ -71,7 +71,7 @@ fn push_note(
     }
 }
 
-/// Appends a line and the note on it.
+/// Appends `line` and the note on it to `named`.
 #[tactic(auto, unfolding(crate::specs::Lines::named_line))]
 fn push_line(
     alloc: Global,
@@ -85,17 +85,19 @@ fn push_line(
     push_note(alloc, named, file, line)
 }
 
-/// Returns the text of a code file with comments. The lines themselves are unchanged. These lines get a comment:
+/// Returns `text`, the text of the code file `file`, with notes as comments. The lines themselves are unchanged. These
+/// lines get a note:
 ///
-/// - `CSP n` and `CXP 0, n`: the name of the standard procedure or the procedure of the operating system with that
-///   number, if it has a name.
-/// - The line of a segment: the number in the low byte of its highest word if it is not the number of the slot, and the
-///   name of the kind of the slot if the kind is 1 to 7.
-/// - The line of a procedure with number 0: that it is native code. The text shows its bytes as if they were p-code.
+/// - `CSP n` and `CXP 0, n`: the name of the standard procedure, or of the procedure of the operating system, with the
+///   number n, if it has a name.
+/// - The line of a segment: the number in the low byte of its highest word, if it is not the number of the slot; and
+///   the name of the kind of the slot, if the kind is 1 to 7.
+/// - The line of a procedure with number 0: that the procedure is native code, whose bytes the text shows as if they
+///   were p-code.
 ///
 /// # Errors
 ///
-/// `AllocError`: memory was refused.
+/// `AllocError`: the host has no memory for the result.
 #[tactic(auto, unfolding(crate::specs::Lines::with_names, crate::specs::Lines::named_from))]
 pub fn with_names(alloc: Global, file: &CodeFile<'_>, text: &[u8]) -> Result<Vec<u8>, AllocError>
     ensures named { IfOk result (λ named. named.items ≡ with_names file.now text.now) }

@@ -7,7 +7,8 @@ ghost use Rattle.pm_notes.specs.Marks.{other_number, slot_said};
 use crate::names::number_in;
 use pm_codefile::CodeFile;
 
-/// Returns the name of a kind of slot, unless it is a linked segment of a program.
+/// Returns the name of the kind `kind` of a slot. Returns `None` for a linked segment of a program, and for an unknown
+/// kind.
 #[tactic(auto, unfolding(crate::specs::Marks::kind_name, crate::specs::Marks::kind_names))]
 fn kind_name(kind: u16) -> Option<&'static str>
     ensures name { option_map (λ name. name.now) result ≡ kind_name kind }
@@ -24,7 +25,7 @@ fn kind_name(kind: u16) -> Option<&'static str>
     }
 }
 
-/// Returns the name of the kind of a slot.
+/// Returns the name of the kind of slot `slot` of `file`, or `None` if it has none.
 #[tactic(auto, unfolding(crate::specs::Marks::kind_told))]
 pub(crate) fn kind_told(file: &CodeFile<'_>, slot: u8) -> Option<&'static str>
     ensures kind { option_map (λ kind. kind.now) result ≡ kind_told file.now slot }
@@ -32,7 +33,8 @@ pub(crate) fn kind_told(file: &CodeFile<'_>, slot: u8) -> Option<&'static str>
     kind_name(file.slot(slot)?.kind)
 }
 
-/// Returns the number of the segment in a slot if it is not the number of the slot.
+/// Returns the number in the low byte of the highest word of the segment in slot `slot`, if it is not the number of the
+/// slot. Otherwise returns `None`.
 #[tactic(auto, unfolding(crate::specs::Marks::other_number))]
 pub(crate) fn other_number(file: &CodeFile<'_>, slot: u8) -> Option<u8>
     ensures number { result ≡ other_number file.now slot }
@@ -42,14 +44,15 @@ pub(crate) fn other_number(file: &CodeFile<'_>, slot: u8) -> Option<u8>
     if number == slot { None } else { Some(number) }
 }
 
-/// Whether a line contains only characters that a source text may contain, and no quote.
+/// Returns whether `line` has only characters that an assembly text may contain, and no quote.
 fn is_unquoted(line: &[u8]) -> bool
     ensures unquoted { result ≡ is_unquoted line.now }
 {
     line.iter().all(|c| 32 <= *c && *c <= 126 && *c != b'"')
 }
 
-/// Returns the number of one or two digits before the first space.
+/// Returns the number that the one or two digits before the first space of `text` write, or `None` if the text does not
+/// begin with such a number.
 fn number_before_blank(text: &[u8]) -> Option<u8>
     ensures number { result ≡ number_before_blank text.now }
 {
@@ -60,7 +63,7 @@ fn number_before_blank(text: &[u8]) -> Option<u8>
     }
 }
 
-/// Returns the number of the slot in the line of a segment.
+/// Returns the number of the slot if `line` is the line of a segment. Otherwise returns `None`.
 #[tactic(auto, unfolding(crate::specs::Marks::slot_said))]
 pub(crate) fn slot_said(line: &[u8]) -> Option<u8>
     ensures slot { result ≡ slot_said line.now }
@@ -73,7 +76,7 @@ pub(crate) fn slot_said(line: &[u8]) -> Option<u8>
     }
 }
 
-/// Whether a line is that of a procedure with number 0.
+/// Returns whether `line` is the line of a procedure with number 0, which is native code.
 #[tactic(auto, unfolding(crate::specs::Marks::is_native))]
 pub(crate) fn is_native(line: &[u8]) -> bool
     ensures native { result ≡ is_native line.now }

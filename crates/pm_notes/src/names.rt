@@ -4,8 +4,8 @@ ghost use Rattle.std.specs.Prelude.{◌≡◌, option_and_then, option_map};
 ghost use Rattle.pm_notes.specs.Names.{behind, name_called, number_in, standard_called, standard_name};
 ghost use Rattle.pm_notes.specs.Names.{system_called, system_name};
 
-/// Returns the name of the standard procedure with this number, if the machine has it. The procedures that load and
-/// unload a segment have a description instead of a name.
+/// Returns the name of the standard procedure `number`, or `None` if the machine does not have it. The procedures that
+/// load and unload a segment have a description instead of a name.
 #[tactic(auto, unfolding(crate::specs::Names::standard_name, crate::specs::Names::standard_names))]
 pub fn standard_name(number: u8) -> Option<&'static str>
     ensures name { option_map (λ name. name.now) result ≡ standard_name number }
@@ -35,7 +35,7 @@ pub fn standard_name(number: u8) -> Option<&'static str>
     }
 }
 
-/// Returns the name of the procedure of the operating system with this number in segment 0, if it is known.
+/// Returns the name of procedure `number` of segment 0, the operating system, or `None` if its name is not known.
 #[tactic(auto, unfolding(crate::specs::Names::system_name, crate::specs::Names::system_names))]
 pub fn system_name(number: u8) -> Option<&'static str>
     ensures name { option_map (λ name. name.now) result ≡ system_name number }
@@ -73,7 +73,7 @@ pub fn system_name(number: u8) -> Option<&'static str>
     }
 }
 
-/// Returns the number that one or two decimal digits write.
+/// Returns the number that `digits` writes in one or two decimal digits. Returns `None` for any other bytes.
 pub(crate) fn number_in(digits: &[u8]) -> Option<u8>
     ensures number { result ≡ number_in digits.now }
 {
@@ -84,14 +84,14 @@ pub(crate) fn number_in(digits: &[u8]) -> Option<u8>
     }
 }
 
-/// Returns the number that is the rest of a line after the prefix `front`.
+/// Returns the number that is the rest of `line` after the prefix `front`. Returns `None` if `line` has another form.
 fn number_behind(front: &[u8], line: &[u8]) -> Option<u8>
     ensures number { result ≡ option_and_then number_in (behind front.now line.now) }
 {
     number_in(line.strip_prefix(front)?)
 }
 
-/// Returns the name of the standard procedure that a line calls.
+/// Returns the name of the standard procedure that `line` calls, or `None` if it calls none or the name is not known.
 #[tactic(auto, unfolding(crate::specs::Names::standard_called))]
 fn standard_called(line: &[u8]) -> Option<&'static str>
     ensures name { option_map (λ name. name.now) result ≡ standard_called line.now }
@@ -99,7 +99,8 @@ fn standard_called(line: &[u8]) -> Option<&'static str>
     standard_name(number_behind(b"  CSP ", line)?)
 }
 
-/// Returns the name of the procedure of the operating system that a line calls.
+/// Returns the name of the procedure of the operating system that `line` calls, or `None` if it calls none or the name
+/// is not known.
 #[tactic(auto, unfolding(crate::specs::Names::system_called))]
 fn system_called(line: &[u8]) -> Option<&'static str>
     ensures name { option_map (λ name. name.now) result ≡ system_called line.now }
@@ -107,7 +108,7 @@ fn system_called(line: &[u8]) -> Option<&'static str>
     system_name(number_behind(b"  CXP 0, ", line)?)
 }
 
-/// Returns the name of the procedure that a line calls, if it has one.
+/// Returns the name of the procedure that `line` calls, or `None` if it calls none or the name is not known.
 #[tactic(auto, unfolding(crate::specs::Names::name_called))]
 pub(crate) fn name_called(line: &[u8]) -> Option<&'static str>
     ensures name { option_map (λ name. name.now) result ≡ name_called line.now }

@@ -1,4 +1,4 @@
--- Each fault is returned for all bytes that have it.
+-- If bytes have the cause of a fault, then reading them returns this fault.
 use Rattle.std.proofs.Common.{◌≡◌, ◌<◌, ◌≤◌, ℕ, ◌+◌, ◌-◌, zero, suc, List, [], ◌∷◌, ◌++◌, length, drop, Result, Ok, Err, Some}
 use Rattle.std.proofs.Common.{refl, sym, ap, ◌∙◌, arith, length-append, length-drop, append_assoc, IfOk, inl, inr, subst}
 use Rattle.std.specs.Prelude.{slice_get}
@@ -36,12 +36,14 @@ pub bad_type_again : (bytes : List ℕ) (at : ℕ) → HasBadType bytes at → r
 unfolding reading front_byte read_typed
 bad_type_again bytes at (op, type, rest, e, form, sized, unsized) = rw (e, form, sized, unsized) refl
 
--- Bytes that are appended do not change the prefix.
+-- If bytes are appended, then the bytes from offset `at` on are the old bytes from `at` on, followed by the appended
+-- bytes.
 dropped_before : (bytes more front : List ℕ) (at op : ℕ) → drop at bytes ≡ op ∷ front → drop at (bytes ++ more) ≡ op ∷ (front ++ more)
 dropped_before bytes more front at op e =
     drop-append-le at bytes more (omega (arith, ap length e, length-drop at bytes)) ∙ ap (λ x. x ++ more) e
 
--- An encoding in the shorter bytes is also in the longer ones, so there is no longer encoding at that offset.
+-- If an encoding begins at offset `at` of `bytes` and ends in `bytes`, then no encoding at `at` of the longer bytes
+-- ends after the end of `bytes`.
 not_longer : (bytes more : List ℕ) (at : ℕ) (i j : Instr) → IsSpelledAt (bytes ++ more) at i → IsSpelledAt bytes at j → at + i.len ≤ length bytes
 not_longer bytes more at i j s t =
     let named = named_by j bytes in
@@ -64,7 +66,7 @@ not_longer bytes more at i j s t =
     let same : i ≡ j = cc in
     subst (λ (k : Instr). at + k.len ≤ length bytes) (sym same) within
 
--- Bytes that end within an instruction have no other fault, and contain no instruction there.
+-- If `bytes` end within an encoding at offset `at`, then reading `bytes` at `at` fails with `Truncated`.
 cut_again : (bytes more : List ℕ) (at : ℕ) (i : Instr) (r : Result Instr Decode) → IsBytes bytes → IsSpelledAt (bytes ++ more) at i → length bytes < at + i.len
     → reading bytes at ≡ r → r ≡ Err faults.Truncated
 cut_again bytes more at i (Ok j) b s l e =

@@ -1,4 +1,4 @@
--- The end of a procedure in the last segment.
+-- Laws of the end of a procedure, which is then appended to the last segment.
 use Rattle.std.proofs.Common.{◌≡◌, List, [], ◌∷◌, ◌++◌, ◌∙◌, map, refl, ap, sym}
 use Rattle.std.specs.Prelude.{Option, Some, None}
 use Rattle.std.specs.Option.{option_map}
@@ -23,7 +23,8 @@ reading segments current = record { segments = segments; current = current }
 abbrev pub with_procedures : SourceSegment → List Source → SourceSegment
 with_procedures s ps = record s { procedures = ps }
 
--- A segment with one more procedure.
+-- If `ps` are the procedures of the segment `last` followed by `p`, then the segment with the procedures `ps` is `last`
+-- with `p` appended.
 pub one_more : (last : LabelledSegment) (ps : List LabelledProcedure) (p : LabelledProcedure) → ps ≡ last.procedures.items ++ p ∷ []
     → with_procedures (labelled_segment last) (map labelled_procedure ps) ≡ with_procedures (labelled_segment last)
     (map labelled_procedure last.procedures.items ++ labelled_procedure p ∷ [])
@@ -31,7 +32,7 @@ one_more last ps p e =
     ap (λ qs. with_procedures (labelled_segment last) qs)
     (ap (λ qs. map labelled_procedure qs) e ∙ map-append labelled_procedure last.procedures.items (p ∷ []))
 
--- The last segment with the ended procedure.
+-- If the procedure that has begun is appended to the last segment, then the new state is the state `closed`.
 pub ended_last : (olds news kept : List LabelledSegment) (last changed : LabelledSegment) (opened now : Option Current) (o : Current)
     → opened ≡ Some o → now ≡ None → olds ≡ kept ++ last ∷ [] → news ≡ kept ++ changed ∷ []
     → labelled_segment changed ≡ with_procedures (labelled_segment last) (map labelled_procedure last.procedures.items ++ current_seen o ∷ [])

@@ -1,4 +1,4 @@
--- The first fault of each line.
+-- Laws of the first fault of each line.
 use Rattle.std.proofs.Common.{◌≡◌, ◌≢◌, ℕ, ◌+◌, ◌<◌, List, [], ◌∷◌, ◌++◌, ◌∙◌, Option, None, Some, length, get_or, ap, sym, refl, append_assoc}
 use Rattle.std.specs.Option.{option_to_list}
 use Rattle.pm_source.specs.Line.{line_of}
@@ -9,7 +9,7 @@ use Rattle.pm_reader.specs.Each.{first_in, firsts_from}
 use Rattle.pm_reader.specs.Reader.{Answers}
 use Rattle.pm_reader.proofs.Numbering.{front, seen_from}
 
--- An answer other than `NoMemory` is the first of the faults.
+-- If the returned fault agrees with the list of faults and is not `NoMemory`, then it is the first of the list.
 pub first_noted : (answer : Option AsmFault) (faults : List AsmFault) → Answers answer faults → answer ≢ Some NoMemory
     → option_to_list answer ≡ first_in faults
 first_noted None [] is known = refl
@@ -17,7 +17,8 @@ first_noted None (fault ∷ faults) is known = cc
 first_noted (Some fault) [] is known = absurd (let h = is (λ e. known (ap Some e)) in cc)
 first_noted (Some fault) (f ∷ faults) is known = let h = is (λ e. known (ap Some e)) in cc
 
--- The faults so far, followed by those of the remaining lines, are all faults.
+-- If the first fault of the next line is appended to the faults so far, then they and the first faults of the remaining
+-- lines are all faults.
 pub firsts_behind : (texts : List (List ℕ)) (n : ℕ) (text : List ℕ) (before behind : Reading) (old new all : List AsmFault)
     → (n < length texts) × (text ≡ get_or texts n text)
     → new ≡ old ++ first_in (line_faults (n + 1) before (line_of (n + 1) text) (seen_from (n + 1) texts))

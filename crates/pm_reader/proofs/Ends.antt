@@ -1,4 +1,4 @@
--- The last line that ends a procedure.
+-- Laws of the last line that ends a procedure.
 use Rattle.std.proofs.Common.{◌≡◌, ℕ, ◌+◌, ◌≤◌, true, false, List, [], ◌∷◌, ◌++◌, ◌∙◌, length, drop, ap, sym, inl, inr, arith}
 use Rattle.std.specs.Prelude.{nat_lt, ◌||◌}
 use Rattle.std.specs.List.{list_any}
@@ -9,7 +9,7 @@ use Rattle.std.proofs.lemmas.List.Folds.{list_any-append}
 use Rattle.pm_source.specs.Line.{Line}
 use Rattle.pm_source.specs.Faults.{ends}
 
--- The number of lines up to the last one that ends a procedure.
+-- States that `until` is the number of lines up to the last line that ends a procedure.
 abbrev pub IsUntil : List Line → ℕ → Type 0
 IsUntil lines until = (at : ℕ) → list_any ends (drop at lines) ≡ nat_lt at until
 

@@ -1,4 +1,4 @@
--- The number of entries that code uses, row by row.
+-- Laws of the number of jump table entries that rows use, row by row.
 use Rattle.std.proofs.Common.{◌≡◌, ℕ, List, [], ◌∷◌, ◌++◌, ◌∙◌, max, ap, sym, arith}
 use Rattle.pm_code.specs.Item.{Item}
 use Rattle.pm_code.specs.Program.{entries_needed}
@@ -8,14 +8,15 @@ needed-append : (xs ys : List (Item Name)) → entries_needed (xs ++ ys) ≡ max
 needed-append [] ys = omega arith
 needed-append (x ∷ xs) ys = omega (arith, needed-append xs ys)
 
--- The entries that a row and the rows after it use.
+-- The number of entries that some rows use is the maximum of the number for the first row and the number for the
+-- others.
 used-cons : (row : Row) (rows : List Row) → entries_used (row ∷ rows) ≡ max (entries_needed (row_items row)) (entries_used rows)
 used-cons row rows = needed-append (row_items row) (items_of rows)
 
 max-assoc : (a b c : ℕ) → max (max a b) c ≡ max a (max b c)
 max-assoc a b c = omega arith
 
--- One more row.
+-- If the maximum so far is updated by one more row, then the maximum for all rows does not change.
 pub used-more : (most : ℕ) (row : Row) (rows : List Row) → max (max most (entries_needed (row_items row))) (entries_used rows)
     ≡ max most (entries_used (row ∷ rows))
 used-more most row rows = max-assoc most (entries_needed (row_items row)) (entries_used rows) ∙ ap (max most) (sym (used-cons row rows))

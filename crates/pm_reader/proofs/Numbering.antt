@@ -1,4 +1,4 @@
--- The lines of a text, one after another.
+-- Laws of the numbered lines of a text, read one line after the other.
 use Rattle.std.proofs.Common.{◌≡◌, ℕ, zero, suc, ◌+◌, ◌<◌, ◌≤◌, Bool, true, false, List, [], ◌∷◌, ◌++◌, ◌∙◌}
 use Rattle.std.proofs.Common.{length, drop, take, get_or, ap, sym, refl, subst, arith}
 use Rattle.std.specs.Prelude.{nat_lt, if◌then◌else◌}
@@ -8,7 +8,7 @@ use Rattle.pm_source.specs.Line.{Line, line_of}
 use Rattle.pm_source.specs.Faults.{ends, lines_from}
 use Rattle.pm_reader.proofs.Ends.{IsUntil, until_here, until_before}
 
--- The lines from a number on.
+-- The lines after the first `n` lines, the first of which has the number `n + 1`.
 abbrev pub seen_from : ℕ → List (List ℕ) → List Line
 seen_from n texts = lines_from (n + 1) (drop n texts)
 
@@ -26,7 +26,7 @@ drop_from k (suc n) [] = refl
 drop_from k (suc n) (text ∷ texts) =
     drop_from (k + 1) n texts ∙ ap (λ m. lines_from m (drop n texts)) (omega arith)
 
--- Whether a later line ends a procedure.
+-- One of the lines after the first `n` lines ends a procedure if and only if `n` is less than `until`.
 pub later : (texts : List (List ℕ)) (n until : ℕ) → IsUntil (lines_from 1 texts) until → nat_lt n until ≡ list_any ends (seen_from n texts)
 later texts n until last = sym (last n) ∙ ap (list_any ends) (drop_from 1 n texts)
 
@@ -43,7 +43,8 @@ take_from k (suc n) (t ∷ texts) text turn =
     ap (λ ls. line_of k t ∷ ls) (take_from (k + 1) n texts text (omega (arith, turn.0), turn.1)
     ∙ ap (λ m. lines_from (k + 1) (take n texts) ++ line_of m text ∷ []) (omega arith))
 
--- The last line that ends a procedure, after one more line.
+-- If `until` is correct for the first `n` lines, and is set to `n + 1` if line `n + 1` ends a procedure, then it is
+-- correct for the first `n + 1` lines.
 pub until_more : (texts : List (List ℕ)) (n : ℕ) (text : List ℕ) (until : ℕ) (b : Bool) → (n < length texts) × (text ≡ get_or texts n text)
     → ends (line_of (n + 1) text) ≡ b → until ≤ n → IsUntil (lines_from 1 (take n texts)) until
     → IsUntil (lines_from 1 (take (n + 1) texts)) (if b then n + 1 else until)

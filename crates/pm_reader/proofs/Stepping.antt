@@ -1,4 +1,4 @@
--- One step of reading.
+-- Laws of reading one more line.
 use Rattle.std.proofs.Common.{◌≡◌, ℕ, ◌+◌, ◌<◌, List, [], ◌++◌, ◌∙◌, length, get_or, ap, sym, subst}
 use Rattle.pm_source.specs.Line.{line_of}
 use Rattle.pm_source.specs.Faults.{Reading, line_faults, after_line, faults_from, after_lines}
@@ -7,7 +7,7 @@ use Rattle.pm_reader.specs.Firsts.{IsFirstOf}
 use Rattle.pm_reader.proofs.Firsts.{first_front}
 use Rattle.pm_reader.proofs.Numbering.{front, seen_from}
 
--- If a line has no fault, the faults are those of the lines after it.
+-- If a line has no fault, then the faults of the remaining lines are the faults of the lines after this line.
 pub faults_behind : (texts : List (List ℕ)) (n : ℕ) (text : List ℕ) (before behind : Reading) (faults : List AsmFault)
     → (n < length texts) × (text ≡ get_or texts n text) → line_faults (n + 1) before (line_of (n + 1) text) (seen_from (n + 1) texts) ≡ []
     → behind ≡ after_line before (line_of (n + 1) text) → faults_from (n + 1) before (seen_from n texts) ≡ faults
@@ -24,7 +24,7 @@ pub said_behind : (texts : List (List ℕ)) (n : ℕ) (text : List ℕ) (before 
 said_behind texts n text before behind whole turn is all =
     ap (λ r. after_lines r (seen_from (n + 1) texts)) is ∙ (sym (ap (after_lines before) (front texts n text turn)) ∙ all)
 
--- A fault of the line is the first of all faults.
+-- If a fault is the first fault of the next line, then it is the first fault of all remaining lines.
 pub first_fault : (texts : List (List ℕ)) (n : ℕ) (text : List ℕ) (before : Reading) (faults : List AsmFault) (fault : AsmFault)
     → (n < length texts) × (text ≡ get_or texts n text)
     → IsFirstOf fault (line_faults (n + 1) before (line_of (n + 1) text) (seen_from (n + 1) texts))

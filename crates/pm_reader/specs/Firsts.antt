@@ -1,4 +1,4 @@
--- The first of the faults.
+-- The first fault of a list of faults.
 use Rattle.std.specs.Prelude.{◌≡◌, ◌≢◌, List, [], ◌∷◌, Option, Some, None}
 use Rattle.pm_source.specs.declared.fault.AsmFault.{AsmFault}
 use Rattle.pm_source.specs.declared.fault.AsmFault.TheVariants.{NoMemory}
@@ -7,6 +7,6 @@ abbrev pub first_of : List AsmFault → Option AsmFault
 first_of [] = None
 first_of (fault ∷ faults) = Some fault
 
--- The fault is the first of the list, or it is `NoMemory`.
+-- States that `fault` is the first item of `faults`, or that it is `NoMemory`.
 abbrev pub IsFirstOf : AsmFault → List AsmFault → Type 0
 IsFirstOf fault faults = fault ≢ NoMemory → first_of faults ≡ Some fault

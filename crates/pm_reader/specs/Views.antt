@@ -1,4 +1,4 @@
--- The values of the code, as values of the specification.
+-- Maps from the values of the code to the values of the definitions.
 use Rattle.std.specs.Prelude.{ℕ, List, map}
 use Rattle.pm_reader.specs.declared.source.Entry.{Entry}
 use Rattle.pm_reader.specs.declared.source.LabelledProcedure.{LabelledProcedure}
@@ -22,6 +22,6 @@ abbrev pub labelled_segment : LabelledSegment → SourceSegment
 labelled_segment s =
     record { number = s.number; name = s.name.now; procedures = map labelled_procedure s.procedures.items }
 
--- The segments of the code, as segments of the specification.
+-- The segments of the code, as segments of the definitions.
 abbrev pub labelled_segments : List LabelledSegment → List SourceSegment
 labelled_segments segments = map labelled_segment segments

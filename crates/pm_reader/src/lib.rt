@@ -1,8 +1,7 @@
-//! The reader of the assembler. It reads source text line by line, and returns its segments or its first fault.
-//!
-//! `source_of` reads a text. Its result borrows from the text, and its labels are not looked up yet. `row_end` and
-//! `source_end` return the ends of lines and procedures in bytes. `counts_of` returns the counts of a procedure at its
-//! end.
+//! The reader of the assembler. It reads an assembly text line by line, and returns its segments or its first fault.
+//! `source_of` reads a text. Its result borrows from the text, and its labels are not replaced by offsets yet.
+//! `row_end` and `source_end` return the ends of rows and procedures in bytes. `counts_of` returns the counts of a
+//! procedure at its end.
 #![tactic(auto)]
 
 mod counts;

@@ -1,4 +1,4 @@
-//! Lists of faults.
+//! A list of the faults that were found.
 
 ghost use Rattle.std.specs.Prelude.{◌≡◌, ◌≢◌, ◌++◌, Some, IfErr, OnOk};
 ghost use Rattle.std.specs.Option.{option_to_list};
@@ -6,11 +6,11 @@ ghost use Rattle.pm_source.specs.declared.fault.AsmFault.TheVariants.{NoMemory};
 
 use pm_source::AsmFault;
 
-/// Appends a fault, if there is one.
+/// Appends `fault` to `found`. If `fault` is `None`, nothing changes.
 ///
 /// # Errors
 ///
-/// Only `NoMemory`: the fault is `NoMemory`, or memory runs out.
+/// `NoMemory`: `fault` is `NoMemory`, or the host has no memory to extend `found`.
 pub fn note(found: &mut Vec<AsmFault>, fault: Option<AsmFault>) -> Result<(), AsmFault>
     ensures noted { OnOk result (found.new.items ≡ found.old.items ++ option_to_list fault) }
     ensures known { OnOk result (fault ≢ Some NoMemory) }

@@ -1,4 +1,4 @@
-//! Properties of a procedure that has not ended, and its next line.
+//! Tests of a procedure that has not ended, and the addition of its next row.
 
 ghost use Rattle.std.specs.Prelude.{◌≡◌, [], None, IfOk, IfSome, map};
 ghost use Rattle.std.specs.List.{list_any};
@@ -17,14 +17,14 @@ use pm_line::Row;
 use std::alloc::{AllocError, Global};
 use std::collections::BTreeMap;
 
-/// Whether a line is that of the exit code.
+/// Returns whether `row` is the position of the exit code.
 fn row_is_exit(row: &Row<'_>) -> bool
     ensures exit { result ≡ is_exit (row_seen row.now) }
 {
     matches!(row, Row::Exit)
 }
 
-/// Whether code includes the line of the exit code.
+/// Returns whether one of `rows` is the position of the exit code.
 fn any_exit(rows: &[Row<'_>]) -> bool
     ensures exit { result ≡ list_any (λ row. is_exit (row_seen row)) rows.now }
 {
@@ -32,7 +32,7 @@ fn any_exit(rows: &[Row<'_>]) -> bool
 }
 
 impl LabelledProcedure<'_> {
-    /// Whether the procedure includes the line of the exit code.
+    /// Returns whether the procedure has a position of the exit code.
     #[tactic(auto, using(crate::proofs::Seen::any_of_views))]
     pub(crate) fn has_exit(&self) -> bool
         ensures exit { result ≡ has_exit (labelled_procedure self.now) }
@@ -40,8 +40,8 @@ impl LabelledProcedure<'_> {
         any_exit(&self.code)
     }
 
-    /// Whether the code has an odd length, or uses another number of entries than there are. Returns `None` only if the
-    /// length does not fit in 64 bits.
+    /// Returns whether the code has an odd length, or uses another number of entries than the jump table has. Returns
+    /// `None` only if the length does not fit in 64 bits.
     pub(crate) fn is_uneven(&self) -> Option<bool>
         ensures uneven { IfSome result (λ uneven. uneven ≡ is_uneven (labelled_procedure self.now)) }
         ensures too_long { result ≡ None → IsCountless (code_end 0 (labelled_procedure self.now).code) }
@@ -52,7 +52,7 @@ impl LabelledProcedure<'_> {
 }
 
 impl<'a> Current<'a> {
-    /// Creates a procedure of which only the first line was read.
+    /// Creates a procedure without code and jump entries, from the values of its first line.
     pub(crate) fn new(alloc: Global, level: u8, parameters: u16, locals: u16) -> Current<'a>
         ensures new { current_seen result ≡ new_procedure level parameters locals }
     {
@@ -68,14 +68,14 @@ impl<'a> Current<'a> {
         }
     }
 
-    /// Whether the procedure defines a label.
+    /// Returns whether the procedure defines the label `name`.
     pub(crate) fn has_label(&self, name: &'a [u8]) -> bool
         ensures label { result ≡ has_label_in name.now (current_seen self.now) }
     {
         self.labels.contains_key(&name)
     }
 
-    /// Returns the procedure with one more line of code.
+    /// Returns the procedure after `row` is appended to its code.
     pub(crate) fn with_row(self, row: Row<'a>) -> Result<Current<'a>, AllocError>
         ensures row { IfOk result (λ current. current_seen current
             ≡ after_code (row_seen row.entry) (current_seen self.entry)) }

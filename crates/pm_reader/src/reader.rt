@@ -1,4 +1,4 @@
-//! The reader: the lines so far, and the faults of the next line.
+//! The reader: the result of the lines that were read, and the faults of the next line.
 
 ghost use Rattle.std.specs.Prelude.{◌≡◌, ◌==◌, ◌+◌, ◌++◌, List, [], Some, None, IfSome, IfErr, OnOk};
 ghost use Rattle.std.specs.List.{list_any};
@@ -26,21 +26,22 @@ use pm_line::{Flaw, Line, Row, Statement, line};
 use pm_source::AsmFault;
 use std::alloc::{AllocError, Global};
 
-/// The result of the lines so far: the segments with their ended procedures, and the procedure that has not ended.
+/// The result of the lines that were read: the segments with their complete procedures, and the procedure that has not
+/// ended.
 #[derive(Drop)]
 pub(crate) struct Reader<'a> {
     segments: Vec<LabelledSegment<'a>>,
     current: Option<Current<'a>>,
 }
 
-/// Whether a segment with this number exists.
+/// Returns whether one of `segments` has the number `number`.
 fn any_number(segments: &[LabelledSegment<'_>], number: u8) -> bool
     ensures number { result ≡ list_any (λ s. s.number == number) segments.now }
 {
     segments.iter().any(|segment| segment.number == number)
 }
 
-/// Returns the number of procedures of the last segment, or 0 if there is no segment.
+/// Returns the number of procedures of the last segment, or 0 if `segments` is empty.
 fn last_count(segments: &[LabelledSegment<'_>]) -> usize
     ensures count { result ≡ procedure_count (labelled_segments segments.now) }
 {
@@ -50,21 +51,21 @@ fn last_count(segments: &[LabelledSegment<'_>]) -> usize
     }
 }
 
-/// Whether `number` is the next procedure number after `count` procedures.
+/// Returns whether `number` is the number of the next procedure after `count` procedures.
 fn is_next(number: u8, count: usize) -> bool
     ensures next { result ≡ (number == count + 1) }
 {
     number > 0 && usize::from(number) - 1 == count
 }
 
-/// Whether a statement begins a procedure.
+/// Returns whether `statement` begins a procedure.
 fn is_begin(statement: &Statement<'_>) -> bool
     ensures begin { result ≡ faults.is_begin (statement_seen statement.now) }
 {
     matches!(statement, Statement::Begin { .. })
 }
 
-/// Whether a statement ends a procedure.
+/// Returns whether `statement` ends a procedure.
 fn is_end(statement: &Statement<'_>) -> bool
     ensures end { result ≡ faults.is_end (statement_seen statement.now) }
 {
@@ -72,7 +73,7 @@ fn is_end(statement: &Statement<'_>) -> bool
 }
 
 impl<'a> Reader<'a> {
-    /// Whether a statement is allowed at this position.
+    /// Returns whether `statement` is allowed after the lines that were read.
     fn is_in_place(&self, statement: &Statement<'a>) -> bool
         ensures in_place { result ≡ is_in_place (reader_seen self.now) (statement_seen statement.now) }
     {
@@ -86,7 +87,7 @@ impl<'a> Reader<'a> {
         }
     }
 
-    /// Whether a statement repeats a slot, a label of the procedure or its exit code.
+    /// Returns whether `statement` defines a slot, a label of the procedure, or the exit code again.
     #[tactic(auto, using(crate::proofs::Seen::any_of_views))]
     fn is_again(&self, statement: &Statement<'a>) -> bool
         ensures again { result ≡ is_again (reader_seen self.now) (statement_seen statement.now) }
@@ -113,8 +114,8 @@ impl<'a> Reader<'a> {
         }
     }
 
-    /// Whether a procedure does not have the next number, or ends with an odd length or a wrong number of entries.
-    /// Returns `None` only if its length does not fit in 64 bits.
+    /// Returns whether `statement` begins a procedure with a number that is not the next one, or ends a procedure with
+    /// an odd length or a wrong number of jump entries. Returns `None` only if the length does not fit in 64 bits.
     fn is_miscounted(&self, statement: &Statement<'a>) -> Option<bool>
         ensures miscounted { IfSome result (λ wrong. wrong
             ≡ is_miscounted (reader_seen self.now) (statement_seen statement.now)) }
@@ -129,14 +130,15 @@ impl<'a> Reader<'a> {
         }
     }
 
-    /// Returns the first fault of a statement, if there is one. `ends_later` states whether a later line ends a
-    /// procedure.
+    /// Returns the first fault of the statement `said` on line `number`, or `None`. `ends_later` states whether a later
+    /// line ends a procedure.
     ///
     /// The faults are checked in this order:
     ///
-    /// - `Syntax`: the statement is not allowed here, or it begins a procedure that no later line ends.
-    /// - `Unknown`: a type word is unknown.
-    /// - `Twice`: a slot, a label or the exit code is repeated.
+    /// - `Syntax`: the statement is not allowed after the lines that were read, or it begins a procedure that no later
+    ///   line ends.
+    /// - `Unknown`: a type keyword is unknown.
+    /// - `Twice`: the statement defines a slot, a label or the exit code again.
     /// - `Range`: a number is out of range, a procedure has a wrong number, or its end has wrong counts.
     ///
     /// Returns `NoMemory` only if the length of the code does not fit in 64 bits.
@@ -171,8 +173,8 @@ impl<'a> Reader<'a> {
         }
     }
 
-    /// Returns the first fault of a line, if there is one. `ends_later` states whether a later line ends a procedure.
-    /// Returns `NoMemory` only if the length of the code does not fit in 64 bits.
+    /// Returns the first fault of the line `line` with the number `number`, or `None`. `ends_later` states whether a
+    /// later line ends a procedure. Returns `NoMemory` only if the length of the code does not fit in 64 bits.
     fn line_fault(&self, number: usize, line: &Line<'a>, ends_later: bool) -> Option<AsmFault>
         ensures fault { (rest : List text.Line) → ends_later ≡ list_any ends rest
             → Answers result (line_faults number (reader_seen self.now) (line_seen line.now) rest) }
@@ -198,14 +200,15 @@ impl<'a> Reader<'a> {
         }
     }
 
-    /// Returns the segments. A procedure that has not ended is not included.
+    /// Returns the segments. If a procedure has not ended, it is not included.
     pub(crate) fn into_segments(self) -> Vec<LabelledSegment<'a>>
         ensures segments { labelled_segments result.items ≡ (reader_seen self.entry).segments }
     {
         self.segments
     }
 
-    /// Ends the open procedure, if there is one.
+    /// Ends the procedure that has begun, and appends it to the last segment. If no procedure has begun, nothing
+    /// changes.
     fn close(&mut self) -> Result<(), AllocError>
         ensures ok { OnOk result (reader_seen self.new
             ≡ closed (reader_seen self.old).segments (reader_seen self.old).current) }
@@ -219,7 +222,7 @@ impl<'a> Reader<'a> {
         Ok(())
     }
 
-    /// Processes a statement.
+    /// Updates the reader by `statement`.
     fn say(&mut self, alloc: Global, statement: Statement<'a>) -> Result<(), AllocError>
         ensures ok { OnOk result (reader_seen self.new
             ≡ after (reader_seen self.old) (statement_seen statement.entry)) }
@@ -255,8 +258,8 @@ impl<'a> Reader<'a> {
         Ok(())
     }
 
-    /// Processes a line. A statement is processed if it is allowed at this position. A line that ends a procedure ends
-    /// it at any position.
+    /// Updates the reader by `line`. The statement of the line has an effect only if it is allowed after the lines that
+    /// were read. A line that ends a procedure always has this effect.
     fn take(&mut self, alloc: Global, line: Line<'a>) -> Result<(), AllocError>
         ensures ok { OnOk result (reader_seen self.new
             ≡ after_line (reader_seen self.old) (line_seen line.entry)) }
@@ -276,7 +279,8 @@ impl<'a> Reader<'a> {
         }
     }
 
-    /// Processes a line that has no fault. `ends_later` states whether a later line ends a procedure.
+    /// Checks `line`, and updates the reader by it if it has no fault. `ends_later` states whether a later line ends a
+    /// procedure.
     ///
     /// # Errors
     ///
@@ -302,8 +306,8 @@ impl<'a> Reader<'a> {
         self.take(alloc, line).map_err(|_| AsmFault::NoMemory)
     }
 
-    /// Parses and processes a line that has no fault. `number` is its line number. `ends_later` states whether a later
-    /// line ends a procedure.
+    /// Parses and checks a line, and updates the reader by it if it has no fault. `number` is the number of the line,
+    /// and `part` is its text. `ends_later` states whether a later line ends a procedure.
     ///
     /// # Errors
     ///
@@ -327,7 +331,8 @@ impl<'a> Reader<'a> {
         self.step(alloc, number, line, ends_later)
     }
 
-    /// Parses and processes a line, even if it has faults. `number` is its line number.
+    /// Parses a line, and updates the reader by it, even if it has faults. `number` is the number of the line, and
+    /// `part` is its text.
     pub(crate) fn take_line(
         &mut self,
         alloc: Global,
@@ -341,8 +346,8 @@ impl<'a> Reader<'a> {
         self.take(alloc, line)
     }
 
-    /// Returns the counts for an end of the procedure at this position. Returns `None` if no procedure is open, or if a
-    /// count does not fit in 64 bits.
+    /// Returns the counts of the procedure that has begun, as they would be checked if the next line ended it. Returns
+    /// `None` if no procedure has begun, or if a count does not fit in 64 bits.
     pub(crate) fn counts(&self) -> Option<Counts>
         ensures counts { IfSome result (AreCounts (reader_seen self.now)) }
     {
@@ -355,12 +360,12 @@ impl<'a> Reader<'a> {
         })
     }
 
-    /// Parses a line, appends its first fault to `found`, and processes the line. `number` is its line number.
-    /// `ends_later` states whether a later line ends a procedure.
+    /// Parses a line, appends its first fault to `found`, and updates the reader by the line. `number` is the number of
+    /// the line, and `part` is its text. `ends_later` states whether a later line ends a procedure.
     ///
     /// # Errors
     ///
-    /// Only `NoMemory`.
+    /// `NoMemory`: the host has no memory, or the length of the code does not fit in 64 bits.
     #[tactic(auto, using(crate::proofs::Eachs::first_noted))]
     pub(crate) fn note_line(
         &mut self,

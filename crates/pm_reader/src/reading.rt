@@ -1,4 +1,4 @@
-//! Reading the lines of source text in order.
+//! Reading of all lines of an assembly text, in order.
 
 ghost use Rattle.std.specs.Prelude.{◌≡◌, ℕ, [], nat_lt, drop, IfOk, IfErr, IfSome, OnOk};
 ghost use Rattle.std.specs.List.{list_any};
@@ -16,7 +16,7 @@ use pm_line::line_ends;
 use pm_source::AsmFault;
 use std::alloc::{AllocError, Global};
 
-/// Returns the number of lines up to the last one that ends a procedure.
+/// Returns the number of lines up to the last line that ends a procedure, or 0 if no line ends one.
 fn until_last_end(text: &str) -> usize
     ensures until { (at : ℕ) → list_any ends (drop at (lines_of text.now)) ≡ nat_lt at result }
 {
@@ -31,15 +31,16 @@ fn until_last_end(text: &str) -> usize
     until
 }
 
-/// Returns the segments of source text with their labels, in the order of the text.
+/// Returns the segments of the assembly text `text` with their labels, in the order of the text.
 ///
-/// It succeeds only if no line has a fault. It does not check whether labels that are used are defined, and how long
-/// segments are.
+/// The call succeeds only if no line has a fault. It does not check whether the labels that are used are defined, nor
+/// the lengths of segments.
 ///
 /// # Errors
 ///
-/// - The first of the lines' faults (`Syntax`, `Unknown`, `Range`, `Twice`), with its line, numbered from 1.
-/// - `NoMemory`: memory runs out, or the length of code does not fit in 64 bits. It can occur at any line.
+/// - The first fault of the lines (`Syntax`, `Unknown`, `Range` or `Twice`) with the number of its line. Lines are
+///   numbered from 1.
+/// - `NoMemory`: the host has no memory, or the length of the code does not fit in 64 bits. It can occur at any line.
 pub fn source_of<'a>(alloc: Global, text: &'a str) -> Result<Vec<LabelledSegment<'a>>, AsmFault>
     ensures faultless { OnOk result (faults_of_lines text.now ≡ []) }
     ensures read { IfOk result (λ ss. labelled_segments ss.items ≡ source_of text.now) }
@@ -55,12 +56,12 @@ pub fn source_of<'a>(alloc: Global, text: &'a str) -> Result<Vec<LabelledSegment
     Ok(reader.into_segments())
 }
 
-/// Returns the first fault of each line of source text that has one (`Syntax`, `Unknown`, `Range`, `Twice`), in the
-/// order of lines.
+/// Returns, for each line of `text` that has a fault, its first fault (`Syntax`, `Unknown`, `Range` or `Twice`), in the
+/// order of the lines.
 ///
 /// # Errors
 ///
-/// Only `NoMemory`.
+/// `NoMemory`: the host has no memory, or the length of the code does not fit in 64 bits.
 #[tactic(auto, unfolding(crate::specs::Each::firsts_of_lines))]
 pub fn faults_of_lines(alloc: Global, text: &str) -> Result<Vec<AsmFault>, AsmFault>
     ensures faults { IfOk result (λ faults. faults.items ≡ firsts_of_lines text.now) }
@@ -77,12 +78,13 @@ pub fn faults_of_lines(alloc: Global, text: &str) -> Result<Vec<AsmFault>, AsmFa
     Ok(found)
 }
 
-/// Returns the counts for an `.END` after a text, even if its lines have faults. Returns `None` if no procedure is open
-/// there, or if a count does not fit in 64 bits.
+/// Returns the counts of the procedure that has begun at the end of `text`, as they would be checked by an `.END` on
+/// the next line. The lines of `text` may have faults. Returns `None` if no procedure has begun, or if a count does not
+/// fit in 64 bits.
 ///
 /// # Errors
 ///
-/// `AllocError` if memory runs out.
+/// `AllocError`: the host has no memory.
 pub fn counts_of(alloc: Global, text: &str) -> Result<Option<Counts>, AllocError>
     ensures counts { IfOk result (λ counts. IfSome counts (AreCounts (after_lines start (lines_of text.now)))) }
 {

@@ -1,4 +1,4 @@
-//! The size of code, in bytes. Each function returns `None` only if its result exceeds `usize::MAX`.
+//! The sizes of code in bytes. Each function returns `None` only if its result exceeds `usize::MAX`.
 
 ghost use Rattle.std.specs.Prelude.{◌≡◌, ◌<◌, None, IfSome, map};
 ghost use Rattle.pm_code.specs.Program.{end_of};
@@ -11,8 +11,8 @@ use crate::source::LabelledProcedure;
 use pm_code::items_end;
 use pm_line::Row;
 
-/// Returns the offset, in bytes, after a line of code that begins at offset `at` of its segment. Returns `None` only if
-/// the offset exceeds `usize::MAX`.
+/// Returns the offset in bytes after the row `row`, which begins at offset `at` of its segment. Returns `None` only if
+/// the result exceeds `usize::MAX`.
 pub fn row_end(at: usize, row: &Row<'_>) -> Option<usize>
     ensures end { IfSome result (λ n. n ≡ end_of at (row_items (row_seen row.now))) }
     ensures too_long { result ≡ None → 18446744073709551615 < end_of at (row_items (row_seen row.now)) }
@@ -20,7 +20,8 @@ pub fn row_end(at: usize, row: &Row<'_>) -> Option<usize>
     items_end(at, row.items())
 }
 
-/// Returns the offset after code that begins at offset `at`.
+/// Returns the offset after the rows `rows`, which begin at offset `at`. Returns `None` only if the result exceeds
+/// `usize::MAX`.
 pub(crate) fn code_end(at: usize, rows: &[Row<'_>]) -> Option<usize>
     ensures end { IfSome result (λ n. n ≡ code_end at (map row_seen rows.now)) }
     ensures too_long { result ≡ None → 18446744073709551615 < code_end at (map row_seen rows.now) }
@@ -32,9 +33,9 @@ pub(crate) fn code_end(at: usize, rows: &[Row<'_>]) -> Option<usize>
     Some(end)
 }
 
-/// Returns the offset, in bytes, after a procedure that begins at offset `at` of its segment. The procedure has its
-/// code, two bytes for each entry of its jump table, and ten bytes of attributes. Returns `None` only if the offset
-/// exceeds `usize::MAX`.
+/// Returns the offset in bytes after `procedure`, which begins at offset `at` of its segment. The procedure consists of
+/// its code, two bytes for each entry of its jump table, and ten more bytes of its attribute table. Returns `None` only
+/// if the result exceeds `usize::MAX`.
 pub fn source_end(at: usize, procedure: &LabelledProcedure<'_>) -> Option<usize>
     ensures end { IfSome result (λ n. n ≡ source_end at (labelled_procedure procedure.now)) }
     ensures too_long { result ≡ None → 18446744073709551615 < source_end at (labelled_procedure procedure.now) }

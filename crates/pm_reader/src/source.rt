@@ -1,38 +1,38 @@
-//! Segments and procedures with their labels, as in source text.
+//! Segments and procedures as an assembly text contains them, with labels instead of offsets.
 
 use pm_line::Row;
 
 /// An entry of a jump table.
 #[derive(Clone, Copy, Drop)]
 pub struct Entry<'a> {
-    /// The line number.
+    /// The number of the line.
     pub line: usize,
-    /// The label to which it refers.
+    /// The label to which the entry leads.
     pub label: &'a [u8],
 }
 
-/// A procedure with its labels.
+/// A procedure with labels instead of offsets.
 #[derive(Drop)]
 pub struct LabelledProcedure<'a> {
-    /// Its level, as a byte in two's complement.
+    /// The level of the procedure, as a byte in two's complement.
     pub level: u8,
-    /// The size of its parameters, in bytes.
+    /// The size of the parameters, in bytes.
     pub parameters: u16,
-    /// The size of its locals, in bytes.
+    /// The size of the locals, in bytes.
     pub locals: u16,
-    /// Its code, line by line.
+    /// The rows of the code, in order.
     pub code: Vec<Row<'a>>,
-    /// Its jump table, from entry 0 on.
+    /// The entries of the jump table, from entry 0 on.
     pub entries: Vec<Entry<'a>>,
 }
 
 /// A segment with its procedures, which are numbered from 1.
 #[derive(Drop)]
 pub struct LabelledSegment<'a> {
-    /// Its number.
+    /// The number of the segment.
     pub number: u8,
-    /// Its name, 1 to 8 bytes.
+    /// The name of the segment, 1 to 8 bytes.
     pub name: &'a [u8],
-    /// Its procedures.
+    /// The procedures of the segment, in order.
     pub procedures: Vec<LabelledProcedure<'a>>,
 }

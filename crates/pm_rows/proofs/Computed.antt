@@ -1,4 +1,4 @@
--- The worked results, by computation.
+-- The worked examples of integer operations, computed by the checker.
 use Rattle.std.proofs.Common.{refl}
 use Rattle.pm_rows.specs.Worked.{WorkedResults}
 

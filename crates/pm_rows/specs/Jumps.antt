@@ -1,4 +1,5 @@
--- Jumps. IPC in the given registers is the address of the next instruction.
+-- The rules of the jump instructions. IPC in the registers before a jump is the address of the next instruction. A line
+-- such as `.., a, b -> .., c` shows the stack before and after the instruction, with the top at the right.
 use Rattle.std.specs.Prelude.{ℕ, ◌≡◌, ◌+◌, ◌-◌, ◌*◌, ◌%◌, Bool, true, not, ◌&&◌, List, Result, Ok, if◌then◌else◌, ◌==◌}
 use Rattle.std.specs.Prelude.{nat_lt, nat_le}
 use Rattle.pm_words.specs.declared.error.ExecError.{ExecError}
@@ -11,29 +12,29 @@ use Rattle.pm_families.specs.declared.families.Jump.TheVariants.{Short, Case}
 use Rattle.pm_opcode.specs.Spelling.{rank}
 use Rattle.pm_calls.specs.declared.registers.Registers.{Registers}
 
--- The registers `t` differ from `r` at most in SP and IPC.
+-- States that the registers `t` are `r` except for SP and IPC.
 abbrev pub OnlySpAndIpcDiffer : Registers → Registers → Type 0
 OnlySpAndIpcDiffer r t = t ≡ record r { sp = t.sp; ipc = t.ipc }
 
--- The target of the jump table entry at address `x`: the address `x` less the word at `x`.
+-- The target of the entry of a jump table at address `x`: the address `x` less the word at `x`.
 abbrev pub entry_target : List ℕ → ℕ → Result ℕ ExecError
 entry_target m x = load m x >>= λ w. Ok (minus x w)
 
--- The target of a jump. An offset below 32,768 leads forward from the next instruction. Any other offset is negative
--- and leads to the target of the jump table entry at JTAB plus the offset. This offset and the address of the entry
--- must be even.
+-- The target of a jump. If `offset` is below 32,768, the jump leads forward from the next instruction. Any other offset
+-- is a negative word, and the target is that of the entry of the jump table at JTAB plus the offset. The offset and the
+-- address of this entry must be even.
 unfoldable pub target : List ℕ → Registers → ℕ → Result ℕ ExecError
 target m r offset =
     if nat_lt offset 32768 then Ok ((r.ipc + offset) % 65536)
     else (demand (is_even offset) InvalidMemory >>= λ _. entry_target m ((r.jtab + offset) % 65536))
 
--- The registers after a jump. A jump that is not taken reads nothing and changes nothing.
+-- The registers after a jump. If `taken` is false, the registers are unchanged, and `offset` is not used.
 abbrev pub jumped : Bool → List ℕ → Registers → ℕ → Result Registers ExecError
 jumped taken m r offset = if taken then (target m r offset >>= λ ipc. Ok (record r { ipc = ipc })) else Ok r
 
--- UJP. .. -> ..
--- FJP. .., a -> ..: jumps if bit 0 of the word is 0
--- EFJ and NFJ. .., a, b -> ..: EFJ jumps if the two words differ, NFJ if they are equal; all 16 bits are compared
+-- UJP. .. -> ..: jumps.
+-- FJP. .., a -> ..: jumps if bit 0 of the word `a` is 0.
+-- EFJ and NFJ. .., a, b -> ..: EFJ jumps if the words `a` and `b` differ, and NFJ if they are equal. All 16 bits count.
 unfoldable pub short_row : Condition → List ℕ → Registers → ℕ → Result Registers ExecError
 short_row Always m r offset = jumped true m r offset
 short_row IfFalse m r offset = do
@@ -48,16 +49,16 @@ short_row IfEqual m r offset = do
   a ← pop m b.above
   jumped (a.word == b.word) m (record r { sp = a.above }) offset
 
--- The target of a case jump. For a signed value from `low` to `high` it is the target of the table entry for this
--- value. For any other value it is the jump of two bytes before the table. The rank of a word is its position in the
--- order of signed words.
+-- The target of a case jump for `value`. If `value` is from `low` to `high` as signed numbers, it is the target of the
+-- entry of the table for this value. Otherwise it is the address two bytes before the table, where a jump of two bytes
+-- is. The rank of a word is its position in the order of signed words.
 abbrev pub case_target : ℕ → ℕ → ℕ → List ℕ → ℕ → Result ℕ ExecError
 case_target low high table m value =
     if nat_le (rank low) (rank value) && nat_le (rank value) (rank high)
     then entry_target m ((table + 2 * (rank value - rank low)) % 65536)
     else Ok (minus (table % 65536) 2)
 
--- XJP. .., value -> ..: jumps to the case of the value
+-- XJP. .., value -> ..: jumps to the case of the value.
 unfoldable pub case_row : ℕ → ℕ → ℕ → List ℕ → Registers → Result Registers ExecError
 case_row low high table m r = do
   a ← pop m r.sp

@@ -1,4 +1,5 @@
--- The instruction rules on addresses on the stack. Addresses are modulo 65,536.
+-- The rules of the instructions that use an address on the stack. Addresses are modulo 65,536. A line such as `.., a, b
+-- -> .., c` shows the stack before and after the instruction, with the top at the right.
 use Rattle.std.specs.Prelude.{ℕ, ◌+◌, ◌-◌, ◌*◌, ◌%◌, Ok, nat_le, nat_lt}
 use Rattle.pm_words.specs.declared.error.ExecError.TheVariants.{InvalidMemory, StackOverflow}
 use Rattle.pm_words.specs.Words.{copied}
@@ -7,27 +8,27 @@ use Rattle.pm_families.specs.declared.families.Pointer.{Pointer}
 use Rattle.pm_families.specs.declared.families.Pointer.TheVariants.{Increment, Load, Index, Store, LoadWords}
 use Rattle.pm_families.specs.declared.families.Pointer.TheVariants.{StoreWords, Move}
 
--- INC. .., a -> .., a + 2b
+-- INC. .., a -> .., a + 2b: adds `b` words to the address a.
 unfoldable pub increment_row : ℕ → StackRow
 increment_row b m sp np = do
   a ← pop m sp
   push m a.above np ((a.word + 2 * b) % 65536)
 
--- IND and SIND. .., a -> .., the word at a + 2b
+-- IND and SIND. .., a -> .., w: `w` is the word at a + 2b.
 unfoldable pub indirect_row : ℕ → StackRow
 indirect_row b m sp np = do
   a ← pop m sp
   w ← load m ((a.word + 2 * b) % 65536)
   push m a.above np w
 
--- IXA. .., a, i -> .., a + 2bi: the address of item i of an array whose items have b words
+-- IXA. .., a, i -> .., a + 2bi: the address of item i of the array at a, whose items have `b` words.
 unfoldable pub index_row : ℕ → StackRow
 index_row b m sp np = do
   i ← pop m sp
   a ← pop m i.above
   push m a.above np ((a.word + 2 * b * i.word) % 65536)
 
--- STO. .., a, v -> ..: stores v at address a
+-- STO. .., a, v -> ..: writes the word v at address a.
 unfoldable pub store_indirect_row : StackRow
 store_indirect_row m sp np = do
   v ← pop m sp
@@ -35,7 +36,7 @@ store_indirect_row m sp np = do
   n ← store m a.word v.word
   Ok (n, a.above)
 
--- LDM. .., a -> .., n words: pushes the n words from address a on, with the word at the lowest address on top
+-- LDM. .., a -> .., n words: pushes the `n` words from address a on. The word at the lowest address is on top.
 unfoldable pub load_words_row : ℕ → StackRow
 load_words_row n m sp np = do
   a ← pop m sp
@@ -43,15 +44,16 @@ load_words_row n m sp np = do
   _ ← demand (nat_le (np + 2 * n) a.above) StackOverflow
   Ok (copied m a.word (a.above - 2 * n) (2 * n), a.above - 2 * n)
 
--- STM. .., a, n words -> ..: copies the n words on the stack to the address a below them, and pops all of them
+-- STM. .., a, n words -> ..: writes the `n` words on top of the stack from address a on. The address is below the
+-- words, and is popped too.
 unfoldable pub store_words_row : ℕ → StackRow
 store_words_row n m sp np = do
   a ← pop m (sp + 2 * n)
   _ ← demand (words_lie_in_memory a.word n) InvalidMemory
   Ok (copied m sp a.word (2 * n), a.above)
 
--- MOV. .., to, from -> ..: copies b words from address `from` to address `to`; all are read before any is written. An
--- instruction has at most 32,767 words.
+-- MOV. .., to, from -> ..: copies `b` words from address `from` to address `to`. All words are read before any is
+-- written. The error is `InvalidMemory` if `b` is above 32,767.
 unfoldable pub move_row : ℕ → StackRow
 move_row b m sp np = do
   from ← pop m sp

@@ -1,4 +1,5 @@
--- The instruction rules on bytes, sets, strings and fields, and the typed comparisons. Each is a rule of pm_values.
+-- The rules of the instructions on bytes, sets, strings and packed fields, and of the typed comparisons. Each rule is a
+-- definition of pm_values.
 use Rattle.pm_words.specs.Stack.{StackRow}
 use Rattle.pm_families.specs.declared.families.Value.{Value}
 use Rattle.pm_families.specs.declared.families.Value.TheVariants as value

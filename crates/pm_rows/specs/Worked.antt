@@ -1,4 +1,4 @@
--- Worked examples: the results of the definitions for a few words, worked out by hand.
+-- Worked examples: results of the definitions of integer operations for a few words, worked out by hand.
 use Rattle.std.specs.Prelude.{◌≡◌, Ok, Err, true, false}
 use Rattle.pm_words.specs.declared.error.ExecError.TheVariants.{DivideByZero}
 use Rattle.pm_families.specs.declared.families.Unary.TheVariants.{Absolute, Negate, Square, Complement}
@@ -7,11 +7,12 @@ use Rattle.pm_families.specs.declared.families.Relation.TheVariants.{Less}
 use Rattle.pm_rows.specs.Integers.{binary, relation, unary}
 
 pub record WorkedResults : Type 0 where
-  -- Sums and products wrap: 32,767 + 1 is the word 32,768.
+  -- Sums and products are taken modulo 65,536: 32,767 + 1 is the word 32,768.
   pub sum : binary Add 32767 1 ≡ Ok 32768
   pub difference : binary Subtract 0 1 ≡ Ok 65535
   pub product : binary Multiply 256 257 ≡ Ok 256
-  -- The quotient of -7 and 2 is -3, and the remainder is -1. The quotient of -32,768 and -1 wraps. Division by 0 fails.
+  -- The quotient of -7 and 2 is -3, and the remainder is -1. The quotient of -32,768 and -1 is the word 32,768.
+  -- Division by 0 fails.
   pub quotient : binary Divide 65529 2 ≡ Ok 65533
   pub remainder : binary Modulo 65529 2 ≡ Ok 65535
   pub wrapped : binary Divide 32768 65535 ≡ Ok 32768

@@ -1,4 +1,5 @@
-//! The instruction rules on words as integers.
+//! The rules of the instructions on words as integers. A line such as `.., a, b -> .., c` shows the stack before and
+//! after the instruction, with the top at the right.
 
 ghost use Rattle.std.specs.Prelude.{◌≡◌};
 ghost use Rattle.pm_words.specs.Top.{MovesTop};
@@ -9,7 +10,7 @@ ghost use Rattle.pm_rows.specs.Arithmetic.{unary_row};
 use pm_families::{Arithmetic, Binary, Relation, Unary};
 use pm_words::{ExecError, Memory, Top};
 
-// The result of an operation on one word.
+// Returns the result of an operation on the word `a`.
 #[inline(always)]
 fn word_of_one(operation: Unary, a: u16) -> u16
     ensures word { result ≡ unary operation a }
@@ -22,7 +23,7 @@ fn word_of_one(operation: Unary, a: u16) -> u16
     }
 }
 
-// The result of an operation on two words, or `DivideByZero`.
+// Returns the result of an operation on the words `a` and `b`, or the error `DivideByZero`.
 #[inline(always)]
 fn word_of_two(operation: Binary, a: u16, b: u16) -> Result<u16, ExecError>
     ensures word { result ≡ binary operation a b }
@@ -38,7 +39,7 @@ fn word_of_two(operation: Binary, a: u16, b: u16) -> Result<u16, ExecError>
     }
 }
 
-// DVI. The signed quotient, rounded toward zero.
+// `DVI`: returns the signed quotient of `a` and `b`, rounded toward zero.
 fn quotient(a: u16, b: u16) -> Result<u16, ExecError>
     ensures word { result ≡ binary Binary.Divide a b }
 {
@@ -49,7 +50,7 @@ fn quotient(a: u16, b: u16) -> Result<u16, ExecError>
     Ok(quotient.cast_unsigned())
 }
 
-// MODI. The signed remainder, with the sign of `a`.
+// `MODI`: returns the signed remainder of `a` and `b`, which has the sign of `a`.
 fn remainder(a: u16, b: u16) -> Result<u16, ExecError>
     ensures word { result ≡ binary Binary.Modulo a b }
 {
@@ -60,7 +61,7 @@ fn remainder(a: u16, b: u16) -> Result<u16, ExecError>
     Ok(remainder.cast_unsigned())
 }
 
-// Whether `a` and `b` satisfy the relation as signed numbers.
+// Returns whether the relation is true for `a` and `b` as signed numbers.
 #[inline(always)]
 fn holds(operation: Relation, a: u16, b: u16) -> bool
     ensures holds { result ≡ relation operation a b }
@@ -77,7 +78,7 @@ fn holds(operation: Relation, a: u16, b: u16) -> bool
     }
 }
 
-// SLDC, LDCI and LDCN. .. -> .., word
+// SLDC, LDCI and LDCN. .. -> .., word: pushes `word`.
 #[inline(always)]
 #[tactic(auto, unfolding(crate::specs::Arithmetic::constant_row), using(pm_words::proofs::WatchLaws::stays))]
 fn constant(memory: &mut Memory, top: Top, word: u16) -> Result<Top, ExecError>
@@ -89,7 +90,7 @@ fn constant(memory: &mut Memory, top: Top, word: u16) -> Result<Top, ExecError>
     Ok(stack)
 }
 
-// ABI, NGI, SQI and LNOT. .., a -> .., b
+// ABI, NGI, SQI and LNOT. .., a -> .., b: replaces the word `a` by the result of the operation.
 #[inline(always)]
 #[tactic(auto, unfolding(crate::specs::Arithmetic::unary_row), using(pm_words::proofs::WatchLaws::stays))]
 fn unary(memory: &mut Memory, top: Top, operation: Unary) -> Result<Top, ExecError>
@@ -102,7 +103,7 @@ fn unary(memory: &mut Memory, top: Top, operation: Unary) -> Result<Top, ExecErr
     Ok(stack)
 }
 
-// ADI, SBI, MPI, DVI, MODI, LAND and LOR. .., a, b -> .., c
+// ADI, SBI, MPI, DVI, MODI, LAND and LOR. .., a, b -> .., c: replaces two words by the result of the operation.
 #[inline(always)]
 #[tactic(auto, unfolding(crate::specs::Arithmetic::binary_row), using(pm_words::proofs::WatchLaws::stays))]
 fn binary(memory: &mut Memory, top: Top, operation: Binary) -> Result<Top, ExecError>
@@ -116,7 +117,7 @@ fn binary(memory: &mut Memory, top: Top, operation: Binary) -> Result<Top, ExecE
     Ok(stack)
 }
 
-// EQUI, NEQI, LESI, LEQI, GRTI and GEQI. .., a, b -> .., 1 or 0
+// EQUI, NEQI, LESI, LEQI, GRTI and GEQI. .., a, b -> .., 1 or 0: compares two signed words.
 #[inline(always)]
 #[tactic(auto, unfolding(crate::specs::Arithmetic::relation_row), using(pm_words::proofs::WatchLaws::stays))]
 fn relation(memory: &mut Memory, top: Top, operation: Relation) -> Result<Top, ExecError>
@@ -129,7 +130,7 @@ fn relation(memory: &mut Memory, top: Top, operation: Relation) -> Result<Top, E
     Ok(stack)
 }
 
-// CHK. .., a, b, c -> .., a
+// CHK. .., a, b, c -> .., a: fails unless b <= a <= c as signed numbers.
 #[inline(always)]
 #[tactic(auto, unfolding(crate::specs::Arithmetic::check_row), using(pm_words::proofs::WatchLaws::stays))]
 fn check(memory: &mut Memory, top: Top) -> Result<Top, ExecError>
@@ -147,11 +148,11 @@ fn check(memory: &mut Memory, top: Top) -> Result<Top, ExecError>
     Ok(stack)
 }
 
-/// Executes an operation on words as integers. Returns the new top of the stack.
+/// Executes an operation on words as integers. Returns SP and NP after the operation.
 ///
 /// # Errors
 ///
-/// An error leaves the memory unchanged. The checks are in this order:
+/// An error leaves the memory unchanged. The errors are checked in this order:
 ///
 /// - `InvalidMemory` if the stack has too few words.
 /// - `DivideByZero` if `DVI` or `MODI` divides by 0.

@@ -1,4 +1,5 @@
-//! Jumps.
+//! The rules of the jump instructions. A line such as `.., a, b -> .., c` shows the stack before and after the
+//! instruction, with the top at the right.
 
 ghost use Rattle.std.specs.Prelude.{◌≡◌, ◌<◌, IfOk};
 ghost use Rattle.pm_opcode.specs.Spelling.{rank, signed_byte};
@@ -10,7 +11,7 @@ use pm_families::{Condition, Jump};
 use pm_words::stack::load;
 use pm_words::{ExecError, Memory};
 
-/// Returns the word of a signed byte. It is the offset of a jump of two bytes.
+/// Returns a signed byte, extended to a word. A jump of two bytes has such a byte as its offset.
 #[inline(always)]
 pub fn signed(byte: u8) -> u16
     ensures word { result ≡ signed_byte byte }
@@ -19,7 +20,8 @@ pub fn signed(byte: u8) -> u16
     if word < 128 { word } else { word + 65280 }
 }
 
-// The target of a jump: forward from the next instruction, or by an entry of the jump table.
+// Returns the target of a jump. If `offset` is at least 0 as a signed number, the jump leads forward from the next
+// instruction. Otherwise the target is that of the entry of the jump table at JTAB + `offset`.
 #[inline(always)]
 #[tactic(auto, unfolding(crate::specs::Jumps::target))]
 fn target(memory: &Memory, registers: ValidRegisters, offset: u16) -> Result<u16, ExecError>
@@ -35,7 +37,7 @@ fn target(memory: &Memory, registers: ValidRegisters, offset: u16) -> Result<u16
     entry_target(memory, registers.jtab.wrapping_add(offset))
 }
 
-// The target of the jump table entry at address `entry`.
+// Returns the target of the entry of a jump table at address `entry`: this address less the word at it.
 #[inline(always)]
 fn entry_target(memory: &Memory, entry: u16) -> Result<u16, ExecError>
     ensures target { result ≡ entry_target memory.now.words entry }
@@ -44,7 +46,7 @@ fn entry_target(memory: &Memory, entry: u16) -> Result<u16, ExecError>
     Ok(entry.wrapping_sub(distance))
 }
 
-// The registers after a jump that is taken or not.
+// Returns the registers after a jump. If `taken` is false, the registers are unchanged.
 #[inline(always)]
 fn jump_if(
     taken: bool,
@@ -62,7 +64,7 @@ fn jump_if(
     Ok(registers.with_ipc(ipc))
 }
 
-// UJP, FJP, EFJ and NFJ. The registers after a jump of two bytes.
+// UJP, FJP, EFJ and NFJ. Returns the registers after a jump of two bytes.
 #[inline(always)]
 #[tactic(auto, unfolding(crate::specs::Jumps::short_row))]
 fn short(
@@ -96,7 +98,7 @@ fn short(
     }
 }
 
-// The position of a word in the order of signed words.
+// Returns the position of `word` in the order of signed words, where -32,768 has position 0.
 #[inline(always)]
 fn rank(word: u16) -> u16
     ensures rank { result ≡ rank word }
@@ -104,7 +106,8 @@ fn rank(word: u16) -> u16
     word.wrapping_add(32768)
 }
 
-// The target of a case jump for `value`.
+// Returns the target of the case jump with the bounds `low` and `high` and the table at address `table`, for the value
+// `value`.
 #[inline(always)]
 fn case_target(
     memory: &Memory,
@@ -124,7 +127,7 @@ fn case_target(
     entry_target(memory, table.wrapping_add(further.wrapping_mul(2)))
 }
 
-// XJP. .., value -> ..
+// XJP. .., value -> ..: returns the registers after the jump to the case of the value.
 #[inline(always)]
 #[tactic(auto, unfolding(crate::specs::Jumps::case_row))]
 fn case(
@@ -143,13 +146,13 @@ fn case(
     Ok(registers.with_top(top).with_ipc(ipc))
 }
 
-/// Returns the registers after a jump. IPC in `registers` is the address of the next instruction. Only SP and IPC
-/// change.
+/// Returns the registers after the jump `operation`. IPC in `registers` is the address of the next instruction. Only SP
+/// and IPC change.
 ///
 /// # Errors
 ///
-/// `InvalidMemory` if the stack has too few words, or if a jump that is taken has an odd table offset or table entry
-/// address.
+/// `InvalidMemory`: the stack has too few words; or the jump is taken, and the offset to its entry of the jump table or
+/// the address of the entry is odd.
 #[inline(always)]
 #[tactic(auto, unfolding(crate::specs::Jumps::jump_row))]
 pub fn perform(

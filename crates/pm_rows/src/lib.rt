@@ -1,6 +1,6 @@
-//! Instruction rules that change only the memory and the registers: arithmetic and comparisons of words, variables,
-//! addresses, words and texts of the code, values, and jumps. Each family of operations is a module with one call,
-//! `perform`.
+//! The rules of instructions that change only the memory and the registers: arithmetic, variables, addresses, constants
+//! in the code, values of more or less than one word, and jumps. Each family of operations (an enum of pm_families) has
+//! a module with one public call, `perform`.
 #![tactic(auto)]
 
 pub mod arithmetic;

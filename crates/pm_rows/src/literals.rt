@@ -1,4 +1,5 @@
-//! The instruction rules on constants in the code.
+//! The rules of the instructions that push constants in the code. A line such as `.., a, b -> .., c` shows the stack
+//! before and after the instruction, with the top at the right.
 
 ghost use Rattle.std.specs.Prelude.{◌≡◌, ◌+◌, ◌-◌, ◌*◌, ◌%◌, ◌≤◌, length, reverse};
 ghost use Rattle.pm_words.specs.Watch.{WatchStays};
@@ -10,7 +11,7 @@ use arrayvec::ArrayVec;
 use pm_families::Literal;
 use pm_words::{ExecError, Memory, Top};
 
-// The `count` words from the even address `start` on.
+// Returns the `count` words of memory from the even address `start` on.
 fn words_in(memory: &Memory, start: u32, count: u8) -> ArrayVec<u16, 255>
     requires even { start % 2 ≡ 0 }
     requires inside { start + 2 * count ≤ 65536 }
@@ -25,7 +26,7 @@ fn words_in(memory: &Memory, start: u32, count: u8) -> ArrayVec<u16, 255>
     words
 }
 
-// Writes words below an even SP. The first word is at the highest address.
+// Writes the items of `words` below the even address `sp`, the first item at the highest address.
 #[tactic(auto, using(pm_words::proofs::WatchLaws::stays))]
 fn put_words(memory: &mut Memory, sp: u16, words: &[u16])
     requires even { sp % 2 ≡ 0 }
@@ -41,7 +42,7 @@ fn put_words(memory: &mut Memory, sp: u16, words: &[u16])
     }
 }
 
-// LDC. .. -> .., the words
+// LDC. .. -> .., words: pushes `count` words of the code from address `start` on.
 #[tactic(auto, unfolding(crate::specs::Literals::words_row), using(pm_words::proofs::WatchLaws::stays))]
 fn words(memory: &mut Memory, top: Top, start: u32, count: u8) -> Result<Top, ExecError>
     ensures row { MovesTop result top memory.old memory.new
@@ -60,7 +61,7 @@ fn words(memory: &mut Memory, top: Top, start: u32, count: u8) -> Result<Top, Ex
     Ok(Top::of(sp - size, np))
 }
 
-// LSA and LPA. .. -> .., address
+// LSA and LPA. .. -> .., address: pushes `address`.
 #[tactic(auto, unfolding(crate::specs::Literals::literal_address_row), using(pm_words::proofs::WatchLaws::stays))]
 fn address(memory: &mut Memory, top: Top, address: u16) -> Result<Top, ExecError>
     ensures row { MovesTop result top memory.old memory.new
@@ -71,12 +72,13 @@ fn address(memory: &mut Memory, top: Top, address: u16) -> Result<Top, ExecError
     Ok(stack)
 }
 
-/// Pushes a constant of the code: the address of a text, or words. Returns the new top of the stack.
+/// Pushes a constant in the code: the address of a text, or words. Returns SP and NP after the push.
 ///
 /// # Errors
 ///
-/// An error leaves the memory unchanged. `StackOverflow` if SP would be below NP. For words it is `InvalidMemory`
-/// before that if the words are not in memory from an even address on, or if SP is odd.
+/// An error leaves the memory unchanged. The errors are checked in this order:
+/// - `InvalidMemory` (words only): the words are not in memory from an even address on, or SP is odd.
+/// - `StackOverflow`: SP would be below NP.
 #[tactic(auto, unfolding(crate::specs::Literals::literal_row), using(pm_words::proofs::WatchLaws::stays))]
 pub fn perform(memory: &mut Memory, top: Top, operation: Literal) -> Result<Top, ExecError>
     ensures row { MovesTop result top memory.old memory.new

@@ -1,4 +1,5 @@
-//! The instruction rules on addresses on the stack.
+//! The rules of the instructions that use an address on the stack. A line such as `.., a, b -> .., c` shows the stack
+//! before and after the instruction, with the top at the right.
 
 ghost use Rattle.std.specs.Prelude.{◌≡◌, ◌+◌, ◌*◌, ◌%◌};
 ghost use Rattle.pm_words.specs.Top.{MovesTop};
@@ -10,7 +11,7 @@ use pm_words::layout::HIGHEST_WORD;
 use pm_words::stack::{load, pop, store};
 use pm_words::{ExecError, Memory, Top};
 
-// INC. .., a -> .., a + 2 * by
+// INC. .., a -> .., a + 2 * by: adds `by` words to the address a.
 #[inline(always)]
 #[tactic(auto, unfolding(crate::specs::Pointers::increment_row), using(pm_words::proofs::WatchLaws::stays))]
 fn increment(memory: &mut Memory, top: Top, by: u16) -> Result<Top, ExecError>
@@ -23,7 +24,7 @@ fn increment(memory: &mut Memory, top: Top, by: u16) -> Result<Top, ExecError>
     Ok(stack)
 }
 
-// IND and SIND. .., a -> .., the word at a + 2 * by
+// IND and SIND. .., a -> .., w: replaces the address a by the word at a + 2 * by.
 #[inline(always)]
 #[tactic(auto, unfolding(crate::specs::Pointers::indirect_row), using(pm_words::proofs::WatchLaws::stays))]
 fn indirect(memory: &mut Memory, top: Top, by: u16) -> Result<Top, ExecError>
@@ -37,7 +38,7 @@ fn indirect(memory: &mut Memory, top: Top, by: u16) -> Result<Top, ExecError>
     Ok(stack)
 }
 
-// The address of item `i` of an array at `a` whose items have `size` words.
+// Returns the address of item `i` of the array at address `a`, whose items have `size` words.
 #[inline(always)]
 fn item_at(a: u16, size: u16, i: u16) -> u16
     ensures address { result ≡ (a + 2 * size * i) % 65536 }
@@ -46,7 +47,7 @@ fn item_at(a: u16, size: u16, i: u16) -> u16
     ((u64::from(a) + bytes) % 65536) as u16
 }
 
-// IXA. .., a, i -> .., the address of item i
+// IXA. .., a, i -> .., x: replaces the address a and the index i by the address of item i. Each item has `size` words.
 #[inline(always)]
 #[tactic(auto, unfolding(crate::specs::Pointers::index_row), using(pm_words::proofs::WatchLaws::stays))]
 fn index(memory: &mut Memory, top: Top, size: u16) -> Result<Top, ExecError>
@@ -59,7 +60,7 @@ fn index(memory: &mut Memory, top: Top, size: u16) -> Result<Top, ExecError>
     Ok(stack)
 }
 
-// STO. .., a, v -> ..
+// STO. .., a, v -> ..: writes the word v at address a.
 #[inline(always)]
 #[tactic(auto, unfolding(crate::specs::Pointers::store_indirect_row), using(pm_words::proofs::WatchLaws::stays))]
 fn store_indirect(memory: &mut Memory, top: Top) -> Result<Top, ExecError>
@@ -73,7 +74,7 @@ fn store_indirect(memory: &mut Memory, top: Top) -> Result<Top, ExecError>
     Ok(stack)
 }
 
-// LDM. .., a -> .., the words
+// LDM. .., a -> .., words: pushes the `words` words from address a on.
 #[tactic(auto, unfolding(crate::specs::Pointers::load_words_row), using(pm_words::proofs::WatchLaws::stays))]
 fn load_words(memory: &mut Memory, top: Top, words: u8) -> Result<Top, ExecError>
     ensures row { MovesTop result top memory.old memory.new
@@ -92,7 +93,7 @@ fn load_words(memory: &mut Memory, top: Top, words: u8) -> Result<Top, ExecError
     Ok(Top::of(a.above - size, np))
 }
 
-// STM. .., a, the words -> ..
+// STM. .., a, words -> ..: pops `words` words and writes them from address a on.
 #[tactic(auto, unfolding(crate::specs::Pointers::store_words_row), using(pm_words::proofs::WatchLaws::stays))]
 fn store_words(memory: &mut Memory, top: Top, words: u8) -> Result<Top, ExecError>
     ensures row { MovesTop result top memory.old memory.new
@@ -111,7 +112,7 @@ fn store_words(memory: &mut Memory, top: Top, words: u8) -> Result<Top, ExecErro
     Ok(Top::of(a.above, top.np()))
 }
 
-// MOV. .., to, from -> ..
+// MOV. .., to, from -> ..: copies `words` words from address `from` to address `to`.
 #[tactic(auto, unfolding(crate::specs::Pointers::move_row), using(pm_words::proofs::WatchLaws::stays))]
 fn move_words(memory: &mut Memory, top: Top, words: u16) -> Result<Top, ExecError>
     ensures row { MovesTop result top memory.old memory.new
@@ -134,15 +135,14 @@ fn move_words(memory: &mut Memory, top: Top, words: u16) -> Result<Top, ExecErro
     Ok(stack)
 }
 
-/// Executes an operation on an address on the stack. Returns the new top of the stack.
+/// Executes an operation that uses an address on the stack. Returns SP and NP after the operation.
 ///
 /// # Errors
 ///
-/// An error leaves the memory unchanged. The checks are in this order:
-///
-/// - `InvalidMemory` if the stack has too few words.
-/// - `InvalidMemory` if an address is odd, words are outside memory, or `MOV` has more than 32,767 words.
-/// - `StackOverflow` if SP would be below NP.
+/// An error leaves the memory unchanged. The errors are checked in this order:
+/// - `InvalidMemory`: the stack has too few words.
+/// - `InvalidMemory`: an address is odd, words are outside memory, or `MOV` has more than 32,767 words.
+/// - `StackOverflow`: SP would be below NP.
 #[inline(always)]
 #[tactic(auto, unfolding(crate::specs::Pointers::pointer_row), using(pm_words::proofs::WatchLaws::stays))]
 pub fn perform(memory: &mut Memory, top: Top, operation: Pointer) -> Result<Top, ExecError>

@@ -1,4 +1,4 @@
-//! The instruction rules on bytes, sets, strings and fields, and the typed comparisons.
+//! The rules of the instructions on bytes, sets, strings and packed fields, and of the typed comparisons.
 
 ghost use Rattle.std.specs.Prelude.{◌≡◌, IfOk};
 ghost use Rattle.pm_words.specs.Stack.{IsStack, Changes};
@@ -8,7 +8,8 @@ ghost use Rattle.pm_rows.specs.Values.{field_row, set_row, value_row};
 use pm_families::{Byte, Field, Set, Text, Value};
 use pm_words::{ExecError, Memory, Top};
 
-// SP and NP are passed as numbers, as the functions of pm_values require.
+// Executes an operation on sets, and returns the new SP. SP and NP are separate numbers, as the functions of pm_values
+// require.
 #[tactic(auto, unfolding(crate::specs::Values::set_row), using(pm_words::proofs::WatchLaws::stays))]
 fn set(memory: &mut Memory, sp: u16, np: u16, operation: Set) -> Result<u16, ExecError>
     ensures row { Changes result memory.old memory.new (set_row operation memory.old.words sp np) }
@@ -56,11 +57,12 @@ fn value(memory: &mut Memory, sp: u16, np: u16, operation: Value) -> Result<u16,
     }
 }
 
-/// Executes an operation on values in memory. Returns the new top of the stack.
+/// Executes an operation on a byte, a set, a string or a packed field, or a typed comparison. Returns SP and NP after
+/// the operation.
 ///
 /// # Errors
 ///
-/// The error is that of the operation in pm_values. The memory is then unchanged.
+/// The error is the error of the called function of pm_values. It leaves the memory unchanged.
 #[inline(always)]
 pub fn perform(memory: &mut Memory, top: Top, operation: Value) -> Result<Top, ExecError>
     ensures row { MovesTop result top memory.old memory.new

@@ -1,4 +1,4 @@
--- The statements of a sound program have no faults and are read as that program.
+-- If segments are sound, then their statements have no faults, and reading these statements returns the segments.
 use Rattle.std.proofs.Common.{◌≡◌, ◌≤◌, ℕ, ◌+◌, ◌%◌, Bool, true, false, eqb, not, List, [], ◌∷◌, ◌++◌}
 use Rattle.std.proofs.Common.{length, map, refl, sym, ap, subst, ◌∙◌, arith, append_assoc, Some, None}
 use Rattle.std.specs.Prelude.{◌&&◌, ◌||◌, nat_eq, nat_lt, ◌==◌}
@@ -39,7 +39,7 @@ labels_append (Items line label items ∷ xs) ys =
     ap (λ zs. option_to_list label ++ zs) (labels_append xs ys) ∙ sym (append_assoc (option_to_list label) (labels_of xs) (labels_of ys))
 labels_append (Exit ∷ xs) ys = labels_append xs ys
 
--- An element among distinct ones differs from those before it.
+-- If the items of a list are distinct, then an item differs from all items before it.
 pub new_among : {K : Type 0} (eq : K → K → Bool) (xs : List K) (y : K) (ys : List K) → IsDistinct eq (xs ++ y ∷ ys) → list_any (λ x. eq x y) xs ≡ false
 unfolding IsDistinct
 new_among eq [] y ys h = refl
@@ -52,7 +52,7 @@ new_among eq (x ∷ xs) y ys h = both (eq x y) (list_any (λ z. eq z y) xs) (at 
     both : (a b : Bool) → a ≡ false → b ≡ false → (a || b) ≡ false
     both a b e f = cc
 
--- The reading inside a procedure of a segment.
+-- The state inside the procedure `p`, after the segments `segments`.
 abbrev inside : List SourceSegment → Source → Reading
 inside segments p = record { segments = segments; current = Some p }
 
@@ -62,7 +62,7 @@ with_code p rows = record p { code = p.code ++ rows }
 abbrev outside : List SourceSegment → Reading
 outside segments = record { segments = segments; current = None }
 
--- Rows that may follow the rows read so far.
+-- States that the rows `rows` may follow the rows of the procedure `p` that were read.
 pub record RowsFit (p : Source) (rows : List Row) : Type 0 where
   pub labels : IsDistinct bytes_eq (labels_of (p.code ++ rows))
   pub exits : exits_of (p.code ++ rows) ≤ 1
@@ -113,7 +113,7 @@ rows_fit segments p (row ∷ rows) h =
     let more = rows_fit segments (with_code p (row ∷ [])) rows (next_rows p row rows h) in
     ((row_fits segments p row rows h, more.0), more.1 ∙ ap (λ c. inside segments (record p { code = c })) (append_assoc p.code (row ∷ []) rows))
 
--- The entries after the code.
+-- After the code of a procedure, its jump entries have no faults and are appended to the procedure.
 pub entries_fit : (segments : List SourceSegment) (p : Source) (entries : List (ℕ × Name))
     → AreFit (inside segments p) (map entry_statement entries) × (after_all (inside segments p) (map entry_statement entries)
     ≡ inside segments (record p { entries = p.entries ++ entries }))
@@ -124,7 +124,7 @@ entries_fit segments p (e ∷ es) =
       more.1 ∙ ap (λ xs. inside segments (record p { entries = xs })) (append_assoc p.entries (e ∷ []) es),
     )
 
--- A whole procedure, from its first statement to its last.
+-- The procedure `p` after its first statement, without code and jump entries.
 abbrev begun : Source → Source
 begun p = record { level = p.level; parameters = p.parameters; locals = p.locals; code = []; entries = [] }
 
@@ -218,7 +218,7 @@ segments_fit done (s ∷ ss) d h =
       all_after (outside done) front (statements ss) ∙ ap (λ r. after_all r (statements ss)) here ∙ more.1 ∙ ap outside regrouped,
     )
 
--- The statements of a sound program fit and are read as that program.
+-- If segments are sound, then reading their statements has no faults and returns these segments.
 pub program_fits : (ss : List SourceSegment) → AreSources ss → AreFit start (statements ss)
     × (after_all start (statements ss) ≡ record { segments = ss; current = None })
 program_fits ss h = segments_fit [] ss h.0 h.1

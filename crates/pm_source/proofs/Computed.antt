@@ -1,4 +1,4 @@
--- The worked lines and faults, by computation.
+-- The worked examples of lines and faults, computed by the checker.
 use Rattle.std.proofs.Common.{refl}
 use Rattle.pm_opcode.specs.Table.{form_of, groups, implied, mnemonic_of}
 use Rattle.pm_source.specs.Faults.{faults}

@@ -1,4 +1,4 @@
--- The ends of procedures after their labels are found, and the segments of a text by their numbers.
+-- The offsets at which procedures end after their labels are replaced by offsets, and the segments of a text by number.
 use Rattle.std.proofs.Common.{◌≡◌, ◌<◌, ◌≤◌, ℕ, ◌+◌, Bool, true, false, List, [], ◌∷◌, ◌++◌, length}
 use Rattle.std.proofs.Common.{map, refl, sym, ap, subst, ◌∙◌, arith, append_assoc, Some, inl, inr}
 use Rattle.std.specs.Prelude.{zero, suc, nat_eq, ◌==◌, if◌then◌else◌}
@@ -27,18 +27,18 @@ pub end_of_items : (at : ℕ) (rows : List Row) → end_of at (items_of rows) �
 end_of_items at [] = refl
 end_of_items at (row ∷ rows) = end_append at (row_items row) (items_of rows) ∙ end_of_items (end_of at (row_items row)) rows
 
--- The code of a procedure has the same end after its labels are found.
+-- Replacing the labels of a procedure by offsets does not change the end of its code.
 pub found_code_end : (at : ℕ) (p : Source) → end_of at (map (found_item (place_of at p.code)) (items_of p.code)) ≡ code_end at p.code
 found_code_end at p = found_end (place_of at p.code) at (items_of p.code) ∙ end_of_items at p.code
 
--- The next procedure therefore begins at the offset that the text defines.
+-- Replacing the labels of a procedure by offsets does not change the offset at which the next procedure begins.
 pub found_behind : (at : ℕ) (p : Source) → jtab_of (found_procedure at p) + 2 ≡ source_end at p
 found_behind at p =
     let entries : length (map (λ e. found_label (place_of at p.code) e.1) p.entries) ≡ length p.entries =
     map_length (λ e. found_label (place_of at p.code) e.1) p.entries in
     omega (arith, found_code_end at p, entries)
 
--- A property of all segments is one of the segments with a given number.
+-- If a property is true for all segments, then it is true for the segments with the number `n`.
 all_with : (P : SourceSegment → Type 0) (n : ℕ) (ss : List SourceSegment) → AllByRecursion P ss → AllByRecursion P (option_to_list (segment_with n ss))
 all_with P n [] h = tt
 all_with P n (s ∷ ss) h = by (s.number == n) (all_with P n ss h.1)
@@ -55,7 +55,7 @@ all_from P n (suc count) ss h =
 pub all_ascending : (P : SourceSegment → Type 0) (ss : List SourceSegment) → AllByRecursion P ss → AllByRecursion P (ascending ss)
 all_ascending P ss h = all_from P 0 16 ss h
 
--- The converse: each segment with a number below 16 is taken.
+-- If a property is true for all items of two joined lists, then it is true for all items of each list.
 pub all_split : {A : Type 0} (P : A → Type 0) (xs ys : List A) → AllByRecursion P (xs ++ ys) → AllByRecursion P xs × AllByRecursion P ys
 all_split P [] ys h = (tt, h)
 all_split P (x ∷ xs) ys h = let more = all_split P xs ys h.1 in ((h.0, more.0), more.1)
@@ -74,7 +74,7 @@ taken P n (suc count) ss m s h low high e =
           first.0)
     ]
 
--- The first segment with a number, if those before it have other numbers.
+-- If the segments before `s` have other numbers, then `s` is the first segment with its number.
 first_with : (done : List SourceSegment) (s : SourceSegment) (rest : List SourceSegment) → list_any (λ n. nat_eq n s.number) (map (λ t. t.number) done) ≡ false
     → segment_with s.number (done ++ s ∷ rest) ≡ Some s
 first_with [] s rest h = let same : nat_eq s.number s.number ≡ true = eq-eqb _ _ refl in rw same refl

@@ -1,4 +1,4 @@
--- The lines of a text have no faults if and only if they state the statements of a sound program.
+-- The lines of a text have no faults if and only if they state the statements of sound segments.
 use Rattle.std.proofs.Common.{◌≡◌, ℕ, ◌+◌, Bool, true, false, List, [], ◌∷◌, ◌++◌, map, refl, sym, ap, subst, ◌∙◌, append_assoc, Option, Some, None}
 use Rattle.std.specs.Prelude.{◌||◌, is_some, nat_eq}
 use Rattle.std.specs.List.{list_any, IsDistinct}
@@ -31,7 +31,7 @@ closed_at_end segments (Some p) (Code row ∷ said) f h e = closed_at_end segmen
 closed_at_end segments (Some p) (Entry line name ∷ said) f h e = closed_at_end segments (Some _) said f.1 h e.1
 closed_at_end segments (Some p) (End ∷ said) f h e = closed_at_end _ None said f.1 (λ k. absurd (let l : false ≡ true = k in cc)) e.1
 
--- The same list, with the parts of the reading separate.
+-- If no procedure is open, then the statements read so far are the statements of the complete segments.
 closed_reading : (r : Reading) (said : List Statement) → taken_in r ≡ said → r.current ≡ None → statements r.segments ≡ said
 closed_reading r said e c = closing r.current c e
   where
@@ -52,7 +52,8 @@ faultless_is_said text e =
     let same : source_of text ≡ (after_all start s.said).segments = ap (λ q. q.segments) s.same in
     (subst (AreSaid (lines_of text)) (sym (ap statements same ∙ all)) s.are_said, subst AreSources (sym same) r.sound.finished)
 
--- Each procedure of a program ends.
+-- If a list has no statement that begins a procedure, then appending statements whose procedures all end gives a list
+-- whose procedures all end.
 no_begin : (xs ys : List Statement) → list_any is_begin xs ≡ false → AllEnd ys → AllEnd (xs ++ ys)
 no_begin [] ys h k = k
 no_begin (x ∷ xs) ys h k = (λ b. absurd (contradict (is_begin x) b h), no_begin xs ys (rest (is_begin x) h) k)

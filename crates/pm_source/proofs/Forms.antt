@@ -1,4 +1,4 @@
--- An instruction whose operands are in range is an item in its ranges.
+-- If the operands of an instruction are in range, then its item is valid (`IsGood`).
 use Rattle.std.proofs.Common.{◌≡◌, ◌<◌, ◌≤◌, ℕ, ◌+◌, ◌-◌, Bool, true, false, List, [], ◌∷◌, refl, sym, ap, subst, arith, Option, Some, None, inl, inr}
 use Rattle.std.specs.Prelude.{zero, suc, nat_eq, nat_lt, nat_le, ◌&&◌, if◌then◌else◌}
 use Rattle.std.proofs.lemmas.Bool.{lt-ltb, leb-true, eqb-true, cases_lt}
@@ -16,11 +16,11 @@ use Rattle.pm_source.specs.Line.{short_instruction, bare_instruction, one_number
 use Rattle.pm_source.proofs.Numerals.{bound, both, pair_is, some_is, stored_small}
 use Rattle.pm_source.proofs.Goods.{IsGood, IsNumber, well, is_right, byte_ranged, number_ranged}
 
--- An opcode without operands.
+-- If the opcode `op` has no operands, then its item is valid.
 pub bare_good : (op : ℕ) → op < 256 → form_of op ≡ forms.Plain → IsGood (plain (bare op))
 bare_good op o f = well forms.Plain (bare op) [] o f refl refl (omega arith) refl (refl, refl) refl tt
 
--- The opcodes that contain their number.
+-- Whether an operand format has no operands. Opcodes that contain their number have this format.
 is_plain_form : Form → Bool
 is_plain_form forms.Plain = true
 is_plain_form _ = false
@@ -71,7 +71,7 @@ last_run : all_plain 248 8 ≡ true
 unfolding form_of groups is_plain_form
 last_run = refl
 
--- A number in the range of its opcodes.
+-- States that all opcodes for the numbers from `least` to `greatest` have no operands. `op` is the opcode for `least`.
 record Runs (op least greatest : ℕ) : Type 0 where
   plain : (n : ℕ) → least ≤ n → n ≤ greatest → form_of (op + (n - least)) ≡ forms.Plain
   below : (n : ℕ) → least ≤ n → n ≤ greatest → op + (n - least) < 256
@@ -126,7 +126,7 @@ plain_good op texts x o f e = by (short_range op) texts refl e
     by None [] s e = let p = pair_is (plain (bare op)) x true true e in subst IsGood p.0 (bare_good op o f)
     by None (text ∷ texts) s e = absurd (cc)
 
--- One number, in its stored form.
+-- The result of reading an instruction with one number, which is the field `a`.
 abbrev stored_at : ℕ → ℕ × Bool → Operand (Item Name)
 stored_at op a = Some (plain (record (bare op) { a = a.0 }), a.1)
 

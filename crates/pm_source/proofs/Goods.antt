@@ -1,4 +1,4 @@
--- Items and operands of a text in their ranges.
+-- Valid items and operands of a text: those whose values are in their ranges.
 use Rattle.std.proofs.Common.{◌≡◌, ◌<◌, ◌≤◌, ℕ, ◌-◌, Bool, true, false, List, [], ◌∷◌, length, refl, sym, ap, subst, ◌∙◌, arith, Some}
 use Rattle.std.specs.Prelude.{nat_eq, nat_lt, take, ◌&&◌, if◌then◌else◌}
 use Rattle.std.specs.List.{AllByRecursion}
@@ -22,14 +22,14 @@ abbrev pub IsGoodTarget : Target Name → Type 0
 IsGoodTarget (To name) = Unit {0}
 IsGoodTarget (Through k) = k < 60
 
--- An item of a text in its ranges.
+-- States that an item of a text is valid: its values are in their ranges.
 abbrev pub IsGood : Item Name → Type 0
 IsGood (Plain i named) = IsPlain i named
 IsGood (Jump op target) = (form_of op ≡ forms.Sb) × (op < 256) × IsGoodTarget target
 IsGood (Case low high otherwise labels) = (low < 65536) × (high < 65536) × IsGoodTarget otherwise × (length labels ≡ jump_count low high)
 IsGood (OneByte b) = b < 256
 
--- An item of a form without special cases is plain.
+-- If an instruction has none of the special operand formats, and its named bytes are bytes, then its item is valid.
 pub well : (F : Form) (i : Instr) (named : List ℕ) → i.op < 256 → form_of i.op ≡ F → names_place F ≡ false → in_range F i ≡ true → i.a < 65536 → clear F i ≡ i
     → (i.start ≡ 0) × (i.len ≡ 0)
     → length named ≡ i.count → AllByRecursion IsByte named → IsPlain i named
@@ -47,7 +47,7 @@ well F i named o f n r w c z l b = record {
 abbrev some_with : {A : Type 0} → A → Bool → Operand A
 some_with v in_range = Some (v, in_range)
 
--- An operand that is in range, by its parts.
+-- If an operand has the value `v` and is in range, then its result is the value of `v` and true.
 pub is_right : {A : Type 0} (o : Operand A) (v : A × Bool) → o ≡ Some v → v.1 ≡ true → o ≡ Some (v.0, true)
 is_right o v e f = e ∙ ap (some_with v.0) f
 
@@ -60,7 +60,7 @@ word_ranged text v e = numeral_below 32768 65535 65536 text v.0 v.1 (omega arith
 pub bound_ranged : (text : List ℕ) (v : ℕ × Bool) → bound_operand text ≡ Some v → v.0 < 65536
 bound_ranged text v e = numeral_below 32768 32767 65536 text v.0 v.1 (omega arith) e
 
--- A number in one byte or two.
+-- States that `n` is a number of one or two bytes, and that `long` is true only if `n` is below 128.
 pub record IsNumber (n : ℕ) (long : Bool) : Type 0 where
   pub below : n < 32768
   pub short : (long && nat_lt n 128) ≡ long
@@ -113,7 +113,7 @@ target_ranged (c ∷ cs) target e = by (nat_eq c 94) e
         let parts = pair_is (To label.0) target label.1 true b.next in
         subst IsGoodTarget parts.0 tt
 
--- Operands of one kind, all well-formed.
+-- The result of one operand, put before the results of the other operands.
 abbrev onto : {A : Type 0} → A × Bool → List A × Bool → Operand (List A)
 onto x more = Some (x.0 ∷ more.0, x.1 && more.1)
 

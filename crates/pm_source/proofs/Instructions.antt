@@ -1,4 +1,4 @@
--- An instruction of a line without a flaw is an item in its ranges.
+-- If a line has an instruction and no flaw, then its item is valid (`IsGood`).
 use Rattle.std.proofs.Common.{◌≡◌, ◌<◌, ◌≤◌, ℕ, ◌*◌, Bool, true, false, List, [], ◌∷◌, length, refl, ap, subst, ◌∙◌, arith, Option, Some, None}
 use Rattle.std.specs.Prelude.{nat_lt, ◌&&◌, ◌==◌, if◌then◌else◌}
 use Rattle.std.specs.Map.{lookup}
@@ -25,7 +25,7 @@ use Rattle.pm_source.proofs.Goods.{bound_ranged, number_ranged, target_ranged, a
 use Rattle.pm_source.proofs.Forms.{plain_good, one_good, long_good, bytes_good, mixed_good}
 use Rattle.pm_source.proofs.Texts.{text_bytes, words_bytes, words_length}
 
--- A checked operand without a flaw is in range.
+-- If a checked operand has no flaw, then the operand is in range.
 pub checked_is : {A : Type 0} (o : Operand A) (x : A) → checked o ≡ Some (x, NoFlaw) → o ≡ Some (x, true)
 checked_is None x e = absurd (cc)
 checked_is (Some (y, true)) x e = let p = pair_is y x NoFlaw NoFlaw e in ap (λ z. Some (z, true)) p.0
@@ -120,7 +120,7 @@ case_good (text ∷ other ∷ target ∷ labels) x e =
     last_two true false c d e = absurd (cc)
     last_two false b c d e = absurd (cc)
 
--- Comparisons. A property of all entries of a table is one of the entry that is found.
+-- Laws of comparisons. If a property is true for all entries of a table, then it is true for the entry that is found.
 pub found_in : {K X : Type 0} (P : X → Type 0) (test : K → Bool) (es : List (K × X)) (x : X) → AllByRecursion (λ e. P e.1) es → lookup test es ≡ Some x → P x
 found_in P test [] x h e = absurd (cc)
 found_in P test (one ∷ es) x h e = by (test one.0) e (λ f. found_in P test es x h.1 f)
@@ -191,7 +191,7 @@ byte_good : (F : Form) (op : ℕ) → op < 256 → ((v : ℕ) → v < 256 → Is
     → one_number byte_operand op texts ≡ Some (x, true) → IsGood x
 byte_good F op o h texts x e = one_good byte_operand op texts x (λ text v g. h v.0 (byte_ranged text v g)) e
 
--- An instruction without a flaw, by the form of its operands.
+-- If an instruction has no flaw, then its item is valid. The cases are the operand formats.
 pub instruction_good : (F : Form) (op : ℕ) (texts : List (List ℕ)) (x : Item Name) → op < 256 → form_of op ≡ F → instruction_said F op texts ≡ Some (x, NoFlaw)
     → IsGood x
 instruction_good forms.Typed op texts x o f e = comparison_good op texts x o f e

@@ -1,4 +1,4 @@
--- A procedure whose labels have no faults means a procedure of a program.
+-- If the labels of a procedure have no faults, then the procedure means a procedure of a program.
 use Rattle.std.proofs.Common.{◌≡◌, ℕ, ◌+◌, Bool, true, false, List, [], ◌∷◌, ◌++◌, length, map, refl, sym, ap, subst, ◌∙◌, Option, Some, None}
 use Rattle.std.specs.Prelude.{suc, ◌||◌, nat_lt, is_none}
 use Rattle.std.specs.List.{AllZip, list_any}
@@ -29,11 +29,11 @@ pub neither : (a b : Bool) → (a || b) ≡ false → (a ≡ false) × (b ≡ fa
 neither false b e = (refl, e)
 neither true b e = absurd (cc)
 
--- Two tests without faults.
+-- If two tests report no fault, then both are false.
 two_tests : (a b : Bool) (x y : AsmFault) → only_if a x ++ only_if b y ≡ [] → (a ≡ false) × (b ≡ false)
 two_tests a b x y e = let parts = both_empty (only_if a x) (only_if b y) e in (is_not a x parts.0, is_not b y parts.1)
 
--- A target without faults.
+-- States that the target has an offset and that a short jump from `next` reaches it.
 record FoundTarget (places : Places) (next : ℕ) (target : Target Name) : Type 0 where
   leads : LeadsTo places target (found_target places target)
   near : ReachesFrom next (found_target places target)
@@ -65,7 +65,7 @@ pub map_length : {A B : Type 0} (f : A → B) (xs : List A) → length (map f xs
 map_length f [] = refl
 map_length f (x ∷ xs) = ap suc (map_length f xs)
 
--- The size of an item is the same for any offsets of its labels.
+-- The size of an item does not depend on the offsets by which its labels are replaced.
 pub found_size : (places : Places) (at : ℕ) (item : Item Name) → size at (found_item places item) ≡ size at item
 found_size places at (Plain i named) = refl
 found_size places at (Jump op target) = refl
@@ -94,7 +94,7 @@ record FoundItems (places : Places) (at : ℕ) (items : List (Item Name)) : Type
   mean : AllZip (Means places) items (map (found_item places) items)
   near : AreNear at (map (found_item places) items)
 
--- Jumps that are near after an item are near after the item with its labels found.
+-- If jumps after an item reach their targets, then they do so after the labels of this item are replaced by offsets.
 pub near_behind : (places : Places) (at : ℕ) (item : Item Name) (items : List (Item ℕ)) → AreNear (at + size at item) items
     → AreNear (at + size at (found_item places item)) items
 near_behind places at item items n = subst (λ k. AreNear (at + k) items) (sym (found_size places at item)) n

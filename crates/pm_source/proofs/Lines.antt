@@ -1,4 +1,4 @@
--- Lines without faults state statements that fit, and the converse.
+-- Lines have no faults if and only if their statements have no faults.
 use Rattle.std.proofs.Common.{◌≡◌, ℕ, ◌+◌, Bool, true, false, not, List, [], ◌∷◌, ◌++◌, refl, sym, ap, ◌∙◌}
 use Rattle.std.specs.Prelude.{◌&&◌, ◌||◌}
 use Rattle.std.specs.List.{list_any}
@@ -39,7 +39,7 @@ end_came (Says s flaw ∷ lines) (t ∷ said) h e =
     let rest = h.1 in
     ap (λ x. is_end x || list_any is_end said) (sym rest.0) ∙ or_more (is_end s) (list_any ends lines) (list_any is_end said) e (end_came lines said rest.1)
 
--- The tests of a line with a statement.
+-- Whether the statement `s` has the fault `Syntax` in the state `r`, if the lines `rest` follow it.
 abbrev misplaced : Reading → Statement → List Line → Bool
 misplaced r s rest = not (is_in_place r s) || (is_begin s && not (list_any ends rest))
 
@@ -109,7 +109,7 @@ clean n r (Says s flaw ∷ lines) (t ∷ said) h f e =
     }) in
     shown s flaw rest.0 h.0
 
--- The statements of lines without faults.
+-- States that the lines state some statements, and that these have no faults in the state `r`.
 pub record SaysFit (r : Reading) (lines : List Line) : Type 0 where
   pub said : List Statement
   pub are_said : AreSaid lines said

@@ -1,4 +1,4 @@
--- Operands in range and the numbers that are stored for them.
+-- Laws of operands that are in range and of the numbers that are stored for them.
 use Rattle.std.proofs.Common.{◌≡◌, ◌<◌, ◌≤◌, ℕ, ◌-◌, ◌%◌, Bool, true, false, List, refl, ap, subst, sym, ◌∙◌, arith, Option, Some, None}
 use Rattle.std.specs.Prelude.{nat_le, ◌&&◌, if◌then◌else◌}
 use Rattle.std.proofs.lemmas.Bool.{leb-true}
@@ -8,7 +8,8 @@ use Rattle.pm_source.specs.Words.{within, stored, number}
 use Rattle.pm_codefile.specs.Segments.{◌>>=◌}
 use Rattle.pm_source.specs.Line.{numeral_operand, segment_number, slot_operand}
 
--- If a bind has a result, its first part has one.
+-- If a sequence of two readings has the result `y`, then the first reading has a result, and the second one returns `y`
+-- for it.
 pub record Bound {A B : Type 0} (o : Option A) (f : A → Option B) (y : B) : Type 0 where
   pub value : A
   pub first : o ≡ Some value
@@ -25,7 +26,7 @@ both false b e = absurd (cc)
 pub some_is : {A : Type 0} (x y : A) → Some x ≡ Some y → x ≡ y
 some_is x y e = cc
 
--- Equal pairs in `Some` have equal parts.
+-- If two pairs in `Some` are equal, then their items are equal.
 pub pair_is : {A B : Type 0} (a c : A) (b d : B) → ◌≡◌ {A = Option (A × B)} (Some (a, b)) (Some (c, d)) → (a ≡ c) × (b ≡ d)
 pair_is {A = A} {B = B} a c b d e =
     let x : A × B = (a, b) in
@@ -33,7 +34,7 @@ pair_is {A = A} {B = B} a c b d e =
     let p : x ≡ y = some_is x y e in
     (ap (λ z. z.0) p, ap (λ z. z.1) p)
 
--- A number from 0 to `above`, modulo `w`, is at most `above`.
+-- If a number is from 0 to `above`, then its value modulo `w` is at most `above`.
 small : (negative : Bool) (magnitude above w : ℕ) → above < w → (if negative then nat_le magnitude 0 else nat_le magnitude above) ≡ true
     → (if negative then (w - magnitude) % w else magnitude % w) ≤ above
 small true magnitude above w h e =
@@ -46,7 +47,7 @@ small false magnitude above w h e = omega (arith, leb-true magnitude above e, mo
 pub stored_small : (above w : ℕ) (n : Numeral) → above < w → within 0 above n ≡ true → stored w n ≤ above
 stored_small above w n h e = small n.negative n.magnitude above w h e
 
--- A number modulo `w` is below `w`.
+-- The value of a number modulo `w` is below `w`.
 below : (negative : Bool) (magnitude w : ℕ) → 0 < w → (if negative then (w - magnitude) % w else magnitude % w) < w
 below true magnitude w h = mod-lt (w - magnitude) h
 below false magnitude w h = mod-lt magnitude h

@@ -1,5 +1,5 @@
--- A procedure whose labels are found is one of a program: its labels are at boundaries of its items, and its items are
--- valid.
+-- If all labels of a procedure are found, then the procedure is valid in a program: its labels are at boundaries
+-- between its items, and its items are valid.
 use Rattle.std.proofs.Common.{◌≡◌, ◌<◌, ◌≤◌, ℕ, ◌+◌, ◌%◌, Bool, true, false, List, [], ◌∷◌, ◌++◌, map, refl, sym, ap, subst, ◌∙◌, arith, Some}
 use Rattle.std.specs.Prelude.{max, ◌||◌, ◌==◌, if◌then◌else◌}
 use Rattle.std.specs.List.{AllByRecursion, AllZip}
@@ -38,7 +38,7 @@ later_among places at (x ∷ xs) ys place h =
     subst (λ k. IsIn (boundaries (at + k) rest) place) (sym (found_size places at x)) more in
     or_right (at == place) (is_among (boundaries (at + size at (found_item places x)) rest) place) there
 
--- A label is at a boundary.
+-- If a label has an offset, then the offset is a boundary between items.
 place_among : (places : Places) (at : ℕ) (rows : List Row) (name : Name) (place : ℕ) → place_of at rows name ≡ Some place
     → IsIn (boundaries at (map (found_item places) (items_of rows))) place
 place_among places at [] name place e = absurd (cc)
@@ -65,7 +65,7 @@ end_after : (at : ℕ) (items : List (Item ℕ)) → at ≤ end_of at items
 end_after at [] = omega arith
 end_after at (item ∷ items) = omega (arith, end_after (at + size at item) items)
 
--- A boundary is at most the end.
+-- A boundary between items is not after the end of the items.
 among_end : (at : ℕ) (items : List (Item ℕ)) (place : ℕ) → IsIn (boundaries at items) place → place ≤ end_of at items
 among_end at [] place h = by (at == place) refl h
   where
@@ -79,7 +79,7 @@ among_end at (item ∷ items) place h = by (at == place) refl h (λ f. among_end
     by true f h more = omega (arith, eqb-true at place f, end_after (at + size at item) items)
     by false f h more = more h
 
--- A property of each label's offset is one of each offset that is found.
+-- States that the property `P` is true for the offset of each label.
 abbrev EachPlace : Places → (ℕ → Type 0) → Type 0
 EachPlace places P = (name : Name) (place : ℕ) → places name ≡ Some place → P place
 
@@ -161,7 +161,7 @@ all_used : (places : Places) (items : List (Item Name)) → entries_needed (map 
 all_used places [] = refl
 all_used places (x ∷ xs) = ap (λ k. max k (entries_needed (map (found_item places) xs))) (one_used places x) ∙ ap (max (entries_used x)) (all_used places xs)
 
--- A procedure of a text in its ranges.
+-- States that the values of the procedure `p` of a text are in their ranges.
 pub record IsGoodSource (p : Source) : Type 0 where
   pub level : p.level < 256
   pub parameters : IsSize p.parameters

@@ -1,4 +1,4 @@
--- The segments that a text defines are a program.
+-- If a text defines segments that fit into the slots, then these segments are a program.
 use Rattle.std.proofs.Common.{◌≡◌, ◌<◌, ◌≤◌, ℕ, ◌+◌, ◌%◌, Bool, true, false, List, [], ◌∷◌, ◌++◌}
 use Rattle.std.proofs.Common.{length, map, refl, sym, ap, subst, ◌∙◌, arith, Option, Some, None}
 use Rattle.std.specs.Prelude.{zero, suc, ◌==◌, if◌then◌else◌}
@@ -23,7 +23,7 @@ use Rattle.pm_source.proofs.Sizes.{code_parity, end_later, end_within}
 use Rattle.pm_source.proofs.Sound.{all_append}
 use Rattle.pm_source.proofs.Spelled.{IsClean, MeanFrom, procedures_found, segments_come}
 
--- Items of statements in their ranges are in their ranges.
+-- If statements of code are in their ranges, then the items of the code are valid.
 rows_good : (rows : List Row) → AllByRecursion IsRanged (map Code rows) → AllByRecursion IsGood (items_of rows)
 rows_good [] h = tt
 rows_good (Items line label items ∷ rows) h = all_append IsGood items (items_of rows) h.0 (rows_good rows h.1)
@@ -50,7 +50,7 @@ sources_good n (p ∷ ps) low h =
     let more : AreGood (n + 1) ps = sources_good (n + 1) ps (omega (arith, small)) behind.1 in
     record { sources = (source_good n p parts.0, more.sources); few = omega (arith, more.few) }
 
--- A segment of a text in its ranges.
+-- States that the values of the segment `s` of a text are in their ranges.
 record IsGoodSegment (s : SourceSegment) : Type 0 where
   number : s.number < 16
   name : is_segment_name s.name ≡ true
@@ -66,7 +66,8 @@ segments_good (s ∷ ss) h =
     let good : AreGood 1 s.procedures = sources_good 1 s.procedures (omega arith) front.1 in
     (record { number = first.0; name = first.1; sources = good.sources; few = omega (arith, good.few) }, segments_good ss parts.1)
 
--- The procedures of a segment that is not too long are procedures of a program.
+-- If a segment is not too long, then its procedures, after the labels are replaced by offsets, are procedures of a
+-- program.
 procedures_are : (at : ℕ) (ps : List Source) → label_faults_from at ps ≡ [] → AllByRecursion IsSource ps → AllByRecursion IsGoodSource ps → at % 2 ≡ 0
     → procedures_end at (found_procedures at ps) ≤ 65534
     → AllByRecursion IsProcedure (found_procedures at ps)
@@ -107,7 +108,7 @@ segments_are : (ss : List SourceSegment) → AllByRecursion IsClean ss → AllBy
 segments_are [] c h g b = tt
 segments_are (s ∷ ss) c h g b = (segment_is s c.0 h.0 g.0 b.0, segments_are ss c.1 h.1 g.1 b.1)
 
--- A segment that is found by a number has that number.
+-- If a segment is found by the number `n`, then its number is `n`.
 numbered : (n : ℕ) (ss : List SourceSegment) (s : SourceSegment) → segment_with n ss ≡ Some s → s.number ≡ n
 numbered n [] s e = absurd (cc)
 numbered n (t ∷ ss) s e = by (t.number == n) refl e (λ f. numbered n ss s f)

@@ -1,4 +1,4 @@
--- The statement of a line without a flaw is in its ranges.
+-- If a line has no flaw, then the values of its statement are in their ranges.
 use Rattle.std.proofs.Common.{◌≡◌, ◌<◌, ◌≤◌, ℕ, ◌+◌, ◌%◌, Bool, true, false, List, [], ◌∷◌, refl, sym, ap, subst, ◌∙◌, arith, Option, Some, None}
 use Rattle.std.specs.Prelude.{zero, suc, map, ◌&&◌, if◌then◌else◌}
 use Rattle.std.proofs.lemmas.Bool.{eqb-true}
@@ -31,14 +31,14 @@ use Rattle.pm_source.proofs.Numerals.{some_is, Bound, bound, both, pair_is, nume
 abbrev pub IsSize : ℕ → Type 0
 IsSize n = (n < 65536) × (n % 2 ≡ 0)
 
--- A statement in its ranges.
+-- States that the values of a statement are in their ranges.
 abbrev pub IsRanged : Statement → Type 0
 IsRanged (Segment number name) = (number < 16) × (is_segment_name name ≡ true)
 IsRanged (Begin number level parameters locals) = (number < 256) × (level < 256) × IsSize parameters × IsSize locals
 IsRanged (Code (Items line label items)) = AllByRecursion IsGood items
 IsRanged _ = Unit {0}
 
--- A keyword whose opcode is valid.
+-- States that a keyword which is a mnemonic has a valid opcode.
 abbrev IsKnown : Keyword → Type 0
 IsKnown (Mnemonic op) = op < 256
 IsKnown _ = Unit {0}
@@ -275,6 +275,6 @@ lines_ranged line [] said h = subst (AllByRecursion IsRanged) (sym h) tt
 lines_ranged line (text ∷ texts) said h =
     line_said line text (line_of line text) (lines_from (line + 1) texts) said refl h (λ more k. lines_ranged (line + 1) texts more k)
 
--- The statements that the lines of a text state are in their ranges.
+-- If the lines of a text state some statements without flaws, then the values of these statements are in their ranges.
 pub said_ranges : (text : List ℕ) (said : List Statement) → AreSaid (lines_of text) said → AllByRecursion IsRanged said
 said_ranges text said h = lines_ranged 1 (lines text) said h

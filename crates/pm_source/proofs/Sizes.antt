@@ -1,4 +1,4 @@
--- The sizes of procedures and segments in bytes, and the parity of the ends of items.
+-- The sizes of procedures and segments in bytes, and the parity of the offsets at which items end.
 use Rattle.std.proofs.Common.{◌≡◌, ◌≤◌, ℕ, ◌+◌, ◌*◌, ◌%◌, List, [], ◌∷◌, ◌++◌, length, reverse, refl, ap, arith, length-append}
 use Rattle.std.specs.Prelude.{◌==◌}
 use Rattle.std.proofs.lemmas.List.{length-reverse}
@@ -41,17 +41,17 @@ procedures_length number at (p ∷ ps) f =
       procedures_length (number + 1) (jtab_of p + 2) ps f.1,
     )
 
--- Procedures end within their segment.
+-- The end of each procedure of a segment is inside the segment.
 pub end_within : (s : Segment) → FollowFrom 0 s.procedures → procedures_end 0 s.procedures ≤ length (segment_bytes s)
 end_within s f =
     let rest : List ℕ = dictionary_bytes (procedures_end 0 s.procedures) (reverse s.procedures) ++ s.number ∷ length s.procedures ∷ [] in
     omega (arith, length-append (procedures_bytes 1 s.procedures) rest, procedures_length 1 0 s.procedures f)
 
--- A procedure ends at or before the end of the last one.
+-- The end of the last of the procedures is not before the offset at which the first one begins.
 pub end_later : (at : ℕ) (ps : List Procedure) → FollowFrom at ps → at ≤ procedures_end at ps
 end_later at ps f = omega (arith, procedures_length 1 at ps f)
 
--- The size of an item depends only on the parity of its offset.
+-- If two offsets have the same parity, then an item has the same size at both.
 size_parity : {P : Type 0} (m n : ℕ) (item : Item P) → m % 2 ≡ n % 2 → size m item ≡ size n item
 size_parity m n (Plain i named) e = ap (λ r. length (spelling (r == 1) 0 i named)) e
 size_parity m n (Jump op target) e = refl

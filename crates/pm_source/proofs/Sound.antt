@@ -1,4 +1,4 @@
--- Statements that are read without a fault are a sound program, and they are the statements of this program.
+-- If statements are read without a fault, then the segments are sound, and the statements are those of the segments.
 use Rattle.std.proofs.Common.{◌≡◌, ◌<◌, ◌≤◌, ℕ, ◌+◌, ◌%◌, Bool, true, false, eqb, not, List, [], ◌∷◌, ◌++◌, length}
 use Rattle.std.proofs.Common.{map, refl, sym, ap, subst, ◌∙◌, arith, append_assoc, Option, Some, None}
 use Rattle.std.specs.Prelude.{◌&&◌, ◌||◌, ◌==◌, nat_eq, nat_lt}
@@ -15,7 +15,8 @@ use Rattle.pm_source.proofs.Fit.{IsFit, AreFit, after_all, taken_in, IsSound}
 use Rattle.pm_source.proofs.Ranged.{IsRanged}
 use Rattle.pm_source.proofs.Complete.{append_nil, statements_append, labels_append, map_append, exits_append, any_number, has_exit_is, has_label_is}
 
--- Distinct elements followed by one that differs from all of them are distinct.
+-- If the items of a list are distinct and `y` differs from all of them, then the list followed by `y` has distinct
+-- items.
 distinct_push : {K : Type 0} (eq : K → K → Bool) (xs : List K) (y : K) → IsDistinct eq xs → list_any (λ x. eq x y) xs ≡ false → IsDistinct eq (xs ++ y ∷ [])
 unfolding IsDistinct
 distinct_push eq [] y d h = (tt, tt)
@@ -29,7 +30,8 @@ distinct_push eq (x ∷ xs) y d h = let parts = split (eq x y) (list_any (λ z. 
     split true b e = absurd (cc)
     split false b e = (refl, e)
 
--- The properties that a step must have.
+-- States what reading the statement `s` in the state `r` preserves: the state is sound, and `s` is appended to the
+-- statements.
 record Steps (r : Reading) (s : Statement) : Type 0 where
   sound : IsSound (after r s)
   more : taken_in (after r s) ≡ taken_in r ++ s ∷ []
@@ -41,7 +43,7 @@ pub all_append : {A : Type 0} (P : A → Type 0) (xs ys : List A) → AllByRecur
 all_append P [] ys h k = k
 all_append P (x ∷ xs) ys h k = (h.0, all_append P xs ys h.1 k)
 
--- The second test of two is false if the first is true and their conjunction is false.
+-- If `a` is true and `a && b` is false, then `b` is false.
 behind : (a b : Bool) → a ≡ true → (a && b) ≡ false → b ≡ false
 behind true b e f = f
 behind false b e f = absurd (cc)
@@ -219,7 +221,7 @@ step segments (Some p) (Code row) i h f = code_step segments p row h f
 step segments (Some p) (Entry line name) i h f = entry_step segments p line name h
 step segments (Some p) End i h f = end_step segments p h f
 
--- The result of reading statements without faults.
+-- States what reading the statements `said` preserves: the state is sound, and `said` is appended to the statements.
 pub record Reads (r : Reading) (said : List Statement) : Type 0 where
   pub sound : IsSound (after_all r said)
   pub more : taken_in (after_all r said) ≡ taken_in r ++ said

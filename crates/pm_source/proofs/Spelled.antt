@@ -15,7 +15,8 @@ use Rattle.pm_source.proofs.Exactly.{faultless_is_said, said_is_faultless}
 use Rattle.pm_source.proofs.Ends.{found_behind, all_ascending, ascending_all, all_split}
 use Rattle.pm_source.proofs.Ranged.{IsRanged, said_ranges}
 
--- Procedures without label faults, from an offset on.
+-- States that the procedures from offset `at` on mean the procedures that are found for them, and that these follow
+-- each other.
 pub record MeanFrom (at : ℕ) (ps : List Source) : Type 0 where
   pub mean : AllZip MeansProcedure ps (found_procedures at ps)
   pub follow : FollowFrom at (found_procedures at ps)
@@ -32,7 +33,7 @@ procedures_found at (p ∷ ps) h =
           (refl, subst (λ k. FollowFrom k (found_procedures next ps)) (sym (found_behind at p)) more.follow);
     }
 
--- A segment without label faults.
+-- States that the labels of a segment have no faults.
 abbrev pub IsClean : SourceSegment → Type 0
 IsClean s = label_faults_from 0 s.procedures ≡ []
 
@@ -68,7 +69,7 @@ faultless_is_spelled text h =
       meant = segments_found (ascending (source_of text)) (all_ascending IsClean (source_of text) (are_clean (source_of text) parts.1));
     }
 
--- The converse.
+-- States the converse: the labels of the procedures `ps` have no faults, and `qs` are the procedures found for them.
 record ComeFrom (at : ℕ) (ps : List Source) (qs : List Procedure) : Type 0 where
   faults : label_faults_from at ps ≡ []
   same : found_procedures at ps ≡ qs

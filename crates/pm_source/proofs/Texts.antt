@@ -1,4 +1,4 @@
--- The bytes of an operand that is a text or words.
+-- Laws of the bytes of an operand that is a text or a list of words.
 use Rattle.std.proofs.Common.{◌≡◌, ◌<◌, ℕ, ◌+◌, ◌-◌, ◌*◌, Bool, true, false, List, [], ◌∷◌, length, refl, subst, arith, Option, Some, None}
 use Rattle.std.specs.Prelude.{reverse, nat_eq, nat_le, ◌&&◌, ◌||◌, ◌==◌, not, if◌then◌else◌}
 use Rattle.std.specs.List.{AllByRecursion}
@@ -30,7 +30,7 @@ hex_small c v e = by (nat_le 48 c) (nat_le c 57) (nat_le 97 c) (nat_le c 102) re
 abbrev one_more : ℕ → List ℕ → Option (List ℕ)
 one_more c cs = Some (c ∷ cs)
 
--- A character and the bytes after it.
+-- If `c` is a byte and the bytes after it are bytes, then all of them are bytes.
 more_bytes : (c : ℕ) (rest : Option (List ℕ)) (bytes : List ℕ) → c < 256 → ((bytes : List ℕ) → rest ≡ Some bytes → AllByRecursion IsByte bytes)
     → (rest >>= one_more c) ≡ Some bytes → AllByRecursion IsByte bytes
 more_bytes c rest bytes h more e =

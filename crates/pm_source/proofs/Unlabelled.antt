@@ -1,4 +1,5 @@
--- A procedure that means a procedure of a program has no label faults and means no other procedure.
+-- If a procedure of a text means a procedure of a program, then its labels have no faults, and it means only this
+-- procedure.
 use Rattle.std.proofs.Common.{◌≡◌, ℕ, ◌+◌, false, ltb, List, [], ◌∷◌, ◌++◌, map, refl, sym, ap, subst, ◌∙◌, Some}
 use Rattle.std.specs.Prelude.{◌||◌, is_none}
 use Rattle.std.specs.List.{AllZip, list_any}
@@ -62,7 +63,7 @@ all_is places [] (f ∷ found) h = absurd h
 all_is places (item ∷ items) [] h = absurd h
 all_is places (item ∷ items) (f ∷ found) h = let one = means_is places item f h.0 in let more = all_is places items found h.1 in cc
 
--- A target that is defined and near enough.
+-- States that a target is defined and that a short jump from `next` reaches it.
 record CleanTarget (places : Places) (next : ℕ) (target : Target Name) : Type 0 where
   known : is_unknown_target places target ≡ false
   near : is_far places next target ≡ false
@@ -140,7 +141,7 @@ entries_clean places [] found h = refl
 entries_clean places (e ∷ es) [] h = absurd h
 entries_clean places (e ∷ es) (f ∷ found) h = ap (λ o. only_if (is_none o) (NoLabel e.0) ++ entries_faults places es) h.0 ∙ entries_clean places es found h.1
 
--- Procedures with the same fields are equal.
+-- If two procedures have equal fields, then they are equal.
 procedure_same : (q r : Procedure) → q.level ≡ r.level → q.parameters ≡ r.parameters → q.locals ≡ r.locals → q.start ≡ r.start → q.items ≡ r.items
     → q.exit ≡ r.exit → q.entries ≡ r.entries → q ≡ r
 procedure_same q r l p n s i x e =

@@ -1,4 +1,4 @@
--- The numbers of the faults, and the lines or segments that they report.
+-- The numbers of the faults, and the lines or segments that the faults report.
 use Rattle.std.specs.Prelude.{ℕ, Option, Some, None}
 use Rattle.pm_source.specs.declared.fault.AsmFault.{AsmFault}
 use Rattle.pm_source.specs.declared.fault.AsmFault.TheVariants.{Syntax, Unknown, Range, NoLabel}
@@ -14,7 +14,7 @@ number_of (Far line) = 6
 number_of (TooLong n) = 7
 number_of NoMemory = 8
 
--- The line of the fault, or the number of the segment that is too long.
+-- The line that a fault reports, or the number of the segment that is too long.
 abbrev pub place_of : AsmFault → Option ℕ
 place_of (Syntax line) = Some line
 place_of (Unknown line) = Some line

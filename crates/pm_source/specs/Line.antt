@@ -1,4 +1,4 @@
--- One line of a text and its statement.
+-- The statement that one line of a text contains, or the reason why it contains none.
 use Rattle.std.specs.Prelude.{ℕ, zero, suc, ◌+◌, ◌-◌, ◌*◌, ◌%◌, Bool, true, false, not, List}
 use Rattle.std.specs.Prelude.{[], ◌∷◌, ◌++◌, length, map, take, reverse, nat_le, ◌==◌, ◌||◌}
 use Rattle.std.specs.Prelude.{◌&&◌, if◌then◌else◌, Option, Some, None, codes, slice_index}
@@ -22,44 +22,45 @@ use Rattle.pm_source.specs.Source.{Name, Statement}
 use Rattle.pm_source.specs.Source.Row.{Items, Exit}
 use Rattle.pm_source.specs.Source.Statement.{Segment, Begin, Code, Entry, End}
 
--- The flaw of a line that is well-formed.
+-- What is wrong with a line that is well-formed and has a known mnemonic.
 pub data Flaw : Type 0 where
   NoFlaw : Flaw
-  -- A number is out of its range.
+  -- A number is outside its range.
   OutOfRange : Flaw
-  -- A comparison has an unknown type keyword.
+  -- The type keyword of a comparison is unknown.
   UnknownType : Flaw
 
--- The kinds of lines.
+-- What a line contains.
 pub data Line : Type 0 where
   Blank : Line
-  -- Ill-formed; whether its first word is `.END`.
+  -- The line is ill-formed. The field is true if the first word is `.END`.
   Wrong : Bool → Line
-  -- Its mnemonic or directive is unknown.
+  -- The mnemonic or directive is unknown.
   Strange : Line
   Says : Statement → Flaw → Line
 
 abbrev pub is_character : ℕ → Bool
 is_character c = (c == 9) || (nat_le 32 c && nat_le c 126)
 
--- The characters before the first `;` outside quotes.
+-- The characters before the first `;` that is outside quotes. `quoted` is true if a quote is open at the start.
 abbrev pub uncommented : Bool → List ℕ → List ℕ
 uncommented quoted [] = []
 uncommented quoted (c ∷ cs) =
     if (c == 59) && not quoted then [] else c ∷ uncommented (if c == 34 then not quoted else quoted) cs
 
--- The pieces between the commas outside quotes.
+-- The pieces between the commas that are outside quotes. `quoted` is true if a quote is open at the start.
 abbrev pub pieces : Bool → List ℕ → List (List ℕ)
 pieces quoted [] = [] ∷ []
 pieces quoted (c ∷ cs) =
     if (c == 44) && not quoted then [] ∷ pieces quoted cs else onto_first c
     (pieces (if c == 34 then not quoted else quoted) cs)
 
--- The operands after a mnemonic. There are none if only spaces and tabs follow.
+-- The operands after a mnemonic, separated by commas. The list is empty if only spaces and tabs follow the mnemonic.
 abbrev pub operands : List ℕ → List (List ℕ)
 operands cs = if is_empty (unindented cs) then [] else map trimmed (pieces false cs)
 
--- The value of an operand and whether it is in range; `None` if the operand is ill-formed.
+-- The type of the result of reading an operand: its value and whether it is in range, or `None` if the operand is
+-- ill-formed.
 abbrev pub Operand : Type 0 → Type 0
 Operand A = Option (A × Bool)
 
@@ -69,15 +70,15 @@ numeral_operand below above w text = number text >>= λ n. Some (stored w n, wit
 abbrev pub byte_operand : List ℕ → Operand ℕ
 byte_operand text = numeral_operand 0 255 256 text
 
--- A signed or unsigned word.
+-- Reads an operand that is a word, written as a signed or unsigned number.
 abbrev pub word_operand : List ℕ → Operand ℕ
 word_operand text = numeral_operand 32768 65535 65536 text
 
--- A bound of XJP.
+-- Reads a bound of XJP, which is a signed word.
 abbrev pub bound_operand : List ℕ → Operand ℕ
 bound_operand text = numeral_operand 32768 32767 65536 text
 
--- Whether a number has the mark `!` for two bytes: `n!`.
+-- Whether a number ends with the mark `!`, which requests two bytes.
 abbrev pub is_marked : List ℕ → Bool
 is_marked text = nat_le 1 (length text) && (slice_index text (length text - 1) == 33)
 
@@ -89,7 +90,7 @@ number_operand text = if is_marked text
 abbrev pub label_operand : List ℕ → Operand Name
 label_operand text = if is_name text then Some (text, true) else None
 
--- A label, or `^k`.
+-- Reads the target of a jump: a label, or `^k` for entry k of the jump table.
 abbrev pub jump_operand : List ℕ → Operand (Target Name)
 jump_operand [] = None
 jump_operand (c ∷ cs) = if c == 94 then (numeral_operand 0 59 256 cs >>= λ k. Some (Through k.0, k.1))
@@ -99,11 +100,11 @@ abbrev pub lower_hex : ℕ → Option ℕ
 lower_hex c =
     if nat_le 48 c && nat_le c 57 then Some (c - 48) else if nat_le 97 c && nat_le c 102 then Some (c - 87) else None
 
--- A character from 32 to 126 except the quote and the backslash.
+-- Whether `c` is a character from 32 to 126 except the quote and the backslash.
 abbrev pub is_plain : ℕ → Bool
 is_plain c = nat_le 32 c && nat_le c 126 && not ((c == 34) || (c == 92))
 
--- The bytes of the characters between quotes. `\` and two lower case hexadecimal digits are one byte.
+-- The bytes that the characters between two quotes denote. A `\` and two lower case hexadecimal digits are one byte.
 abbrev pub unescaped : List ℕ → Option (List ℕ)
 unescaped [] = Some []
 unescaped (c ∷ []) = if is_plain c then Some (c ∷ []) else None
@@ -112,17 +113,17 @@ unescaped (c ∷ d ∷ e ∷ rest) = if c == 92
     then (lower_hex d >>= λ high. lower_hex e >>= λ low. unescaped rest >>= λ cs. Some ((16 * high + low) ∷ cs))
     else if is_plain c then (unescaped (d ∷ e ∷ rest) >>= λ cs. Some (c ∷ cs)) else None
 
--- The bytes between a first and a last quote. The characters after the first quote are given in reverse.
+-- The bytes between a first quote `c` and a last quote. The characters after `c` are given in reverse.
 abbrev pub unquoted : ℕ → List ℕ → Option (List ℕ)
 unquoted c [] = None
 unquoted c (d ∷ inner) = if (c == 34) && (d == 34) then unescaped (reverse inner) else None
 
--- A text in quotes: `"text"`.
+-- The bytes of an operand that is a text in quotes: `"text"`.
 abbrev pub text_operand : List ℕ → Option (List ℕ)
 text_operand [] = None
 text_operand (c ∷ cs) = unquoted c (reverse cs)
 
--- Operands of one kind.
+-- Reads all operands by the same function. The result is in range if each of them is in range.
 abbrev pub all_operands : {A : Type 0} → (List ℕ → Operand A) → List (List ℕ) → Operand (List A)
 all_operands operand [] = Some ([], true)
 all_operands operand (text ∷ texts) = do
@@ -133,8 +134,8 @@ all_operands operand (text ∷ texts) = do
 abbrev pub plain : Instr → Item Name
 plain i = Plain i []
 
--- The least and the greatest number of the opcodes of one name that contain their number, by the first of these
--- opcodes.
+-- The least and the greatest number of the opcodes with one mnemonic that contain their number. `op` is the first of
+-- these opcodes. The result is `None` for any other opcode.
 abbrev pub short_range : ℕ → Option (ℕ × ℕ)
 short_range op =
     if op == 0 then Some (0, 127)
@@ -143,7 +144,8 @@ short_range op =
     else if op == 248 then Some (0, 7)
     else None
 
--- The opcode for a number in this range; out of range, the first one.
+-- The opcode that contains the number `n`, if `n` is in range. Otherwise it is `op`, the first opcode with this
+-- mnemonic.
 abbrev pub short_opcode : ℕ → ℕ → Bool → ℕ → ℕ
 short_opcode op least in_range n = if in_range then op + (n - least) else op
 
@@ -161,7 +163,7 @@ bare_instruction op (Some range) texts = short_instruction op range texts
 bare_instruction op None [] = Some (plain (bare op), true)
 bare_instruction op None _ = None
 
--- One number, in its stored form.
+-- Reads the operands of an instruction that has one number. The function `operand` reads this number.
 abbrev pub one_number : (List ℕ → Operand ℕ) → ℕ → List (List ℕ) → Operand (Item Name)
 one_number operand op (text ∷ []) = operand text >>= λ a. Some (plain (record (bare op) { a = a.0 }), a.1)
 one_number operand op _ = None
@@ -188,7 +190,7 @@ byte_and_number op _ = None
 abbrev pub few : {A : Type 0} → List A → Bool
 few xs = nat_le (length xs) 255
 
--- An instruction with a text. A text that is too long is left out.
+-- The item of an instruction with the text `text`. If the text is too long, the item has no text.
 abbrev pub text_item : ℕ → List ℕ → Item Name
 text_item op text =
     if few text then Plain (record (bare op) { a = length text; count = length text }) text else plain (bare op)
@@ -201,7 +203,7 @@ abbrev pub flat_words : List ℕ → List ℕ
 flat_words [] = []
 flat_words (w ∷ ws) = spelled_word w ++ flat_words ws
 
--- An instruction with words. Too many words are left out.
+-- The item of an instruction with the words `ws`. If there are too many words, the item has no words.
 abbrev pub words_item : ℕ → List ℕ → Item Name
 words_item op ws =
     if few ws then Plain (record (bare op) { a = length ws; count = 2 * length ws }) (flat_words ws) else plain
@@ -214,7 +216,7 @@ abbrev pub one_jump : ℕ → List (List ℕ) → Operand (Item Name)
 one_jump op (text ∷ []) = jump_operand text >>= λ t. Some (Jump op t.0, t.1)
 one_jump op _ = None
 
--- A case jump: two bounds, a jump, and one label for each number from bound to bound.
+-- Reads the operands of XJP: two bounds, a jump, and one label for each number from the low to the high bound.
 abbrev pub case_jump : List (List ℕ) → Operand (Item Name)
 case_jump (text ∷ other ∷ target ∷ labels) = do
   low ← bound_operand text
@@ -228,7 +230,7 @@ case_jump (text ∷ other ∷ target ∷ labels) = do
   )
 case_jump _ = None
 
--- An instruction by the form of its operands, except comparisons.
+-- Reads the operands of an instruction, by its operand format. Comparisons are read separately.
 abbrev pub instruction : Form → ℕ → List (List ℕ) → Operand (Item Name)
 instruction forms.Plain op texts = bare_instruction op (short_range op) texts
 instruction forms.Ub op texts = one_number byte_operand op texts
@@ -245,11 +247,11 @@ instruction forms.Jumps op texts = case_jump texts
 instruction forms.Typed op texts = None
 instruction forms.Unassigned op texts = None
 
--- The types of comparisons without a size.
+-- The type keywords of comparisons without a size, and their type bytes.
 abbrev pub type_words : List (Name × ℕ)
 type_words = (codes "REAL", 2) ∷ (codes "STR", 4) ∷ (codes "BOOL", 6) ∷ (codes "SET", 8) ∷ []
 
--- The types of comparisons with a size.
+-- The type keywords of comparisons with a size, and their type bytes.
 abbrev pub sized_type_words : List (Name × ℕ)
 sized_type_words = (codes "BYTES", 10) ∷ (codes "WORDS", 12) ∷ []
 
@@ -271,7 +273,7 @@ comparison_by op name [] (Some type) = Some (plain (record (bare op) { a = type 
 comparison_by op name (other ∷ others) (Some type) = None
 comparison_by op name others None = sized_comparison op others (lookup (bytes_eq name) sized_type_words)
 
--- A comparison by the words of its operand: a type, and a size if the type has one.
+-- Reads the operand of a comparison, which is given as words: a type keyword, and a size if the type has one.
 abbrev pub comparison : ℕ → List (List ℕ) → Said (Item Name)
 comparison op [] = None
 comparison op (name ∷ others) = comparison_by op name others (lookup (bytes_eq name) type_words)
@@ -284,7 +286,7 @@ abbrev pub instruction_said : Form → ℕ → List (List ℕ) → Said (Item Na
 instruction_said forms.Typed op texts = one_comparison op texts
 instruction_said form op texts = checked (instruction form op texts)
 
--- The first word of a line, or the first word after its label.
+-- The kind of the first word of a line, or of the first word after the label.
 pub data Keyword : Type 0 where
   OfSegment : Keyword
   OfProcedure : Keyword
@@ -292,7 +294,7 @@ pub data Keyword : Type 0 where
   OfJump : Keyword
   OfEnd : Keyword
   OfBytes : Keyword
-  -- The first opcode of a mnemonic.
+  -- A mnemonic. The field is the first opcode with this mnemonic.
   Mnemonic : ℕ → Keyword
 
 unfoldable pub directives : List (Name × Keyword)
@@ -305,7 +307,7 @@ directives =
     (codes ".BYTE", OfBytes) ∷
     []
 
--- The first of the `count` opcodes from `op` on with the mnemonic `name`.
+-- The first of the `count` opcodes from `op` on that has the mnemonic `name`.
 abbrev pub named_from : List ℕ → ℕ → ℕ → Option ℕ
 named_from name op zero = None
 named_from name op (suc count) = if bytes_eq name (mnemonic_of op) then Some op else named_from name (op + 1) count
@@ -321,14 +323,14 @@ keyword_or name (Some keyword) = Some keyword
 unfoldable pub keyword_of : List ℕ → Option Keyword
 keyword_of name = keyword_or name (lookup (bytes_eq name) directives)
 
--- The number of a segment. A number out of range is 16, which no segment has.
+-- The number of the segment. If it is out of range, it is 16, which no segment has.
 abbrev pub segment_number : Numeral → ℕ
 segment_number n = if within 0 15 n then n.magnitude else 16
 
 abbrev pub slot_operand : List ℕ → Operand ℕ
 slot_operand text = number text >>= λ n. Some (segment_number n, within 0 15 n)
 
--- A number and a name.
+-- Reads the operands of a segment: a number and a name.
 abbrev pub segment_operands : List (List ℕ) → Operand Statement
 segment_operands (n ∷ name ∷ []) =
     if is_segment_name name then (slot_operand n >>= λ n. Some (Segment n.0 name, n.1)) else None
@@ -364,7 +366,7 @@ bytes_said texts = all_operands byte_operand texts >>= λ bs. Some (map OneByte 
 abbrev pub one_item : Item Name × Flaw → Said (List (Item Name))
 one_item x = Some (x.0 ∷ [], x.1)
 
--- The items of a keyword and the text after it.
+-- Reads the items of a line that has the given keyword and the text `rest` after it.
 abbrev pub items_said : Keyword → List ℕ → Said (List (Item Name))
 items_said OfBytes rest = checked (bytes_said (operands rest))
 items_said (Mnemonic op) rest = instruction_said (form_of op) op (operands rest) >>= one_item
@@ -374,7 +376,7 @@ abbrev pub code_said : ℕ → Option Name → Said (List (Item Name)) → Said 
 code_said line label None = None
 code_said line label (Some x) = Some (Code (Items line label x.0), x.1)
 
--- The statement of a keyword and the text after it, on line `line`.
+-- Reads the statement of line `line`, which has the given keyword and the text `rest` after it.
 abbrev pub said : ℕ → Keyword → List ℕ → Said Statement
 said line OfSegment rest = checked (segment_operands (words rest))
 said line OfProcedure rest = checked (procedure_operands (words rest))
@@ -391,7 +393,8 @@ abbrev pub saying : Bool → Said Statement → Line
 saying end None = Wrong end
 saying end (Some x) = Says x.0 x.1
 
--- A line without a label, by its keyword.
+-- The contents of a line without a label, by its keyword. If the keyword is `None`, the mnemonic or directive is
+-- unknown.
 abbrev pub spoken : ℕ → List ℕ → Option Keyword → Line
 spoken line rest None = Strange
 spoken line rest (Some keyword) = saying (ends_procedure keyword) (said line keyword rest)
@@ -401,12 +404,12 @@ labelled_by line label rest None = Strange
 labelled_by line label rest (Some keyword) =
     if is_name label then saying false (code_said line (Some label) (items_said keyword rest)) else Wrong false
 
--- A line with a label, and an item after it if there is a word.
+-- The contents of a line with a label. An item follows the label if the line has another word.
 abbrev pub labelled : ℕ → List ℕ → List ℕ → List ℕ → Line
 labelled line label rest [] = if is_name label then Says (Code (Items line (Some label) [])) NoFlaw else Wrong false
 labelled line label rest (c ∷ cs) = labelled_by line label rest (keyword_of (c ∷ cs))
 
--- The label before a `:` at the end of a word. The word is given in reverse.
+-- The label of a word that ends with `:`. The word is given in reverse. The result is `None` for any other word.
 abbrev pub label_before : List ℕ → Option Name
 label_before [] = None
 label_before (c ∷ label) = if c == 58 then Some (reverse label) else None
@@ -418,11 +421,12 @@ abbrev pub line_of_words : ℕ → Cut → Option Name → Line
 line_of_words line k None = spoken line k.rest (keyword_of k.word)
 line_of_words line k (Some label) = labelled line label (cut k.rest).rest (cut k.rest).word
 
--- A line, by its first word and by whether all its characters are allowed.
+-- The contents of a line, cut into its first word and the rest. The second argument states whether all its characters
+-- are allowed.
 abbrev pub line_by : ℕ → Bool → Cut → Line
 line_by line false k = Wrong (bytes_eq k.word (codes ".END"))
 line_by line true k = if is_empty k.word then Blank else line_of_words line k (label_of k.word)
 
--- A line, by its number and its characters.
+-- The contents of the line with the number `line` and the characters `text`.
 unfoldable pub line_of : ℕ → List ℕ → Line
 line_of line text = line_by line (list_all is_character text) (cut (uncommented false text))

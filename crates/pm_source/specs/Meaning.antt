@@ -1,4 +1,4 @@
--- The program that a text defines.
+-- The program that a text defines. In the text, jumps lead to labels; in the program, they lead to offsets.
 use Rattle.std.specs.Prelude.{◌≡◌, ℕ, zero, suc, ◌+◌, ◌≤◌, List, [], ◌∷◌, ◌++◌}
 use Rattle.std.specs.Prelude.{map, ◌==◌, if◌then◌else◌, Option, Some, None}
 use Rattle.std.specs.List.{AllZip}
@@ -18,13 +18,15 @@ abbrev pub exit_place : ℕ → List Row → ℕ
 exit_place at [] = at
 exit_place at (row ∷ rows) = if is_exit row then at else exit_place (program.end_of at (row_items row)) rows
 
--- A target of a text means a target of a program: a label means its offset.
+-- States that a target of a text means a target of a program. A label means its offset, and entry k of the jump table
+-- means entry k.
 abbrev pub LeadsTo : Places → Target Name → Target ℕ → Type 0
 LeadsTo places (To name) (To place) = places name ≡ Some place
 LeadsTo places (Through k) (Through j) = k ≡ j
 LeadsTo places _ _ = ⊥
 
--- An item of a text means an item of a program: the same item with each label replaced by its offset.
+-- States that an item of a text means an item of a program: both are the same, except that each label is replaced by
+-- its offset.
 abbrev pub Means : Places → Item Name → Item ℕ → Type 0
 Means places (Plain i named) (Plain j bytes) = (i ≡ j) × (named ≡ bytes)
 Means places (OneByte b) (OneByte c) = b ≡ c
@@ -34,7 +36,7 @@ Means places (Case low high otherwise labels) (Case least greatest found places_
     × AllZip (λ label place. places label ≡ Some place) labels places_found))
 Means places _ _ = ⊥
 
--- A short jump reaches an offset at most 127 bytes after `next`, and none before it.
+-- States that a short jump reaches its target: an offset from `next` to `next + 127`, or an entry of the jump table.
 abbrev pub ReachesFrom : ℕ → Target ℕ → Type 0
 ReachesFrom next (To place) = (next ≤ place) × (place ≤ next + 127)
 ReachesFrom next (Through k) = Unit {0}
@@ -48,7 +50,7 @@ abbrev pub AreNear : ℕ → List (Item ℕ) → Type 0
 AreNear at [] = Unit {0}
 AreNear at (i ∷ items) = IsNearFrom at i × AreNear (at + size at i) items
 
--- A procedure of a text means a procedure of a program.
+-- States that the procedure `p` of a text means the procedure `q` of a program.
 pub record MeansProcedure (p : Source) (q : program.Procedure) : Type 0 where
   pub level : q.level ≡ p.level
   pub parameters : q.parameters ≡ p.parameters
@@ -64,12 +66,12 @@ pub record MeansSegment (s : SourceSegment) (t : program.Segment) : Type 0 where
   pub procedures : AllZip MeansProcedure s.procedures t.procedures
   pub follow : program.FollowFrom 0 t.procedures
 
--- The first segment with the number `n`.
+-- The first segment of the list with the number `n`, or `None`.
 abbrev pub segment_with : ℕ → List SourceSegment → Option SourceSegment
 segment_with n [] = None
 segment_with n (s ∷ ss) = if s.number == n then Some s else segment_with n ss
 
--- The segments with the `count` numbers from `n` on, in ascending order.
+-- The segments of the list with the `count` numbers from `n` on, in ascending order of their numbers.
 abbrev pub segments_from : ℕ → ℕ → List SourceSegment → List SourceSegment
 segments_from n zero ss = []
 segments_from n (suc count) ss = option_to_list (segment_with n ss) ++ segments_from (n + 1) count ss
@@ -77,26 +79,28 @@ segments_from n (suc count) ss = option_to_list (segment_with n ss) ++ segments_
 abbrev pub ascending : List SourceSegment → List SourceSegment
 ascending ss = segments_from 0 16 ss
 
--- The program that segments with labels mean: the same segments in ascending order of their numbers, for any order in
--- the text.
+-- States that the segments `ss` of a text mean the program `ts`: the same segments in ascending order of their numbers,
+-- in whichever order the text has them.
 abbrev pub MeansProgram : List SourceSegment → List program.Segment → Type 0
 MeansProgram ss ts = AllZip MeansSegment (ascending ss) ts
 
--- The lines state the statements `said`: each line that is not blank states the next of them, well-formed and in range.
+-- States that the lines contain exactly the given statements: each line that is not blank contains the next statement,
+-- well-formed and in range.
 abbrev pub AreSaid : List Line → List Statement → Type 0
 AreSaid [] said = said ≡ []
 AreSaid (Blank ∷ lines) said = AreSaid lines said
 AreSaid (Says s flaw ∷ lines) (t ∷ said) = (flaw ≡ NoFlaw) × ((s ≡ t) × AreSaid lines said)
 AreSaid _ said = ⊥
 
--- A text defines a program: its lines state the statements of sound segments with labels, and these mean the program.
+-- States that `text` defines the program `p`: its lines contain the statements of sound segments, and these segments
+-- mean `p`.
 pub record Spells (text : List ℕ) (p : List program.Segment) : Type 0 where
   pub source : List SourceSegment
   pub said : AreSaid (lines_of text) (statements source)
   pub sound : AreSources source
   pub meant : MeansProgram source p
 
--- The target of a program that a target of a text means. An unknown label has the offset 0.
+-- The target of a program that a target of a text means. A label that is not defined gets the offset 0.
 abbrev pub found_target : Places → Target Name → Target ℕ
 found_target places (To name) = To (unwrap_or (places name) 0)
 found_target places (Through k) = Through k
@@ -131,6 +135,6 @@ found_procedures at (p ∷ ps) = found_procedure at p ∷ found_procedures (sour
 abbrev pub found_segment : SourceSegment → program.Segment
 found_segment s = record { number = s.number; name = s.name; procedures = found_procedures 0 s.procedures }
 
--- The program of a text without faults.
+-- The program that `text` defines, if it has no faults.
 unfoldable pub program_of : List ℕ → List program.Segment
 program_of text = map found_segment (ascending (source_of text))

@@ -1,4 +1,4 @@
--- Programs with their labels as a text contains them, and the statements of the lines.
+-- Segments and procedures as a text contains them, with labels instead of offsets, and the statements of their lines.
 use Rattle.std.specs.Prelude.{◌≡◌, ℕ, ◌+◌, ◌%◌, Bool, true, false, List, [], ◌∷◌}
 use Rattle.std.specs.Prelude.{◌++◌, length, map, if◌then◌else◌, Option, Some, nat_eq}
 use Rattle.std.specs.List.{AllByRecursion, list_any, IsDistinct}
@@ -10,23 +10,24 @@ use Rattle.pm_code.specs.Program.{end_of, entries_needed}
 abbrev pub Name : Type 0
 Name = List ℕ
 
--- A line of a procedure's code: its number and a label, items or both; or the position of the exit code.
+-- A row of a procedure's code. It is a line with its number, and a label, items or both; or it is the position of the
+-- exit code.
 pub data Row : Type 0 where
   Items : ℕ → Option Name → List (Item Name) → Row
   Exit : Row
 
--- The statements of a line.
+-- The statement that a line contains.
 pub data Statement : Type 0 where
-  -- The number and the name of a segment.
+  -- The beginning of a segment: its number and its name.
   Segment : ℕ → Name → Statement
-  -- The number, the level and the sizes of parameters and locals of a procedure.
+  -- The beginning of a procedure: its number, its level, and the sizes of its parameters and locals.
   Begin : ℕ → ℕ → ℕ → ℕ → Statement
   Code : Row → Statement
-  -- A jump entry: the number of the line, and the label.
+  -- An entry of the jump table: the number of the line, and the label.
   Entry : ℕ → Name → Statement
   End : Statement
 
--- A procedure with its labels.
+-- A procedure of a text, with labels instead of offsets.
 pub record Source : Type 0 where
   pub level : ℕ
   pub parameters : ℕ
@@ -42,7 +43,7 @@ pub record SourceSegment : Type 0 where
 abbrev pub entry_statement : ℕ × Name → Statement
 entry_statement entry = Entry entry.0 entry.1
 
--- The statements of a program, in the order of its text.
+-- The statements of the procedure `p` with the number `number`, except its end.
 abbrev pub head_statements : ℕ → Source → List Statement
 head_statements number p = Begin number p.level p.parameters p.locals ∷ map Code p.code ++ map entry_statement p.entries
 
@@ -57,7 +58,7 @@ abbrev pub statements : List SourceSegment → List Statement
 statements [] = []
 statements (s ∷ ss) = segment_statements s ++ statements ss
 
--- The labels of code.
+-- The labels that the rows of code define.
 abbrev pub labels_of : List Row → List Name
 labels_of [] = []
 labels_of (Items line label items ∷ rows) = option_to_list label ++ labels_of rows
@@ -75,29 +76,29 @@ abbrev pub is_exit : Row → Bool
 is_exit (Items line label items) = false
 is_exit Exit = true
 
--- The number of times that code contains the exit code.
+-- The number of rows that are the position of the exit code.
 abbrev pub exits_of : List Row → ℕ
 exits_of [] = 0
 exits_of (row ∷ rows) = if is_exit row then 1 + exits_of rows else exits_of rows
 
--- The end of code that begins at offset `at`.
+-- The offset after the rows of code, the first of which is at offset `at`.
 abbrev pub code_end : ℕ → List Row → ℕ
 code_end at [] = at
 code_end at (row ∷ rows) = code_end (end_of at (row_items row)) rows
 
--- The number of entries that the jumps of code use.
+-- The number of entries of the jump table that the jumps of the rows use.
 abbrev pub entries_used : List Row → ℕ
 entries_used rows = entries_needed (items_of rows)
 
--- A procedure is sound before its labels are looked up: each label is defined once, the exit code is there once, the
--- length is even, and the number of entries is that which the jumps use.
+-- States that a procedure is sound, before its labels are resolved. Each label is defined once, and the exit code has
+-- one position. The length is even, and the number of jump entries is the number that the jumps use.
 pub record IsSource (p : Source) : Type 0 where
   pub labels : IsDistinct bytes_eq (labels_of p.code)
   pub exit : exits_of p.code ≡ 1
   pub even : code_end 0 p.code % 2 ≡ 0
   pub used : length p.entries ≡ entries_used p.code
 
--- The segments have different numbers, and their procedures are sound.
+-- States that the segments have different numbers and that their procedures are sound.
 abbrev pub AreSources : List SourceSegment → Type 0
 AreSources ss =
     IsDistinct nat_eq (map (λ s. s.number) ss) × AllByRecursion (λ s. AllByRecursion IsSource s.procedures) ss

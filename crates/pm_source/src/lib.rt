@@ -1,5 +1,5 @@
-//! The source text of the assembler: the statement of each line, the faults of a text, and the program that a text
-//! defines.
+//! The assembly language: the statement that each line of a text contains, the faults of a text, and the program that a
+//! text without faults defines.
 #![tactic(auto)]
 
 mod fault;

@@ -1,10 +1,10 @@
-//! Numbers in a source text.
+//! Numbers in an assembly text.
 
-/// A number of a source text. A magnitude above a million is stored as a million, which is outside every range.
+/// A number in an assembly text. A magnitude above 1,000,000 is stored as 1,000,000, which is outside every range.
 #[derive(Clone, Copy)]
 pub struct Numeral {
-    /// Whether a `-` precedes the number.
+    /// Whether a `-` is written before the number.
     pub negative: bool,
-    /// The absolute value.
+    /// The absolute value of the number.
     pub magnitude: u32,
 }

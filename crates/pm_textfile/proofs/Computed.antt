@@ -1,4 +1,4 @@
--- The worked examples, computed.
+-- The worked examples of lines and texts, computed by the checker.
 use Rattle.std.proofs.Common.{refl}
 use Rattle.pm_textfile.specs.Writing.{coded, completed, indentation, line_fault, lines_fault, text_lines}
 use Rattle.pm_textfile.specs.Worked.{WorkedTexts}

@@ -1,4 +1,4 @@
--- The first fault is that of the first line that has one.
+-- The first fault of a text is the fault of the first line that has a fault.
 use Rattle.std.proofs.Common.{◌≡◌, ◌⊎◌, inl, inr, ℕ, ◌+◌, List, [], ◌∷◌, ◌++◌, length, ap, ◌∙◌, refl, arith, Option, Some, None, length-append}
 use Rattle.std.specs.List.{AllByRecursion, flat_map}
 use Rattle.pm_textfile.specs.Writing.{IsFirstTextFault, IsSoundLine, TextLine, ended, line_fault, lines_fault, text_lines, text_fault}
@@ -9,7 +9,8 @@ none_or_some : (f : Option TextFault) → (f ≡ None) ⊎ ((e : TextFault) × (
 none_or_some None = inl refl
 none_or_some (Some e) = inr (e, refl)
 
--- a line with a fault, after lines without one; the first line begins at position `place` and has number `number`
+-- States that a line has the fault `fault`, and that the lines before it have none. The first line begins at position
+-- `place` and has the number `number`.
 record Found (place number : ℕ) (lines : List TextLine) (fault : TextFault) : Type 0 where
   before : List TextLine
   line : TextLine

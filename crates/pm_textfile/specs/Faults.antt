@@ -1,4 +1,4 @@
--- The numbers of the faults, and the lines and positions that they name.
+-- The numbers of the faults, and the lines or positions that the faults report.
 use Rattle.std.specs.Prelude.{ℕ, Option, Some, None}
 use Rattle.pm_textfile.specs.declared.fault.TextFault.{TextFault}
 use Rattle.pm_textfile.specs.declared.fault.TextFault.TheVariants.{NoHeader, NoMemory, LineTooLong, BadByte}

@@ -3,13 +3,11 @@ use Rattle.std.specs.Prelude.{◌==◌, ℕ, ◌-◌, List, [], ◌∷◌, ◌++
 use Rattle.pm_textfile.specs.declared.decoding.LinePart.{LinePart}
 use Rattle.pm_textfile.specs.declared.decoding.LinePart.TheVariants.{LineStart, Indentation, Line}
 
--- The text of the bytes that follow in a state.
---   At the start of a line a zero is skipped, 13 is an empty line, 16 begins an indentation, and any other byte begins
---   the line.
---   After such a 16 the next byte, for any value, is a number of spaces plus 32. Below 32 there are none. The line has
---   begun.
---   Within a line a zero is skipped, 13 ends the line, and any other byte, including 16, is a character.
---   A line that has begun and has no end gets one. This includes a line that is only a last 16.
+-- The text of the remaining bytes, if the reader is in the given state.
+--   LineStart: a zero is skipped, 13 is an empty line, 16 begins an indentation, and any other byte begins a line.
+--   Indentation: the next byte, for any value, is the number of spaces plus 32. If it is below 32, there are no spaces.
+--   Line: a zero is skipped, 13 ends the line, and any other byte, including 16, is a character.
+--   At the end of the bytes, a line feed is added in the states Indentation and Line.
 unfoldable pub text_from : LinePart → List ℕ → List ℕ
 text_from LineStart [] = []
 text_from Indentation [] = 10 ∷ []
@@ -25,6 +23,6 @@ text_from Line (b ∷ bs) =
     else (if b == 13 then 10 ∷ text_from LineStart bs
     else b ∷ text_from Line bs)
 
--- The text of a file: the text of the bytes after its header.
+-- The text of a file: the text of the bytes after the first 1,024.
 abbrev pub text_of_file : List ℕ → List ℕ
 text_of_file bytes = text_from LineStart (drop 1024 bytes)

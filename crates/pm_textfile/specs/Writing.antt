@@ -1,5 +1,5 @@
--- The text file of a text: a header of 1,024 zeros, then pages of 1,024 bytes. Each page contains whole lines and is
--- padded with zeros.
+-- The text file of a text: a header of 1,024 zeros, and then pages of 1,024 bytes. Each page contains whole lines and
+-- is padded with zeros.
 use Rattle.std.specs.Prelude.{◌≡◌, ◌==◌, ◌&&◌, ◌<◌, ◌≤◌, Bool, not, nat_lt, IsTrue, ℕ, ◌+◌, ◌-◌, List, [], ◌∷◌, ◌++◌}
 use Rattle.std.specs.Prelude.{drop, length, replicate, take, Option, Some, None, true, if◌then◌else◌}
 use Rattle.std.specs.List.{AllByRecursion, flat_map, list_all, prefix_len}
@@ -11,65 +11,65 @@ use Rattle.pm_textfile.specs.declared.fault.TextFault.TheVariants.{BadByte, Line
 abbrev pub TextLine : Type 0
 TextLine = List ℕ
 
--- A page of a file: its lines.
+-- A page of a file, as the list of its lines.
 abbrev pub Page : Type 0
 Page = List (List ℕ)
 
--- The lines with the character `c` before the first.
+-- The lines after the character `c` is put before the first line.
 abbrev pub with_front : ℕ → List TextLine → List TextLine
 with_front c [] = (c ∷ []) ∷ []
 with_front c (line ∷ lines) = (c ∷ line) ∷ lines
 
--- The lines of a text. The last one ends with a line feed or with the end of the text.
+-- The lines of a text. The last line ends with a line feed or with the end of the text.
 unfoldable pub text_lines : List ℕ → List TextLine
 text_lines [] = []
 text_lines (c ∷ cs) = if c == 10 then [] ∷ text_lines cs else with_front c (text_lines cs)
 
--- The length of the first line of a text.
+-- The length of the first line of `text`, without its line feed.
 abbrev pub line_length : List ℕ → ℕ
 line_length text = prefix_len (λ c. not (c == 10)) text
 
--- A line with its line feed.
+-- The line `line` with a line feed at its end.
 abbrev pub ended : TextLine → List ℕ
 ended line = line ++ 10 ∷ []
 
--- A text with a line feed at its end, unless it is empty.
+-- The text with a line feed at its end. If the text is empty, no line feed is added.
 unfoldable pub completed : List ℕ → List ℕ
 completed [] = []
 completed (c ∷ []) = if c == 10 then c ∷ [] else c ∷ 10 ∷ []
 completed (c ∷ d ∷ cs) = c ∷ completed (d ∷ cs)
 
--- Whether a byte is stored unchanged in a file: any byte except 0, 13 and 16.
+-- Whether the byte `c` is stored unchanged in a file. This is true for all bytes except 0, 13 and 16.
 abbrev pub stands_for_itself : ℕ → Bool
 stands_for_itself c = not (c == 0) && not (c == 13) && not (c == 16)
 
--- The number of leading spaces that are encoded as an indentation: all of them, but at most 223.
+-- The number of leading spaces of `line` that are encoded as an indentation: all of them, but at most 223.
 unfoldable pub indentation : TextLine → ℕ
 indentation line = prefix_len (λ c. c == 32) (take 223 line)
 
--- A line as it is stored: an indentation if it begins with a space, its other characters, and byte 13.
+-- The encoded line: an indentation if `line` begins with a space, the other characters, and byte 13.
 unfoldable pub coded : TextLine → List ℕ
 coded line =
     if indentation line == 0 then line ++ 13 ∷ []
     else 16 ∷ (32 + indentation line) ∷ drop (indentation line) line ++ 13 ∷ []
 
--- All lines of a page, as they are stored.
+-- The encoded lines of a page, joined.
 abbrev pub page_lines : Page → List ℕ
 page_lines page = flat_map coded page
 
--- A page: its lines, padded with zeros.
+-- The bytes of a page: its encoded lines, padded with zeros to 1,024 bytes.
 abbrev pub page_bytes : Page → List ℕ
 page_bytes page = page_lines page ++ replicate (1024 - length (page_lines page)) 0
 
--- Consecutive pages after a page with `room` free bytes. The first line of each does not fit on the page before it. So
--- each page has a line. All its lines fit on it.
+-- States that consecutive pages, after a page with `room` free bytes, have no needless page breaks. The first line of
+-- each page does not fit on the page before it. All lines of a page fit on it.
 unfoldable pub AreTight : ℕ → List Page → Type 0
 AreTight room [] = Unit {0}
 AreTight room (page ∷ pages) =
     (room < length (page_lines (take 1 page))) × (length (page_lines page) ≤ 1024)
     × AreTight (1024 - length (page_lines page)) pages
 
--- `bytes` are the file of `text`: the header, and pages with the lines of the text.
+-- States that `bytes` are a text file of `text`: the header, and pages with the lines of the text.
 pub record Writes (text bytes : List ℕ) : Type 0 where
   pub plain : IsTrue (list_all stands_for_itself text)
   pub pages : List Page
@@ -77,31 +77,31 @@ pub record Writes (text bytes : List ℕ) : Type 0 where
   pub tight : AreTight 0 pages
   pub layout : bytes ≡ replicate 1024 0 ++ flat_map page_bytes pages
 
--- The fault of a line that begins at position `place` of the text and has number `number`. It is the first byte that
--- cannot be stored, or else that the stored line does not fit on a page.
+-- The fault of `line`, which begins at position `place` of the text and has the number `number`. It is `BadByte` for
+-- the first byte that cannot be stored, or else `LineTooLong` if the encoded line does not fit on a page.
 unfoldable pub line_fault : ℕ → ℕ → TextLine → Option TextFault
 line_fault place number line =
     if nat_lt (prefix_len stands_for_itself line) (length line) then Some
     (BadByte (place + prefix_len stands_for_itself line))
     else (if nat_lt 1024 (length (coded line)) then Some (LineTooLong number) else None)
 
--- The first fault of lines. The first line begins at position `place` and has number `number`.
+-- The first fault of the lines, the first of which begins at position `place` and has the number `number`.
 unfoldable pub lines_fault : ℕ → ℕ → List TextLine → Option TextFault
 lines_fault place number [] = None
 lines_fault place number (line ∷ lines) =
     option_or (line_fault place number line) (lines_fault (place + length line + 1) (number + 1) lines)
 
--- The first fault of a text. Positions count from 0, lines from 1.
+-- The first fault of a text. Positions are counted from 0, and lines from 1.
 abbrev pub text_fault : List ℕ → Option TextFault
 text_fault text = lines_fault 0 1 (text_lines text)
 
--- A line that a file can contain: each of its bytes can be stored, and the stored line fits on a page.
+-- States that a file can contain `line`: each of its bytes can be stored, and the encoded line fits on a page.
 pub record IsSoundLine (line : TextLine) : Type 0 where
   pub plain : list_all stands_for_itself line ≡ true
   pub fits : length (coded line) ≤ 1024
 
--- `fault` is the fault of the first line that a file cannot contain. It begins after the lines before it and their line
--- feeds.
+-- States that `fault` is the fault of the first line that a file cannot contain. The position of this line is the total
+-- length of the lines before it, with their line feeds.
 pub record IsFirstTextFault (text : List ℕ) (fault : TextFault) : Type 0 where
   pub before : List TextLine
   pub line : TextLine

@@ -1,4 +1,4 @@
-//! Reading text files.
+//! Decoding of text files to texts.
 
 ghost use Rattle.std.specs.Prelude.{◌≡◌, ◌↔◌, [], ◌∷◌, ◌++◌, ◌<◌, ◌≤◌, ℕ, List, length, IfErr, IfOk, IsErrOf, OnOk};
 ghost use Rattle.pm_textfile.specs.Reading.{text_from, text_of_file};
@@ -8,34 +8,34 @@ use crate::copies::push_copies;
 use crate::fault::TextFault;
 use std::alloc::{AllocError, Global};
 
-// The state of the reader of a text file.
+// The state of the reader of a text file, between two bytes.
 #[derive(Clone, Copy)]
 pub(crate) enum LinePart {
-    // At the start of a line: only zeros have followed the end of the previous line.
+    // The reader is at the start of a line: since the end of the previous line it has read only zeros.
     LineStart,
-    // After the byte 16 that begins an indentation.
+    // The reader has read the byte 16 that begins an indentation.
     Indentation,
-    // Within a line.
+    // The reader is inside a line.
     Line,
 }
 
 /// Returns the text of a text file. Each line of the text ends with a line feed.
 ///
-/// The first 1,024 bytes are skipped. The other bytes are read as follows:
+/// The first 1,024 bytes are skipped. The other bytes have these meanings:
 ///
-/// - A byte 16 at the start of a line and the byte after it are one indentation. Its number of spaces is the second
-///   byte minus 32, or 0 if that byte is less than 32.
+/// - A byte 16 at the start of a line and the byte after it are an indentation. Its number of spaces is the second byte
+///   minus 32, or 0 if the second byte is less than 32.
 /// - Byte 13 ends a line.
 /// - Byte 0 is skipped.
 /// - Any other byte is a character.
 ///
-/// Bytes after the last 13 are a line too, unless all of them are 0.
+/// The bytes after the last byte 13 are a line too, unless all of them are 0.
 ///
 /// # Errors
 ///
-/// Checked in this order:
-/// - `NoHeader`: there are fewer than 1,024 bytes.
-/// - `NoMemory`: memory was refused.
+/// The errors are checked in this order:
+/// - `NoHeader`: the file has fewer than 1,024 bytes.
+/// - `NoMemory`: the host has no memory for the text.
 pub fn decode(alloc: Global, bytes: &[u8]) -> Result<Vec<u8>, TextFault>
     ensures text { IfOk result (λ text. text.items ≡ text_of_file bytes.now) }
     ensures no_header { IsErrOf result TextFault.NoHeader ↔ (length bytes.now < 1024) }
@@ -53,7 +53,7 @@ pub fn decode(alloc: Global, bytes: &[u8]) -> Result<Vec<u8>, TextFault>
     Ok(text)
 }
 
-// Appends the characters that a byte encodes. Returns the next state.
+// Appends to `text` the characters that `byte` encodes in the state `place`. Returns the next state.
 #[tactic(auto, unfolding(crate::specs::Reading::text_from))]
 fn add_byte(text: &mut Vec<u8>, place: LinePart, byte: u8) -> Result<LinePart, AllocError>
     ensures added { IfOk result (λ next. (rest : List ℕ) →
@@ -77,7 +77,7 @@ fn add_byte(text: &mut Vec<u8>, place: LinePart, byte: u8) -> Result<LinePart, A
     }
 }
 
-// Ends the last line if it is not complete.
+// Appends a line feed to `text` if the state `place` is not the start of a line.
 #[tactic(auto, unfolding(crate::specs::Reading::text_from))]
 fn end_line(text: &mut Vec<u8>, place: LinePart) -> Result<(), AllocError>
     ensures ended { OnOk result (text.new.items ≡ text.old.items ++ text_from place []) }

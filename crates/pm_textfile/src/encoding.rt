@@ -1,4 +1,4 @@
-//! Writing text files.
+//! Encoding of texts to text files.
 
 ghost use Rattle.std.specs.Prelude.{◌≡◌, ◌==◌, ◌+◌, ◌-◌, [], ◌∷◌, ◌++◌, ◌<◌, ◌≤◌, ◌^◌, ◌≢◌, ℕ, List, length};
 ghost use Rattle.std.specs.Prelude.{replicate, None, Some, IfErr, IfOk, OnOk};
@@ -15,24 +15,24 @@ use std::alloc::{AllocError, Global};
 
 const MOST_SPACES: usize = 223;
 
-/// Returns the text file of a text. A line of the text ends with a line feed or with the end of the text.
+/// Returns the text file of `text`. A line of the text ends with a line feed or with the end of the text.
 ///
-/// The file has 1,024 zeros and then pages of 1,024 bytes, padded with zeros. A line is stored in three parts:
+/// The file has 1,024 zeros and then pages of 1,024 bytes, padded with zeros. A line is encoded in three parts:
 ///
-/// - If it begins with spaces, byte 16 and the number of these spaces plus 32. At most 223 spaces are encoded in this
-///   way.
-/// - Its other characters, unchanged.
+/// - If the line begins with spaces: byte 16, and the number of these spaces plus 32. At most 223 spaces are encoded in
+///   this way.
+/// - The other characters of the line, unchanged.
 /// - Byte 13.
 ///
-/// A line that does not fit on the rest of a page begins the next page. The file of an empty text has no page.
+/// If a line does not fit into the rest of a page, it begins the next page. The file of an empty text has no page.
 ///
 /// # Errors
 ///
-/// Checked in this order, line by line:
-/// - `BadByte`: the line contains a byte 0, 13 or 16. The position is that of the first such byte.
-/// - `LineTooLong`: the stored line has more than 1,024 bytes.
+/// These errors are checked in this order, line by line:
+/// - `BadByte`: the line contains a byte 0, 13 or 16. The field is the position of the first such byte.
+/// - `LineTooLong`: the encoded line has more than 1,024 bytes.
 ///
-/// `NoMemory`: memory was refused.
+/// `NoMemory`: the host has no memory for the file.
 pub fn encode(alloc: Global, text: &[u8]) -> Result<Vec<u8>, TextFault>
     ensures file { IfOk result (λ bytes. Writes text.now bytes.items) }
     ensures exact { IfOk result (λ bytes. bytes.items ≡ text_file text.now) }
@@ -57,7 +57,7 @@ pub fn encode(alloc: Global, text: &[u8]) -> Result<Vec<u8>, TextFault>
     Ok(bytes)
 }
 
-// Returns the length of the first line of a text, without its line feed.
+// Returns the length of the first line of `text`, without its line feed.
 fn line_length(text: &[u8]) -> usize
     ensures length { result ≡ line_length text.now }
     ensures within { result ≤ length text.now }
@@ -65,7 +65,7 @@ fn line_length(text: &[u8]) -> usize
     text.iter().take_while(|c| **c != b'\n').count()
 }
 
-// Returns the number of bytes before the first byte that a text file cannot contain.
+// Returns the number of bytes of `line` before the first byte that a text file cannot contain.
 fn plain_length(line: &[u8]) -> usize
     ensures length { result ≡ prefix_len stands_for_itself line.now }
     ensures within { result ≤ length line.now }
@@ -73,8 +73,8 @@ fn plain_length(line: &[u8]) -> usize
     line.iter().take_while(|c| is_plain(**c)).count()
 }
 
-// Rejects a line that a text file cannot contain. The line begins at position `start` of the text and has number
-// `number`.
+// Returns an error if a text file cannot contain `line`. The line begins at position `start` of the text, and its
+// number is `number`.
 #[tactic(auto, unfolding(crate::specs::Writing::line_fault))]
 fn check_line(line: &[u8], start: usize, number: usize) -> Result<(), TextFault>
     requires within { start + length line.now < 2 ^ 64 }
@@ -91,14 +91,14 @@ fn check_line(line: &[u8], start: usize, number: usize) -> Result<(), TextFault>
     Ok(())
 }
 
-// Whether a byte is stored unchanged in a text file.
+// Returns whether `byte` is stored unchanged in a text file.
 fn is_plain(byte: u8) -> bool
     ensures value { result ≡ stands_for_itself byte }
 {
     !matches!(byte, 0 | 13 | 16)
 }
 
-// Returns the number of leading spaces that are encoded as an indentation.
+// Returns the number of leading spaces of `line` that are encoded as an indentation, at most 223.
 #[tactic(auto, unfolding(crate::specs::Writing::indentation))]
 fn indentation(line: &[u8]) -> usize
     ensures count { result ≡ indentation line.now }
@@ -111,7 +111,7 @@ fn indentation(line: &[u8]) -> usize
         .count()
 }
 
-// Returns the number of bytes of a stored line.
+// Returns the number of bytes of the encoded line.
 #[tactic(auto, unfolding(crate::specs::Writing::coded))]
 fn coded_length(line: &[u8]) -> usize
     requires size { length line.now < 2 ^ 63 }
@@ -123,7 +123,7 @@ fn coded_length(line: &[u8]) -> usize
     }
 }
 
-// The bytes of a file so far, and the number of free bytes on its last page.
+// The bytes of a file during writing, and the number of free bytes on its last page.
 #[derive(Drop)]
 struct Pages {
     bytes: Vec<u8>,
@@ -132,7 +132,7 @@ struct Pages {
 }
 
 impl Pages {
-    // Creates a file that has only its header.
+    // Creates a file that has only its header of 1,024 zeros.
     fn new(alloc: Global) -> Result<Pages, AllocError>
         ensures header { IfOk result (λ pages. pages.bytes.items ≡ replicate 1024 0) }
         ensures full { IfOk result (λ pages. pages.room ≡ 0) }
@@ -141,7 +141,7 @@ impl Pages {
         Ok(Pages { bytes, room: 0 })
     }
 
-    // Appends a line. If it does not fit on this page, it begins the next one.
+    // Appends the encoded line. If it does not fit into the rest of the page, it begins the next page.
     #[tactic(auto, unfolding(crate::specs::Laying::laid))]
     fn add_line(&mut self, line: &[u8]) -> Result<(), AllocError>
         requires fits { length (coded line.now) ≤ 1024 }
@@ -159,7 +159,7 @@ impl Pages {
         Ok(())
     }
 
-    // Pads the page with zeros.
+    // Pads the last page with zeros.
     fn fill(&mut self) -> Result<(), AllocError>
         ensures filled { OnOk result (self.new.bytes.items ≡ self.old.bytes.items ++ replicate self.old.room 0) }
     {
@@ -169,7 +169,7 @@ impl Pages {
     }
 }
 
-// Appends a line in its stored form.
+// Appends `line` in its encoded form.
 #[tactic(auto, unfolding(crate::specs::Writing::coded))]
 fn push_coded(bytes: &mut Vec<u8>, line: &[u8]) -> Result<(), AllocError>
     ensures added { OnOk result (bytes.new.items ≡ bytes.old.items ++ coded line.now) }

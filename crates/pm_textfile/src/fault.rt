@@ -1,4 +1,4 @@
-//! Why bytes have no text, or a text has no text file.
+//! The reasons why bytes are not a text file, or why a text cannot be converted to a text file.
 
 ghost use Rattle.std.specs.Prelude.{◌≡◌};
 ghost use Rattle.pm_textfile.specs.Faults.{number_of, place_of_text_fault};
@@ -6,16 +6,16 @@ ghost use Rattle.pm_textfile.specs.Faults.{number_of, place_of_text_fault};
 use std::alloc::AllocError;
 use thiserror::Error;
 
-/// Why bytes are not a text file, or why a text cannot be converted to one.
+/// The reason why bytes are not a text file, or why a text cannot be converted to a text file.
 #[derive(Clone, Copy, Debug, Error)]
 pub enum TextFault {
     /// 1: the file has fewer than 1,024 bytes, the length of a header.
     #[error("the file has no header")]
     NoHeader,
-    /// 2: memory was refused.
+    /// 2: the host has no memory for the result.
     #[error("out of memory")]
     NoMemory,
-    /// 3: a line has more than 1,024 bytes as it is stored in a file. Lines are counted from 1.
+    /// 3: the encoded line with this number has more than 1,024 bytes. Lines are counted from 1.
     #[error("line {0} does not fit in a page")]
     LineTooLong(usize),
     /// 4: the byte at this position of the text is 0, 13 or 16. Positions are counted from 0.
@@ -24,7 +24,7 @@ pub enum TextFault {
 }
 
 impl TextFault {
-    /// The fault's number, as the program prints it.
+    /// Returns the number of the fault, as the program prints it.
     pub fn number(self) -> u8
         ensures value { result ≡ number_of self }
     {
@@ -36,7 +36,7 @@ impl TextFault {
         }
     }
 
-    /// The line of `LineTooLong`, or the position of `BadByte`.
+    /// Returns the line of `LineTooLong`, or the position of `BadByte`. Returns `None` for the other faults.
     pub fn place(self) -> Option<usize>
         ensures value { result ≡ place_of_text_fault self }
     {

@@ -1,4 +1,4 @@
--- Ends that are recorded by offset.
+-- Laws of the ends that are recorded by offset.
 use Rattle.std.proofs.Common.{◌≡◌, ◌<◌, ℕ, zero, suc, Bool, true, false, List, [], ◌∷◌, ◌++◌, length, set, replicate, refl, sym, ap, ◌∙◌, arith, Option}
 use Rattle.std.specs.Prelude.{◌==◌, if◌then◌else◌}
 use Rattle.pm_trees.specs.declared.statement.Statement.{Statement}
@@ -27,7 +27,8 @@ has_set ends place p end low = by (place == p) refl
         ap (λ (q : ℕ). written (set ends place end) q) same ∙ get_or-set_same ends place end 0 low
     by false e = get_or-set_other ends place p end 0 (λ q. absurd (grind (arith, nat_tests, e, q)))
 
--- The ends after one more statement.
+-- Let `new` be the list of ends `old` after the statement `s` is recorded. Then recording the remaining statements in
+-- `new` has the same result as recording `s` and the remaining statements in `old`.
 pub ends_step : (w : Way) (p : ℕ) (s : Statement) (ss now : List Statement) (old new : List ℕ) (back : Option ℕ) (end : ℕ) → now ≡ s ∷ ss
     → back ≡ back_place w s.leads s.at → written new p ≡ later_end p (written old p) back s.behind
     → back_end w p (written old p) now ≡ end → back_end w p (written new p) ss ≡ end

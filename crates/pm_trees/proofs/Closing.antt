@@ -1,4 +1,4 @@
--- Blocks are closed one after another.
+-- Laws of closing blocks one after the other.
 use Rattle.std.proofs.Common.{◌≡◌, ℕ, Bool, true, false, List, ◌∷◌, ◌++◌, append_assoc, refl, sym, ap, ◌∙◌}
 use Rattle.std.specs.Prelude.{◌&&◌}
 use Rattle.std.proofs.lemmas.List.{append-nil}
@@ -7,8 +7,8 @@ use Rattle.pm_trees.specs.declared.line.Line.{Line}
 use Rattle.pm_trees.specs.Blocks.{end_here, end_line, end_lines, ends_here, has_ended, open_at}
 use Rattle.pm_trees.proofs.Lists.{none_here, none_lines, none_open}
 
--- The lines so far and the lines of the remaining blocks are all lines, and the same blocks remain open. `here` is the
--- result for the blocks closed so far.
+-- States the invariant of closing. The lines so far and the END lines of the remaining blocks are all lines. The same
+-- blocks remain open at the end. `here` is the result for the blocks that were closed.
 pub record Closing (at : ℕ) (here : Bool) (now : List Line) (open_now : List Block) (old : List Line) (open_old : List Block) : Type 0 where
   pub lines : now ++ end_lines at open_now ≡ old ++ end_lines at open_old
   pub left : open_at at open_now ≡ open_at at open_old
@@ -25,7 +25,7 @@ and_true : (a : Bool) → (a && true) ≡ a
 and_true true = refl
 and_true false = refl
 
--- One more block is closed.
+-- If the innermost block `b` has ended, then closing it and appending its END line preserves the invariant.
 pub closing_step : (at : ℕ) (here next : Bool) (now more old : List Line) (b : Block) (bs open_old : List Block)
     → Closing at here now (b ∷ bs) old open_old → has_ended at (b ∷ bs) ≡ true → more ≡ now ++ end_line at b.kind
     → next ≡ (here && ends_here at b) → Closing at next more bs old open_old
@@ -43,7 +43,7 @@ closing_step at here next now more old b bs open_old c e m n = record {
       ∙ c.right;
 }
 
--- No further block is closed.
+-- If the innermost block has not ended, then the lines, the open blocks and the result are complete.
 pub closing_done : (at : ℕ) (here : Bool) (now old : List Line) (open_now open_old : List Block)
     → Closing at here now open_now old open_old → has_ended at open_now ≡ false
     → (now ≡ old ++ end_lines at open_old) × (open_now ≡ open_at at open_old) × (here ≡ end_here at open_old)

@@ -1,4 +1,4 @@
--- The blocks are computed.
+-- The worked examples of blocks, computed by the checker.
 use Rattle.std.proofs.Common.{refl}
 use Rattle.pm_trees.specs.Backs.{back_end}
 use Rattle.pm_trees.specs.Blocks.{all_end, blocks, lines_from}

@@ -1,4 +1,4 @@
--- The ends of lists.
+-- Laws of the last items of lists.
 use Rattle.std.proofs.Common.{◌≡◌, ◌≤◌, ℕ, zero, suc, ◌-◌, Bool, true, false, not, List, [], ◌∷◌, ◌++◌, drop, take, length, refl, sym, ap, ◌∙◌, arith}
 use Rattle.std.specs.Prelude.{reverse, ◌==◌, ◌&&◌, nat_le}
 use Rattle.std.proofs.lemmas.Bool.{and_parts}
@@ -33,7 +33,8 @@ leaves_dropped zero l = refl
 leaves_dropped (suc k) [] = refl
 leaves_dropped (suc k) (s ∷ ss) = leaves_dropped k ss
 
--- The last `k` items of a list that has at least `k` items.
+-- If the list `l` has at least `k` items, then dropping the first `k` items of the reverse of `l` is the reverse of `l`
+-- without its last `k` items.
 without_few : {A : Type 0} → (k : ℕ) (l : List A) → k ≤ length l → reverse (take (length l - k) l) ≡ drop k (reverse l)
 without_few k l low =
     let i : ℕ = length l - k in

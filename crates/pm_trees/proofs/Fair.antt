@@ -1,4 +1,5 @@
--- Each part takes what its operands leave.
+-- Each part pops exactly what its operands push, and what is recorded as missing. A *part* is one item of the code with
+-- its stack effect. A *tree* is a part with the trees that push its operands.
 use Rattle.std.proofs.Common.{◌≡◌, ◌≤◌, ℕ, zero, suc, ◌+◌, ◌-◌, Bool, true, false, not, List, [], ◌∷◌, ◌++◌, drop, take}
 use Rattle.std.proofs.Common.{refl, sym, ap, ◌∙◌, arith, append_assoc}
 use Rattle.std.specs.Prelude.{◌==◌, ◌||◌, nat_le, if◌then◌else◌, replicate, Some}
@@ -20,7 +21,7 @@ use Rattle.pm_trees.specs.Laws.{Entry, OperandsAreWhatIsTaken, TakesItsOperands,
 use Rattle.pm_trees.specs.Laws.{missing_then, off_share, off_words}
 use Rattle.pm_trees.specs.Laws.Entry.{AWord, AConstant}
 
--- ---- what trees leave
+-- ---- what trees push
 
 off_replicated : (n k : ℕ) (es : List Entry) → k ≤ n → off_words n (replicate k AWord ++ es) ≡ off_words (n - k) es
 unfolding off_words
@@ -42,7 +43,7 @@ off_operand n (leaves.Constant c) es h =
     let low : 1 ≤ n = grind (arith, nat_tests, (and_parts (not (n == 0)) (nat_le 1 n) h).1) in off_one n c es low
 off_operand n leaves.Set es h = absurd (grind (arith, nat_tests, h))
 
--- What trees leave, as entries of the stack.
+-- The entries of the stack that the trees push, the top entry first.
 abbrev all_entries : List Leaves → List Entry
 all_entries [] = []
 all_entries (l ∷ ls) = entries l ++ all_entries ls
@@ -97,21 +98,21 @@ unfolding share_count
 fair (share.Words n) ls es = words_fair n ls es
 fair share.Set ls es = fair_set ls es
 
--- Nothing can be taken from an empty stack.
+-- From an empty stack nothing can be taken, so the whole share is still needed.
 off_none : (s : Share) → off_share s [] ≡ Some (record { wanted = s; stack = [] })
 unfolding off_words
 off_none (share.Words zero) = refl
 off_none (share.Words (suc n)) = refl
 off_none share.Set = refl
 
--- If a share is 0 words, nothing is taken.
+-- If a share is 0 words, then nothing is taken from the stack.
 off_nothing : (s : Share) (es : List Entry) → is_none s ≡ true → off_share s es ≡ Some (record { wanted = share.Words 0; stack = es })
 unfolding off_words
 off_nothing (share.Words zero) es h = refl
 off_nothing (share.Words (suc n)) es h = absurd (grind (arith, nat_tests, h))
 off_nothing share.Set es h = cc
 
--- The count with the operands of the share below, and without them.
+-- The count of the trees for both shares of a part, if nothing of the share on top is missing.
 abbrev deep : CountShare → CountShare → Count
 deep t u = record { trees = t.trees + u.trees; missing = record { top = share.Words 0; below = u.missing } }
 

@@ -1,4 +1,5 @@
--- What is missing was on the stack before the statement.
+-- What is missing for a statement was on the stack before the statement. A *part* is one item of the code with its
+-- stack effect. A *tree* is a part with the trees that push its operands.
 use Rattle.std.proofs.Common.{◌≡◌, ℕ, zero, suc, Bool, true, false, List, [], ◌∷◌, refl}
 use Rattle.std.specs.Prelude.{◌||◌, if◌then◌else◌}
 use Rattle.pm_phrases.specs.declared.around.Missing.{Missing}
@@ -28,7 +29,7 @@ below_back (suc zero) (Tree p m o Bare) s = tt
 below_back (suc (suc k)) (Tree p m o Bare) s = tt
 below_back (suc k) (Tree p m o (Tree q n r before)) s = below_back k (Tree q n r before) s.2
 
--- Operands that follow other trees are complete.
+-- States that the operands of a tree that follows other trees are complete: nothing is missing in them.
 abbrev OrWhole : Forest → Forest → Type 0
 OrWhole o Bare = Unit {0}
 OrWhole o (Tree q n r before) = AreWhole o

@@ -1,4 +1,4 @@
--- The lines of statements, one statement after another.
+-- Laws of the lines of statements, added one statement after the other.
 use Rattle.std.proofs.Common.{◌≡◌, ℕ, Bool, true, List, [], ◌∷◌, ◌++◌, append_assoc, refl, sym, ap, ◌∙◌}
 use Rattle.std.specs.Prelude.{◌&&◌}
 use Rattle.pm_trees.specs.declared.backs.Loops.{Loops}
@@ -9,7 +9,8 @@ use Rattle.pm_trees.specs.Backs.{loops_at}
 use Rattle.pm_trees.specs.Blocks.{all_end, code_end, end_here, end_lines, is_empty, lines_from, open_after, open_at, statement_lines}
 use Rattle.pm_trees.proofs.Closing.{and_assoc}
 
--- The lines so far, followed by the lines of the remaining statements, are the lines of all statements.
+-- States the invariant of the loop over statements: the lines so far, followed by the lines of the remaining
+-- statements, are the lines of all statements.
 pub record Growing (all : List Statement) (so_far : Bool) (ls : List Line) (bs : List Block) (ss : List Statement) : Type 0 where
   pub lines : ls ++ lines_from (code_end all) all bs ss ≡ lines_from (code_end all) all [] all
   pub right : (so_far && all_end (code_end all) all bs ss) ≡ all_end (code_end all) all [] all
@@ -17,7 +18,7 @@ pub record Growing (all : List Statement) (so_far : Bool) (ls : List Line) (bs :
 pub growing_none : (all : List Statement) → Growing all true [] [] all
 growing_none all = record { lines = refl; right = refl }
 
--- One more statement.
+-- If the lines of the statement `s` are appended, then the invariant is preserved.
 pub growing_step : (all : List Statement) (right here next : Bool) (ls more : List Line) (bs new : List Block) (s : Statement) (ss now : List Statement)
     (loops : Loops) → Growing all right ls bs now → now ≡ s ∷ ss → loops ≡ loops_at all s
     → more ≡ ls ++ statement_lines (code_end all) loops s bs → new ≡ open_after (code_end all) loops s bs
@@ -44,7 +45,8 @@ growing_step all right here next ls more bs new s ss now loops g e f m n h k =
           ∙ g.right;
     }
 
--- No further statement.
+-- If no statement remains, and the END lines at the end of the code are appended, then the lines are the lines of all
+-- statements.
 pub growing_done : (all : List Statement) (right here empty next : Bool) (ls more : List Line) (bs new : List Block) (ss : List Statement)
     → Growing all right ls bs ss → ss ≡ [] → more ≡ ls ++ end_lines (code_end all) bs → new ≡ open_at (code_end all) bs
     → here ≡ end_here (code_end all) bs → empty ≡ is_empty new → next ≡ ((right && here) && empty)

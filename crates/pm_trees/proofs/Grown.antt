@@ -1,4 +1,5 @@
--- The statements are the code.
+-- The statements, read with the operands first, are the code. A *part* is one item of the code with its stack effect. A
+-- *tree* is a part with the trees that push its operands.
 use Rattle.std.proofs.Common.{◌≡◌, ℕ, zero, suc, ◌+◌, Bool, true, false, List, [], ◌∷◌, ◌++◌, refl, sym, ap, ◌∙◌, append_assoc}
 use Rattle.std.specs.Prelude.{◌||◌, map, if◌then◌else◌}
 use Rattle.std.proofs.lemmas.List.{append-nil}
@@ -21,7 +22,7 @@ parts_split (suc k) (Tree p m o before) =
     sym (append_assoc (parts_of (back k before)) (parts_of (front k before)) (parts_of o ++ p ∷ []))
     ∙ ap (λ l. l ++ (parts_of o ++ p ∷ [])) (parts_split k before)
 
--- ---- the trees so far, as code
+-- ---- the parts of the trees during building
 
 all_parts : Growing → List Part
 all_parts g = parts_of g.done ++ parts_of g.pending
@@ -38,7 +39,7 @@ parts_before p g = by (is_reached p.place || is_full (lefts_of g.pending))
     by true = append-nil (parts_of (behind g.pending g.done)) ∙ parts_behind g.pending g.done
     by false = refl
 
--- Three ways to add a part.
+-- If a part is added to the trees, then the parts of the trees are the old parts, followed by this part.
 joins : (p : Part) (c : Count) (g : Growing) → all_parts (grown_by p c g) ≡ all_parts g ++ p ∷ []
 unfolding all_parts
 joins p c g = by (leaves_nothing p.leaves) (none_missing c.missing)

@@ -1,4 +1,5 @@
--- Labels are at the beginning of statements.
+-- In a statement, only the first part can have a label or begin the exit code. A *part* is one item of the code with
+-- its stack effect. A *tree* is a part with the trees that push its operands.
 use Rattle.std.proofs.Common.{◌≡◌, Bool, true, false, List, [], ◌∷◌, ◌++◌, refl, sym, ap, ◌∙◌, subst, append_assoc}
 use Rattle.std.specs.Prelude.{◌||◌, if◌then◌else◌}
 use Rattle.pm_trees.specs.Parts.{Part, is_reached, procedure_parts}
@@ -33,12 +34,12 @@ one_back : (ps qs : List Part) → AreInOne (ps ++ qs) → AreInOne qs
 one_back [] qs a = a
 one_back (p ∷ ps) qs a = weaker qs (unreached_back ps qs a)
 
--- One more part at the end: it has no label, or no part precedes it.
+-- If the part `p` has no label, then it can be appended to the parts of a statement.
 one_more : (ps : List Part) (p : Part) → AreInOne ps → is_reached p.place ≡ false → AreInOne (ps ++ p ∷ [])
 one_more [] p a e = tt
 one_more (q ∷ ps) p a e = unreached_joined ps (p ∷ []) a (e, tt)
 
--- If a list of trees has no label after its first part, the same holds for each tree.
+-- If in a list of trees no part after the first has a label, then the same is true for each tree of the list.
 each : (f : Forest) → AreInOne (parts_of f) → AreReachedAtTheFront f
 each Bare a = tt
 each (Tree p m o before) a =
@@ -52,7 +53,7 @@ record AreFronted (g : Growing) : Type 0 where
   done : AreReachedAtTheFront g.done
   pending : AreInOne (parts_of g.pending)
 
--- A part may be added to the pending trees.
+-- States that the part `p` may be added to the pending trees `f`: at most the first part has a label.
 abbrev MayJoin : Part → Forest → Type 0
 MayJoin p f = AreInOne (parts_of f ++ p ∷ [])
 

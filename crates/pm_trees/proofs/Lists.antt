@@ -1,4 +1,4 @@
--- Lists whose last item is the innermost one.
+-- Laws of lists of blocks and statements whose last item is the innermost or the last one.
 use Rattle.std.proofs.Common.{◌≡◌, ℕ, true, false, List, [], ◌∷◌, ◌++◌, refl, reverse}
 use Rattle.std.proofs.lemmas.List.{reverse-append}
 use Rattle.pm_trees.specs.declared.block.Block.{Block}

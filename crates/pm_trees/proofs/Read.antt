@@ -1,4 +1,4 @@
--- Blocks are read back to their statements.
+-- The lines of blocks are read back to their statements.
 use Rattle.std.proofs.Common.{◌≡◌, ℕ, Bool, true, false, not, List, [], ◌∷◌, ◌++◌, Some, append_assoc, arith, map, refl, sym, ap, ◌∙◌}
 use Rattle.std.specs.Prelude.{◌==◌, ◌&&◌, nat_le, nat_lt, if◌then◌else◌, option_map}
 use Rattle.std.proofs.lemmas.Bool.{and_parts}
@@ -32,8 +32,8 @@ bracket (kind.Case place) = ACase
 abbrev kinds : List Block → List Bracket
 kinds bs = map (λ (b : Block). bracket b.kind) bs
 
--- The ends that an open block adds. A choice and a WHILE add their end. A CASE also adds the beginning of its last
--- statement. A REPEAT adds none.
+-- The list of ends after the ends of one open block are put before it. An IF, ELSE or WHILE block has its end. A CASE
+-- has the beginning of its last statement, and its end. A REPEAT loop has none.
 abbrev with_end : Kind → ℕ → List ℕ → List ℕ
 with_end kind.If end ends = end ∷ ends
 with_end kind.Else end ends = end ∷ ends
@@ -45,11 +45,11 @@ abbrev ends_of : List Block → List ℕ
 ends_of [] = []
 ends_of (b ∷ bs) = with_end b.kind b.end (ends_of bs)
 
--- Lines that are read inside these blocks describe these statements and the ends of the blocks.
+-- States that reading the lines `ls` inside the open blocks `bs` returns the statements `ss` and the ends of `bs`.
 abbrev Says : List Line → List Block → List Statement → Type 0
 Says ls bs ss = read ls (kinds bs) ≡ Some (record { statements = ss; ends = ends_of bs })
 
--- ---- ends of blocks
+-- ---- END lines are read back
 
 one_end : (at end : ℕ) (k : Kind) (bs : List Block) (ls : List Line) (ss : List Statement) → (not (closes_itself k) && end == at) ≡ true
     → Says ls bs ss → read (end_line at k ++ ls) (bracket k ∷ kinds bs) ≡ Some (record { statements = ss; ends = with_end k end (ends_of bs) })
@@ -80,7 +80,7 @@ ends_read at (b ∷ bs) ls ss e h = by (nat_le b.end at) (ends_read at bs ls ss)
         ∙ one_end at b.end b.kind bs (end_lines at bs ++ ls) ss parts.0 (more parts.1 g)
     by false more f g = g
 
--- ---- the beginning of a loop
+-- ---- the line of a REPEAT loop is read back
 
 repeat_read : (limit at end : ℕ) (bs : List Block) (ls : List Line) (ss : List Statement)
     → Says ls (with_repeat limit at end bs) ss → Says (repeat_lines limit at end bs ++ ls) bs ss
@@ -91,7 +91,7 @@ repeat_read limit at end bs ls ss h = by (begins_loop limit at end bs) h
     by true g = g
     by false g = g
 
--- ---- a statement followed by other lines
+-- ---- the line of a statement, followed by other lines, is read back
 
 until_kind : (at behind place end : ℕ) (k : Kind) (bs : List Block) (ls : List Line) (ss : List Statement)
     → (is_repeat_from place k && end == behind) ≡ true → Says ls bs ss
@@ -265,7 +265,7 @@ word_read limit here at behind (leads.ByCondition place) bs ls ss h =
 word_read limit here at behind (leads.Always place) bs ls ss h = always_read here.by_value limit at behind place bs ls ss h
 word_read limit here at behind leads.ByValue bs ls ss h = value_read here.by_value at behind bs ls ss h
 
--- ---- all lines
+-- ---- all lines are read back
 
 none_left : (bs : List Block) → is_empty bs ≡ true → Says [] bs []
 none_left [] e = refl
@@ -293,7 +293,7 @@ lines_read limit all bs (s ∷ ss) e =
     (word_read limit here s.at s.behind s.leads (open_around limit here s bs) rest ss
     (lines_read limit all next ss parts.1)))
 
--- If each block ends at the target of its jump, the lines describe the statements.
+-- If each block ends at the target of its jump, then reading the lines returns the statements.
 pub read_back : (ss : List Statement) → all_end (code_end ss) ss [] ss ≡ true
     → expanded (lines_from (code_end ss) ss [] ss) ≡ Some ss
 unfolding expanded

@@ -1,4 +1,5 @@
--- The text that is built part by part is the text of the statements.
+-- The phrases that are built part by part are the phrases of the statements. A *part* is one item of the code with its
+-- stack effect. A *tree* is a part with the trees that push its operands.
 use Rattle.std.proofs.Common.{◌≡◌, ◌≤◌, ℕ, zero, suc, ◌+◌, ◌-◌, Bool, true, false, List, [], ◌∷◌, drop, length, refl, sym, ap, ◌∙◌, arith}
 use Rattle.std.specs.Prelude.{◌||◌, if◌then◌else◌}
 use Rattle.std.proofs.lemmas.List.{drop-drop, drop-take, take-append-drop, take-take}
@@ -14,7 +15,7 @@ use Rattle.pm_trees.specs.Trees.Forest.{Bare, Tree}
 use Rattle.pm_trees.specs.Piles.{Pile, Texts, TextGrows, added, added_all, added_by, after, before_text, closed_texts, last_of, leaves_left, no_trees}
 use Rattle.pm_trees.specs.Piles.{pile_of, rest_of, texts_in, upon}
 
--- ---- the two lists of a pile
+-- ---- the two lists of a pile, which are summaries and phrases
 
 consed : Left → Shown → Pile → Pile
 consed l s t = record { lefts = l ∷ t.lefts; phrases = s ∷ t.phrases }
@@ -46,7 +47,7 @@ unfolding consed
 pile_behind a Bare before = refl
 pile_behind a (Tree p m o more) before = ap (consed _ _) (pile_behind a more before)
 
--- ---- building
+-- ---- building of trees
 
 abbrev texts_of : Around → Growing → Texts
 texts_of a g = record { done = pile_of a g.done; pending = pile_of a g.pending }
@@ -63,7 +64,8 @@ before_as a p g =
     by true = closed_as a g
     by false = refl
 
--- The result of adding a part, by its operands and the remaining pending trees.
+-- The trees after the part `p` is added. `o` has its operands, `r` the remaining pending trees, and `done` the
+-- statements.
 abbrev added_with : Around → Part → Missing → Pile → Pile → Pile → Texts
 added_with a p m done o r =
     if leaves_nothing p.leaves then record { done = upon a p m o (after r done); pending = no_trees }
@@ -117,7 +119,7 @@ text_grows a ps =
     let g : Growing = record { done = Bare; pending = Bare } in
     ap (λ t. (closed_texts t).done) (all_as a ps g) ∙ ap (λ t. t.done) (closed_as a (grown_all ps g))
 
--- ---- one pile whose last trees are pending
+-- ---- trees as one pile, whose last trees are pending
 
 abbrev beside : List Left → List Shown → Pile
 beside l s = record { lefts = l; phrases = s }
@@ -137,11 +139,11 @@ back_back n r t = piles_same _ _ _ _ (drop-drop r n t.lefts) (drop-drop r n t.ph
 pub both_parts : (k : ℕ) (t : Pile) → after (last_of k t) (rest_of k t) ≡ t
 both_parts k t = piles_same _ _ _ _ (take-append-drop k t.lefts) (take-append-drop k t.phrases)
 
--- If no tree is pending, all trees are statements.
+-- If no tree is pending, then all trees are finished statements.
 pub none_pending : (k : ℕ) (t : Pile) → texts_in t 0 ≡ closed_texts (texts_in t k)
 none_pending k t = ap (λ (u : Pile). record { done = u; pending = no_trees }) (sym (both_parts k t))
 
--- The result of adding a part, by the number of its operands and the number of remaining pending trees.
+-- The trees after a part with `n` operands is added, if `r` pending trees remain.
 added_sum : (a : Around) (p : Part) (n : ℕ) (m : Missing) (r : ℕ) (t : Pile)
     → texts_in (upon a p m (last_of n t) (rest_of n t)) (if leaves_nothing p.leaves then 0 else if none_missing m then suc r else 1)
     ≡ added_with a p m (rest_of (n + r) t) (last_of n (last_of (n + r) t)) (rest_of n (last_of (n + r) t))
@@ -175,7 +177,7 @@ added_in a p n m c k t e f low =
     ∙ ap (λ (i : ℕ). added_with a p m (rest_of k t) (last_of i (last_of k t)) (rest_of i (last_of k t))) e
     ∙ ap (λ (w : Missing). added_with a p w (rest_of k t) (last_of c.trees (last_of k t)) (rest_of c.trees (last_of k t))) f
 
--- ---- a step of the loop
+-- ---- one step of the loop over the parts
 
 pub added_none : (a : Around) (i : ℕ) (ps : List Part) (t : Texts) → length ps ≤ i → added_all a (drop i ps) t ≡ t
 unfolding added_all

@@ -1,4 +1,5 @@
--- Laws about statements.
+-- Laws about statements. A statement is a tree whose nodes are parts, which are items of the code with their stack
+-- effects.
 use Rattle.std.specs.Prelude.{◌≡◌, true, ℕ, zero, suc, false, List, [], ◌∷◌, ◌++◌, map, replicate, if◌then◌else◌}
 use Rattle.std.specs.Prelude.{Option, Some, None}
 use Rattle.pm_code.specs.Item.{Item}
@@ -16,13 +17,13 @@ use Rattle.pm_trees.specs.Trees.Forest.{Bare, Tree}
 abbrev pub items_of : Forest → List (Item ℕ)
 items_of f = map (λ (p : Part). p.item) (parts_of f)
 
--- The statements of a procedure, each read with its operands first, are its code: every item once, in order.
+-- If the statements of a procedure are read with the operands first, the result is its code: every item once, in order.
 abbrev pub StatementsAreTheCode : Type 0
 StatementsAreTheCode = (k : Known) (p : Procedure) → items_of (statements (procedure_parts k p)) ≡ p.items
 
 -- ---- what operands leave on the stack
 
--- A word, a word of known value, or a set whose size is not known.
+-- An entry of the stack: a word, a word with a known value, or a set whose size is not known.
 pub data Entry : Type 0 where
   AWord : Entry
   AConstant : ℕ → Entry
@@ -33,17 +34,17 @@ entries (leaves.Words n) = replicate n AWord
 entries (leaves.Constant c) = AConstant c ∷ []
 entries leaves.Set = ASet ∷ []
 
--- What trees leave on the stack, the top first.
+-- The entries that the trees push on the stack, the top entry first.
 abbrev pub entries_of : Forest → List Entry
 entries_of Bare = []
 entries_of (Tree p missing operands before) = entries p.leaves ++ entries_of before
 
--- What is still needed after entries were taken from a stack, and the rest of the stack.
+-- The result of taking entries from a stack: the share that is still needed, and the rest of the stack.
 pub record Rest : Type 0 where
   pub wanted : Share
   pub stack : List Entry
 
--- Takes `n` words from a stack. A set cannot be divided into words.
+-- Takes `n` words from the stack `es`. The result is `None` if a set would have to be divided into words.
 unfoldable pub off_words : ℕ → List Entry → Option Rest
 off_words zero es = Some (record { wanted = share.Words 0; stack = es })
 off_words (suc n) [] = Some (record { wanted = share.Words (suc n); stack = [] })
@@ -51,7 +52,7 @@ off_words (suc n) (AWord ∷ es) = off_words n es
 off_words (suc n) (AConstant c ∷ es) = off_words n es
 off_words (suc n) (ASet ∷ es) = None
 
--- Takes a set from a stack: one entry, or a count followed by that many words.
+-- Takes a set from a stack: either one entry that is a set, or a constant and the number of words that it gives.
 abbrev pub off_set : List Entry → Option Rest
 off_set [] = Some (record { wanted = share.Set; stack = [] })
 off_set (ASet ∷ es) = Some (record { wanted = share.Words 0; stack = es })
@@ -62,7 +63,7 @@ abbrev pub off_share : Share → List Entry → Option Rest
 off_share (share.Words n) es = off_words n es
 off_share share.Set es = off_set es
 
--- What is missing, if the stack is now empty.
+-- The shares that are missing, if the stack is now empty. The result is `None` if entries are left on the stack.
 abbrev pub missing_of : Share → Share → List Entry → Option Missing
 missing_of top below [] = Some (record { top = top; below = below })
 missing_of top below (e ∷ es) = None
@@ -76,11 +77,12 @@ missing_then below None = None
 missing_then below (Some l) =
     if is_none l.wanted then missing_below (off_share below l.stack) else missing_of l.wanted below l.stack
 
--- What is missing after all entries of a stack were taken, or `None` if entries are left.
+-- What is missing after a part with the shares `w` has taken all entries of a stack. The result is `None` if entries
+-- are left.
 unfoldable pub missing_from : Takes → List Entry → Option Missing
 missing_from w es = missing_then w.below (off_share w.top es)
 
--- Each part takes all that its operands leave, and what is shown as missing.
+-- States that each part pops exactly what its operands push, and what is recorded as missing.
 abbrev pub TakesItsOperands : Forest → Type 0
 TakesItsOperands Bare = Unit {0}
 TakesItsOperands (Tree p missing operands before) =
@@ -99,7 +101,7 @@ abbrev pub AreInOne : List Part → Type 0
 AreInOne [] = Unit {0}
 AreInOne (p ∷ ps) = AreUnreached ps
 
--- In a statement, only the first part can have a label or begin the exit code.
+-- States that in each statement only the first part can have a label or begin the exit code.
 abbrev pub AreReachedAtTheFront : Forest → Type 0
 AreReachedAtTheFront Bare = Unit {0}
 AreReachedAtTheFront (Tree p missing operands before) =
@@ -108,14 +110,14 @@ AreReachedAtTheFront (Tree p missing operands before) =
 abbrev pub LabelsStandBeforeStatements : Type 0
 LabelsStandBeforeStatements = (k : Known) (p : Procedure) → AreReachedAtTheFront (statements (procedure_parts k p))
 
--- ---- what is missing
+-- ---- what is missing: what a part pops although none of its operands pushes it
 
--- In these trees nothing is missing.
+-- States that nothing is missing in these trees.
 abbrev pub AreWhole : Forest → Type 0
 AreWhole Bare = Unit {0}
 AreWhole (Tree p missing operands before) = (none_missing missing ≡ true) × AreWhole operands × AreWhole before
 
--- In a list of trees, something can be missing only in the first tree, and there only in its first operand.
+-- States that in a list of trees something can be missing only in the first tree, and there only in its first operand.
 abbrev pub MissBelow : Forest → Type 0
 MissBelow Bare = Unit {0}
 MissBelow (Tree p missing operands Bare) = MissBelow operands
@@ -126,7 +128,7 @@ abbrev pub EachMissesBelow : Forest → Type 0
 EachMissesBelow Bare = Unit {0}
 EachMissesBelow (Tree p missing operands before) = MissBelow operands × EachMissesBelow before
 
--- What a statement takes and none of its operands leaves was on the stack before the statement. Nothing that an operand
--- left is below it.
+-- If a statement pops something that none of its operands pushes, then this was on the stack before the statement,
+-- below everything that the operands push.
 abbrev pub MissingIsBelow : Type 0
 MissingIsBelow = (k : Known) (p : Procedure) → EachMissesBelow (statements (procedure_parts k p))

@@ -1,4 +1,4 @@
--- The items of code as parts of statements.
+-- The items of the code as parts of statements. A part is an item with its place, its role and its stack effect.
 use Rattle.std.specs.Prelude.{ℕ, ◌+◌, ◌*◌, Bool, true, false, ◌==◌, ◌||◌, nat_lt, if◌then◌else◌, List, [], ◌∷◌, ◌++◌}
 use Rattle.std.specs.Prelude.{Option, Some, None}
 use Rattle.std.specs.Prelude.{option_map, slice_index_or}
@@ -35,14 +35,14 @@ use Rattle.pm_trees.specs.declared.part.Takes.{Takes}
 
 -- ---- the stack effect of an item
 
--- What is known about procedures: the segment of the code, and a table with 256 procedures for each segment. `layout`
--- states how statements are laid out.
+-- What is known about the procedures: the segment of the code, and a table with 256 procedures for each segment.
+-- `layout` states how statements are indented and grouped.
 pub record Known : Type 0 where
   pub segment : ℕ
   pub callees : List (Option Callee)
   pub layout : Layout
 
--- The index of the called procedure in the table.
+-- The index of the called procedure in the table `callees`.
 abbrev pub callee_index : ℕ → Call → ℕ
 callee_index segment (call.Clp p) = 256 * segment + p
 callee_index segment (call.Cgp p) = 256 * segment + p
@@ -53,17 +53,17 @@ callee_index segment (call.Cxp s p) = 256 * s + p
 abbrev pub callee_effect : Callee → Effect
 callee_effect c = words c.parameters c.results
 
--- The stack effect of a call.
+-- The stack effect of the call `c`, or `None` if the sizes of the called procedure are not known.
 abbrev pub call_effect : Known → Call → Option Effect
 call_effect k c = option_map callee_effect (slice_index_or k.callees (callee_index k.segment c) None)
 
--- The stack effect of a call depends on the called procedure. That of any other instruction is in the table of
--- instructions.
+-- The stack effect of the instruction `i`. The effect of a call depends on the called procedure. The effect of any
+-- other instruction is `instruction_effect`.
 abbrev pub effect_by : Known → Operation → Instr → Option Effect
 effect_by k (operation.Call c) i = call_effect k c
 effect_by k _ i = instruction_effect i
 
--- The instruction of an item, without the offsets that it names.
+-- The instruction of an item, without its target or its table. A single byte has no instruction.
 abbrev pub item_instruction : Item ℕ → Option Instr
 item_instruction (Plain i named) = Some i
 item_instruction (Jump op target) = Some (bare op)
@@ -72,13 +72,13 @@ item_instruction (OneByte b) = None
 
 -- ---- the role of an operation
 
--- A call, the I/O check, or another operation.
+-- The role of an operation that is not a jump: a call, the I/O check, or another operation.
 abbrev pub operation_role : Operation → Role
 operation_role (operation.Call c) = role.Call
 operation_role (operation.Standard n) = if n == 0 then role.Check else role.Call
 operation_role _ = role.Other
 
--- The target of a jump, in the type of the code.
+-- The target of a jump, converted to the type that the code uses.
 abbrev pub target_told : Target ℕ → told.Target ℕ
 target_told (To place) = targets.To place
 target_told (Through k) = targets.Through k
@@ -87,7 +87,7 @@ abbrev pub jump_role : Option Condition → told.Target ℕ → Role
 jump_role None target = role.Other
 jump_role (Some c) target = role.Jump c target
 
--- The role of an item whose instruction has the operation `what`.
+-- The role of the item, whose instruction has the operation `what`.
 abbrev pub role_by : Operation → Item ℕ → Role
 role_by what (Plain i named) = operation_role what
 role_by what (Jump op target) = jump_role (condition_of op) (target_told target)
@@ -96,8 +96,8 @@ role_by what (OneByte b) = role.Other
 
 -- ---- parts
 
--- A part of code: an item and its place, the role of its operation, and its stack effect. `known` states whether the
--- effect is known.
+-- A part of a statement: an item of the code with its place, the role of its operation, and its stack effect. `known`
+-- is false if the stack effect is not known.
 pub record Part : Type 0 where
   pub item : Item ℕ
   pub place : Place
@@ -106,11 +106,11 @@ pub record Part : Type 0 where
   pub leaves : Leaves
   pub known : Bool
 
--- Whether a place has a label or begins the exit code.
+-- Whether the place `p` has a label or begins the exit code.
 abbrev pub is_reached : Place → Bool
 is_reached p = p.has_label || p.is_exit
 
--- Without a known effect, nothing is taken and nothing is left.
+-- What an instruction with this effect pops. Without an effect, it pops 0 words.
 abbrev pub takes_of : Option Effect → Takes
 takes_of None = record { top = share.Words 0; below = share.Words 0 }
 takes_of (Some e) = record { top = e.top; below = e.below }
@@ -123,7 +123,7 @@ abbrev pub leaves_effect : Option Effect → Leaves
 leaves_effect None = leaves.Words 0
 leaves_effect (Some e) = leaves_share e.leaves
 
--- A constant below 256 may be the size of a set.
+-- What an instruction that pushes the constant `w` leaves. A constant below 256 may be the number of words of a set.
 abbrev pub leaves_constant : ℕ → Leaves
 leaves_constant w = if nat_lt w 256 then leaves.Constant w else leaves.Words 1
 
@@ -131,14 +131,14 @@ abbrev pub leaves_by : Operation → Option Effect → Leaves
 leaves_by (operation.Arithmetic (arithmetic.Constant w)) e = leaves_constant w
 leaves_by _ e = leaves_effect e
 
--- Whether the input of an operation is known. Only a call or a standard procedure without an effect may take an unknown
--- input. Any other operation without an effect is not executed by the machine.
+-- Whether what the operation pops is known. It is unknown only for a call or a standard procedure without an effect.
+-- Any other operation without an effect is not executed by the machine.
 abbrev pub is_known : Operation → Option Effect → Bool
 is_known (operation.Call c) None = false
 is_known (operation.Standard n) None = false
 is_known _ _ = true
 
--- What an instruction takes and leaves, and whether this is known.
+-- What an instruction pops and pushes, and whether both are known.
 pub record Moves : Type 0 where
   pub takes : Takes
   pub leaves : Leaves
@@ -147,7 +147,8 @@ pub record Moves : Type 0 where
 abbrev pub moves_by : Operation → Option Effect → Moves
 moves_by o e = record { takes = takes_of e; leaves = leaves_by o e; known = is_known o e }
 
--- A single byte is no instruction of the machine.
+-- What the instruction pops and pushes. A single byte is no instruction, and is treated as an instruction that the
+-- machine does not implement.
 abbrev pub moves_of : Known → Option Instr → Moves
 moves_of k None = moves_by operation.Unimplemented None
 moves_of k (Some i) = moves_by (operation_of i) (effect_by k (operation_of i) i)
@@ -156,7 +157,7 @@ abbrev pub part_with : Item ℕ → Place → Role → Moves → Part
 part_with item place role m =
     record { item = item; place = place; role = role; takes = m.takes; leaves = m.leaves; known = m.known }
 
--- The role of an item with this instruction.
+-- The role of the item with this instruction. A single byte has no instruction.
 abbrev pub role_with : Option Instr → Item ℕ → Role
 role_with None item = role_by operation.Unimplemented item
 role_with (Some i) item = role_by (operation_of i) item
@@ -165,20 +166,20 @@ abbrev pub part_of : Known → Item ℕ → Place → Part
 part_of k item place =
     part_with item place (role_with (item_instruction item) item) (moves_of k (item_instruction item))
 
--- The place at offset `at`. `used` contains the offsets with a label, and `exit` is the offset of the exit code.
+-- The place at offset `at`. `used` has the offsets with a label, and `exit` is the offset of the exit code.
 abbrev pub place_at : List ℕ → ℕ → ℕ → Place
 place_at used exit at = record { offset = at; has_label = is_among used at; is_exit = exit == at }
 
--- The parts of items, the first of which is at offset `at`.
+-- The parts of a list of items, the first of which is at offset `at`.
 abbrev pub parts : Known → List ℕ → ℕ → ℕ → List (Item ℕ) → List Part
 parts k used exit at [] = []
 parts k used exit at (item ∷ items) =
     part_of k item (place_at used exit at) ∷ parts k used exit (at + size at item) items
 
--- The offsets that have a label.
+-- The offsets with a label in the procedure `p`: the targets of its jumps, and of the entries of its jump table.
 abbrev pub labelled_places : Procedure → List ℕ
 labelled_places p = named_places p.items ++ p.entries
 
--- The parts of a procedure, with labels where its text has them.
+-- The parts of the procedure `p`. Its offsets have the same labels as in its text.
 abbrev pub procedure_parts : Known → Procedure → List Part
 procedure_parts k p = parts k (labelled_places p) p.exit p.start p.items

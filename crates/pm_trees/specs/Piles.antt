@@ -1,4 +1,6 @@
--- Trees as phrases, built part by part.
+-- Trees as summaries and phrases, built part by part. A *phrase* is the text of a tree (`phrase_of` of pm_phrases).
+-- *Pending* trees are the last trees, which can still become operands. A *part* is one item of the code with its stack
+-- effect. A *tree* is a part with the trees that push its operands.
 use Rattle.std.specs.Prelude.{◌≡◌, ℕ, List, [], ◌∷◌, ◌++◌, reverse}
 use Rattle.std.specs.Prelude.{take, drop}
 use Rattle.std.specs.Prelude.{◌||◌, if◌then◌else◌}
@@ -13,9 +15,9 @@ use Rattle.pm_trees.specs.Trees.{Count, Forest, is_full, leaves_nothing, left_by
 use Rattle.pm_trees.specs.Trees.{takes_count}
 use Rattle.pm_trees.specs.Trees.Forest.{Bare, Tree}
 
--- ---- trees as phrases
+-- ---- trees as summaries and phrases
 
--- Trees as phrases and summaries, the last one first.
+-- A list of trees: the summary and the phrase of each, the last tree first.
 pub record Pile : Type 0 where
   pub lefts : List Left
   pub phrases : List Shown
@@ -23,15 +25,15 @@ pub record Pile : Type 0 where
 abbrev pub no_trees : Pile
 no_trees = record { lefts = []; phrases = [] }
 
--- Appends a tree to other trees.
+-- The trees `before` after the tree with the summary `left` and the phrase `phrase` is appended.
 abbrev pub upon_all : Left → Shown → Pile → Pile
 upon_all left phrase before = record { lefts = left ∷ before.lefts; phrases = phrase ∷ before.phrases }
 
--- The phrase of a part with its operands.
+-- The phrase of the part `p` with its operands.
 abbrev pub phrase_by : Around → Part → Missing → Pile → Shown
 phrase_by a p missing operands = phrase_of a p.item p.known missing (reverse operands.phrases)
 
--- Appends a part with its operands to other trees.
+-- The trees `before` after the part `p` with its operands is appended as one tree.
 abbrev pub upon : Around → Part → Missing → Pile → Pile → Pile
 upon a p missing operands before =
     upon_all (left_by p operands.lefts) (phrase_by a p missing operands) before
@@ -40,25 +42,25 @@ abbrev pub pile_of : Around → Forest → Pile
 pile_of a Bare = no_trees
 pile_of a (Tree p missing operands before) = upon a p missing (pile_of a operands) (pile_of a before)
 
--- The last `k` trees, and the trees before them.
+-- The last `k` trees of `t`.
 abbrev pub last_of : ℕ → Pile → Pile
 last_of k t = record { lefts = take k t.lefts; phrases = take k t.phrases }
 
 abbrev pub rest_of : ℕ → Pile → Pile
 rest_of k t = record { lefts = drop k t.lefts; phrases = drop k t.phrases }
 
--- Trees appended to other trees.
+-- The trees `before`, followed by the trees `more`.
 abbrev pub after : Pile → Pile → Pile
 after more before = record { lefts = more.lefts ++ before.lefts; phrases = more.phrases ++ before.phrases }
 
--- ---- building
+-- ---- building of trees
 
--- The finished statements, and the pending trees, which may still become operands.
+-- Trees during building: the finished statements, and the pending trees, which can still become operands.
 pub record Texts : Type 0 where
   pub done : Pile
   pub pending : Pile
 
--- A list of trees, of which the last `k` are pending.
+-- The list of trees `t`, of which the last `k` are pending and the others are finished.
 abbrev pub texts_in : Pile → ℕ → Texts
 texts_in t k = record { done = rest_of k t; pending = last_of k t }
 
@@ -93,7 +95,7 @@ unfoldable pub added_all : Around → List Part → Texts → Texts
 added_all a [] t = t
 added_all a (p ∷ ps) t = added_all a ps (added a p (before_text p t))
 
--- The text that is built part by part is the text of the statements.
+-- The phrases that are built part by part are the phrases of the statements.
 abbrev pub TextGrows : Type 0
 TextGrows = (a : Around) (ps : List Part)
     → (closed_texts (added_all a ps (record { done = no_trees; pending = no_trees }))).done ≡ pile_of a (statements ps)

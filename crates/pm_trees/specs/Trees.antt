@@ -1,4 +1,5 @@
--- Code as statements. Each statement is a tree whose nodes are parts of the code.
+-- Code as statements. Each statement is a tree whose nodes are parts of the code. A *share* is an amount of the stack:
+-- a number of words, or one set.
 use Rattle.std.specs.Prelude.{ℕ, zero, suc, ◌+◌, ◌-◌, Bool, true, false, not, List, [], ◌∷◌, ◌++◌, drop, ◌==◌, ◌||◌}
 use Rattle.std.specs.Prelude.{◌&&◌, nat_le, nat_lt, if◌then◌else◌}
 use Rattle.pm_effects.specs.declared.effect.Share.{Share}
@@ -11,25 +12,26 @@ use Rattle.pm_trees.specs.declared.part.Place.{Place}
 use Rattle.pm_trees.specs.declared.part.Takes.{Takes}
 use Rattle.pm_trees.specs.Parts.{Part, is_reached}
 
--- A list of trees, the last one first. A tree has a part, what is missing for the part, and its operands. The trees
--- before it follow.
+-- A list of trees, the last tree first. The fields of `Tree` are a part, what is missing for the part (it pops this,
+-- but no operand pushes it), its operands, and the trees before this tree.
 pub data Forest : Type 0 where
   Bare : Forest
   Tree : Part → Missing → Forest → Forest → Forest
 
--- The parts in the order of execution: operands from left to right, then the part that takes them.
+-- The parts of the trees in the order of execution: first the operands from left to right, then the part that pops
+-- them.
 abbrev pub parts_of : Forest → List Part
 parts_of Bare = []
 parts_of (Tree p missing operands before) = parts_of before ++ (parts_of operands ++ p ∷ [])
 
--- Trees appended to other trees.
+-- The trees `before`, followed by the trees of the first argument.
 abbrev pub behind : Forest → Forest → Forest
 behind Bare before = before
 behind (Tree p missing operands more) before = Tree p missing operands (behind more before)
 
 -- ---- operands
 
--- The last `k` trees, and the trees before them.
+-- The last `k` trees of the list.
 abbrev pub front : ℕ → Forest → Forest
 front zero f = Bare
 front (suc k) Bare = Bare
@@ -40,18 +42,18 @@ back zero f = f
 back (suc k) Bare = Bare
 back (suc k) (Tree p missing operands before) = back k before
 
--- What each tree leaves.
+-- What the part of each tree pushes, the last tree first.
 abbrev pub leaves_of : Forest → List Leaves
 leaves_of Bare = []
 leaves_of (Tree p missing operands before) = p.leaves ∷ leaves_of before
 
--- ---- the summary of a tree: what its part leaves, the place of its first part, and the number of its parts
+-- ---- the summary of a tree: what its part pushes, the place of its first part, and the number of its parts
 
--- The maximum number of parts of an operand. A tree with more parts is a statement, even if it leaves something.
+-- The maximum number of parts of an operand. A tree with more parts is a statement, even if it pushes something.
 abbrev pub most_parts : ℕ
 most_parts = 100
 
--- The number of parts, limited to `most_parts + 1`.
+-- The number `n` of parts, limited to `most_parts + 1`.
 abbrev pub capped : ℕ → ℕ
 capped n = if nat_lt most_parts n then suc most_parts else n
 
@@ -59,12 +61,12 @@ abbrev pub parts_left : List Left → ℕ
 parts_left [] = 0
 parts_left (l ∷ ls) = capped (l.parts + parts_left ls)
 
--- The place of the first of these trees, or `place` if there are none.
+-- The place of the first tree of the list, or `place` if the list is empty.
 abbrev pub first_place : Place → List Left → Place
 first_place place [] = place
 first_place place (l ∷ ls) = first_place l.place ls
 
--- The summary of a part with its operands.
+-- The summary of the tree that consists of the part `p` and the trees `operands`.
 unfoldable pub left_by : Part → List Left → Left
 left_by p operands = record {
   leaves = p.leaves;
@@ -82,9 +84,9 @@ abbrev pub is_full : List Left → Bool
 is_full [] = false
 is_full (l ∷ ls) = nat_lt most_parts l.parts
 
--- ---- the number of trees that are operands
+-- ---- how many trees are operands of a part
 
--- The number of words that are left. For a set it is 0, because its size is not known.
+-- The number of words that a tree pushes. For a set it is 0, because the size of the set is not known.
 abbrev pub words_left : Leaves → ℕ
 words_left (leaves.Words n) = n
 words_left (leaves.Constant c) = 1
@@ -98,7 +100,7 @@ is_set leaves.Set = true
 abbrev pub is_operand : ℕ → Leaves → Bool
 is_operand n l = not (n == 0) && (not (is_set l) && nat_le (words_left l) n)
 
--- The number of trees that are operands, and what is missing.
+-- The number of trees that are operands, and the number of words that they do not push although they are needed.
 pub record CountWords : Type 0 where
   pub trees : ℕ
   pub missing : ℕ
@@ -114,7 +116,7 @@ pub record Count : Type 0 where
 abbrev pub one_more : CountWords → CountWords
 one_more c = record { trees = suc c.trees; missing = c.missing }
 
--- Counts the last trees that together leave at most `n` words.
+-- Counts how many of the last trees together push at most `n` words.
 unfoldable pub words_count : ℕ → List Leaves → CountWords
 words_count n [] = record { trees = 0; missing = n }
 words_count n (l ∷ ls) =
@@ -126,11 +128,12 @@ as_share c = record { trees = c.trees; missing = share.Words c.missing }
 abbrev pub no_set : CountShare
 no_set = record { trees = 0; missing = share.Set }
 
--- Words and their count are a set only if no word is missing.
+-- The count for a set that is pushed as words followed by their number. The trees are a set only if no word is missing.
 abbrev pub counted : CountWords → CountShare
 counted c = if c.missing == 0 then as_share (one_more c) else no_set
 
--- A set: one tree that leaves a set, or words followed by a constant that counts them.
+-- Counts how many of the last trees push one set. A set is pushed by one tree, or by trees that push words followed by
+-- a constant that is the number of these words.
 unfoldable pub set_count : List Leaves → CountShare
 set_count [] = no_set
 set_count (leaves.Words n ∷ ls) = no_set
@@ -148,7 +151,8 @@ is_none share.Set = false
 abbrev pub none_missing : Missing → Bool
 none_missing t = is_none t.top && is_none t.below
 
--- The operands for the share below. If the top share is incomplete, there are none.
+-- The count for both shares of a part: `t` for the share on top, and `u` for the share below it. If something of the
+-- share on top is missing, no tree is counted for the share below it.
 abbrev pub then_count : CountShare → Share → CountShare → Count
 then_count t below u =
     if is_none t.missing
@@ -160,22 +164,23 @@ takes_count w ls =
     let t = share_count w.top ls in
     then_count t w.below (share_count w.below (drop t.trees ls))
 
--- ---- statements
+-- ---- building of statements
 
--- Finished statements, followed by the pending trees, which may still become operands.
+-- Trees during building: the finished statements, and the pending trees, which can still become operands.
 pub record Growing : Type 0 where
   pub done : Forest
   pub pending : Forest
 
--- The pending trees become statements.
+-- The trees after all pending trees become statements.
 abbrev pub closed : Growing → Growing
 closed g = record { done = behind g.pending g.done; pending = Bare }
 
 abbrev pub leaves_nothing : Leaves → Bool
 leaves_nothing l = not (is_set l) && words_left l == 0
 
--- Adds a part. If it leaves nothing, it is a statement, and the remaining pending trees become statements too. If
--- something is missing, the remaining pending trees become statements.
+-- Adds the part `p` with the operands that `c` counts. If the part pushes nothing, its tree is a statement, and the
+-- remaining pending trees become statements too. If something is missing, the remaining pending trees become
+-- statements.
 abbrev pub grown_by : Part → Count → Growing → Growing
 grown_by p c g =
     if leaves_nothing p.leaves
@@ -193,7 +198,8 @@ grown_by p c g =
 abbrev pub grown : Part → Growing → Growing
 grown p g = grown_by p (takes_count p.takes (leaves_of g.pending)) g
 
--- No tree is pending before a part that has a label, begins the exit code, or follows a tree with too many parts.
+-- The trees before the part `p` is added. All pending trees become statements if `p` has a label or begins the exit
+-- code, or if the last tree has too many parts.
 abbrev pub before_part : Part → Growing → Growing
 before_part p g = if is_reached p.place || is_full (lefts_of g.pending) then closed g else g
 
@@ -201,6 +207,6 @@ abbrev pub grown_all : List Part → Growing → Growing
 grown_all [] g = g
 grown_all (p ∷ ps) g = grown_all ps (grown p (before_part p g))
 
--- The statements of code, the last one first.
+-- The statements of the code that consists of the parts `ps`, the last statement first.
 unfoldable pub statements : List Part → Forest
 statements ps = (closed (grown_all ps (record { done = Bare; pending = Bare }))).done

@@ -1,4 +1,5 @@
-//! Statements that jump back, and case jumps.
+//! Statements that jump back to the beginning of a loop, and case jumps. An *end* is the offset after the last byte of
+//! such a statement.
 
 ghost use Rattle.std.specs.Prelude.{◌≡◌, ◌<◌, ◌==◌, ℕ, List, length, if◌then◌else◌, IfOk, OnOk};
 ghost use Rattle.pm_trees.specs.Backs as backs;
@@ -8,26 +9,26 @@ ghost use Rattle.pm_trees.specs.Backs.Way.{Always, ByCondition, ByValue};
 use crate::statement::{Leads, Statement};
 use std::alloc::{AllocError, Global};
 
-/// Ends of statements that jump back to the beginning of a statement, and the end of the case jump at its target. An
-/// end is 0 if there is no such statement.
+/// Three ends for one statement: of the loops that begin at this statement, and of the case jump to which it jumps. An
+/// end is 0 if no such loop or case jump exists.
 #[derive(Clone, Copy, Drop)]
 pub struct Loops {
-    /// The end of the last statement that jumps back by a condition.
+    /// The end of the last statement that jumps back to this statement under a condition.
     pub by_condition: usize,
-    /// The end of the last statement that always jumps back.
+    /// The end of the last statement that always jumps back to this statement.
     pub always: usize,
-    /// The end of the case jump.
+    /// The end of the case jump at the target of this statement.
     pub by_value: usize,
 }
 
-/// Returns `place` if it is not after `at`.
+/// Returns `place` if it is not after `at`. Otherwise returns `None`.
 fn back_to(place: usize, at: usize) -> Option<usize>
     ensures place { result ≡ backs.back_to place at }
 {
     if place <= at { Some(place) } else { None }
 }
 
-/// Extends `ends` with zeros so that it has an entry for `place`.
+/// Appends zeros to `ends` until it has an item with the index `place`.
 #[tactic(auto, using(crate::proofs::BlockEnds::has_more))]
 fn make_room(ends: &mut Vec<usize>, place: usize) -> Result<(), AllocError>
     ensures same { OnOk result ((p : ℕ) → backs.written ends.new.items p ≡ backs.written ends.old.items p) }
@@ -42,7 +43,7 @@ fn make_room(ends: &mut Vec<usize>, place: usize) -> Result<(), AllocError>
     Ok(())
 }
 
-/// Sets the end for an offset.
+/// Sets the end that is recorded for the offset `place` to `end`.
 #[tactic(auto, using(crate::proofs::BlockEnds::has_set))]
 fn set_end(ends: &mut Vec<usize>, place: usize, end: usize) -> Result<(), AllocError>
     ensures set { OnOk result ((p : ℕ) → backs.written ends.new.items p
@@ -53,7 +54,7 @@ fn set_end(ends: &mut Vec<usize>, place: usize, end: usize) -> Result<(), AllocE
     Ok(())
 }
 
-/// Sets the end for the offset `back`, if there is one.
+/// Sets the end that is recorded for the offset `back` to `behind`. If `back` is `None`, nothing changes.
 fn add_end(ends: &mut Vec<usize>, back: Option<usize>, behind: usize) -> Result<(), AllocError>
     ensures added { OnOk result ((p : ℕ) → backs.written ends.new.items p
         ≡ backs.later_end p (backs.written ends.old.items p) back behind) }
@@ -64,14 +65,14 @@ fn add_end(ends: &mut Vec<usize>, back: Option<usize>, behind: usize) -> Result<
     }
 }
 
-/// Returns the end for an offset, or 0 if it has none.
+/// Returns the end that is recorded for the offset `place`, or 0 if none is recorded.
 fn end_at(ends: &[usize], place: usize) -> usize
     ensures end { result ≡ backs.written ends.now place }
 {
     ends.get(place).copied().unwrap_or(0)
 }
 
-/// Returns the target of a jump, or 0 if the statement does not jump or jumps by a value.
+/// Returns the target of a jump. Returns 0 if the statement does not jump, or if it is a case jump.
 pub(crate) fn place_of(leads: Leads) -> usize
     ensures place { result ≡ backs.place_of leads }
 {
@@ -81,19 +82,20 @@ pub(crate) fn place_of(leads: Leads) -> usize
     }
 }
 
-/// For each offset, the ends of the last statements that jump back to it, and of the case jump at it.
+/// Three lists of ends, indexed by offset. They have the end of the last statement that jumps back to the offset, and
+/// of the case jump that begins at it.
 #[derive(Drop)]
 pub(crate) struct Backs {
-    /// The ends of those that jump by a condition.
+    /// The ends of statements that jump back under a condition.
     by_condition: Vec<usize>,
-    /// The ends of those that always jump.
+    /// The ends of statements that always jump back.
     always: Vec<usize>,
-    /// The ends of the case jumps.
+    /// The ends of case jumps, by the offset at which the case jump begins.
     by_value: Vec<usize>,
 }
 
-/// Sets the end of a statement for the offset to which it jumps back. For a case jump, the offset is that of its
-/// beginning.
+/// Records the end of `statement` for the offset to which it jumps back. For a case jump, records it for the offset at
+/// which the statement begins.
 fn add_statement(ends: &mut Backs, statement: &Statement) -> Result<(), AllocError>
     ensures by_condition { OnOk result ((p : ℕ) → backs.written ends.new.by_condition.items p
         ≡ backs.later_end p (backs.written ends.old.by_condition.items p)
@@ -117,7 +119,7 @@ fn add_statement(ends: &mut Backs, statement: &Statement) -> Result<(), AllocErr
 impl Backs {
     ghost use Rattle.pm_trees.specs.Backs.{IsOf};
 
-    /// Returns the ends for a list of statements.
+    /// Returns the ends of the list `statements`.
     pub(crate) fn of(alloc: Global, statements: &[Statement]) -> Result<Backs, AllocError>
         ensures of { IfOk result (λ backs. IsOf backs statements.now) }
     {
@@ -132,7 +134,7 @@ impl Backs {
         Ok(ends)
     }
 
-    /// Returns the ends of the loops that begin where a statement begins, and of the case jump at its target.
+    /// Returns the ends of the loops that begin at `statement`, and of the case jump at its target.
     pub(crate) fn loops_at(&self, statement: &Statement) -> Loops
         ensures loops { (all : List Statement) → IsOf self.now all → result ≡ backs.loops_at all statement.now }
     {

@@ -1,4 +1,4 @@
-//! Blocks that end at an offset.
+//! Closing of blocks that end at or before an offset.
 
 ghost use Rattle.std.specs.Prelude.{◌≡◌, ◌++◌, reverse, IfOk, OnOk};
 ghost use Rattle.pm_trees.specs.Blocks as blocks;
@@ -7,7 +7,7 @@ use crate::block::{Block, Kind, closes_itself};
 use crate::line::{Line, Word};
 use std::alloc::AllocError;
 
-/// Whether the innermost block ends at `at` or before it.
+/// Returns whether the innermost block, the last item of `nest`, ends at or before `at`.
 #[tactic(auto, using(crate::proofs::Lists::reverse_pushed))]
 fn has_ended(nest: &[Block], at: usize) -> bool
     ensures value { result ≡ blocks.has_ended at (reverse nest.now) }
@@ -18,14 +18,14 @@ fn has_ended(nest: &[Block], at: usize) -> bool
     }
 }
 
-/// Whether a block ends exactly at `at`, and not by a statement of its own.
+/// Returns whether `block` ends exactly at `at`, and is not closed by its own last statement.
 fn ends_here(block: Block, at: usize) -> bool
     ensures value { result ≡ blocks.ends_here at block }
 {
     !closes_itself(block.kind) && block.end == at
 }
 
-/// Appends an END line if the block is a part of a choice.
+/// Appends an END line for the offset `at` if `kind` is IF or ELSE.
 fn push_end(lines: &mut Vec<Line>, kind: Kind, at: usize) -> Result<(), AllocError>
     ensures lines { OnOk result (lines.new.items ≡ lines.old.items ++ blocks.end_line at kind) }
 {
@@ -39,8 +39,8 @@ fn push_end(lines: &mut Vec<Line>, kind: Kind, at: usize) -> Result<(), AllocErr
     Ok(())
 }
 
-/// Closes the blocks that end at `at` or before it. Returns whether all of them are choices that end exactly there.
-/// Other blocks are closed by their own statement.
+/// Closes the blocks that end at or before `at`, and appends their END lines. Returns whether all of them are IF or
+/// ELSE blocks that end exactly at `at`. Other blocks are closed by their own last statement.
 #[tactic(auto, using(crate::proofs::Closing::closing_done))]
 pub(crate) fn close_ended(
     lines: &mut Vec<Line>,

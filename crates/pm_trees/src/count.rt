@@ -1,4 +1,6 @@
-//! The number of trees that are operands.
+//! Counting of the trees that are the operands of a part. A *share* is an amount of the stack: a number of words, or
+//! one set. A *part* is one item of the code with its stack effect. A *tree* is a part with the trees that push its
+//! operands.
 
 ghost use Rattle.std.specs.Prelude.{◌≡◌, ◌≤◌, ◌+◌, length, reverse};
 ghost use Rattle.pm_trees.specs.Piles.{leaves_left};
@@ -9,7 +11,7 @@ use crate::part::{Leaves, Takes};
 use pm_effects::Share;
 use pm_phrases::Missing;
 
-/// Returns the number of words that are left. For a set it is 0, because its size is not known.
+/// Returns the number of words that `leaves` pushes. For a set it is 0, because the size of the set is not known.
 fn words_left(leaves: Leaves) -> u16
     ensures value { result ≡ trees.words_left leaves }
 {
@@ -20,7 +22,7 @@ fn words_left(leaves: Leaves) -> u16
     }
 }
 
-/// Whether a set is left.
+/// Returns whether `leaves` is a set.
 fn is_set(leaves: Leaves) -> bool
     ensures value { result ≡ trees.is_set leaves }
 {
@@ -30,21 +32,21 @@ fn is_set(leaves: Leaves) -> bool
     }
 }
 
-/// Whether a tree can be an operand if `words` words are still needed.
+/// Returns whether a tree that pushes `leaves` can be an operand if `words` words are still needed.
 fn is_operand(words: u16, leaves: Leaves) -> bool
     ensures value { result ≡ trees.is_operand words leaves }
 {
     words != 0 && !is_set(leaves) && words_left(leaves) <= words
 }
 
-/// The number of trees that are operands, and the number of missing words.
+/// The number of trees that are operands, and the number of words that they do not push although they are needed.
 #[derive(Clone, Copy)]
 pub(crate) struct CountWords {
     pub trees: usize,
     pub missing: u16,
 }
 
-/// Counts the last trees that together leave at most `words` words.
+/// Counts how many of the last trees of `operands` together push at most `words` words.
 #[tactic(auto, using(crate::proofs::Ends::reverse_pushed, crate::proofs::Ends::operand_fits), unfolding(crate::specs::Trees::words_count))]
 pub(crate) fn count_words(operands: &[Left], words: u16) -> CountWords
     ensures trees { result.trees ≡ (trees.words_count words (leaves_left (reverse operands.now))).trees }
@@ -71,15 +73,15 @@ pub(crate) fn count_words(operands: &[Left], words: u16) -> CountWords
     }
 }
 
-/// The number of trees that are operands, and the missing share.
+/// The number of trees that are operands, and the share that they do not push although it is needed.
 #[derive(Clone, Copy)]
 pub(crate) struct CountShare {
     pub trees: usize,
     pub missing: Share,
 }
 
-/// Counts the last trees that are a set. A set is one tree that leaves a set, or words followed by a constant that
-/// counts them.
+/// Counts how many of the last trees of `operands` push one set. A set is pushed by one tree, or by trees that push
+/// words followed by a constant that is the number of these words.
 #[tactic(auto, using(crate::proofs::Ends::reverse_pushed), unfolding(crate::specs::Trees::set_count))]
 fn count_set(operands: &[Left]) -> CountShare
     ensures trees { result.trees ≡ (trees.set_count (leaves_left (reverse operands.now))).trees }
@@ -112,7 +114,7 @@ fn count_set(operands: &[Left]) -> CountShare
     }
 }
 
-/// Counts the last trees that are operands for a share.
+/// Counts how many of the last trees of `operands` push the share `share`.
 #[tactic(auto, using(crate::proofs::Ends::no_words), unfolding(crate::specs::Trees::share_count))]
 fn count_share(operands: &[Left], share: Share) -> CountShare
     ensures trees { result.trees ≡ (trees.share_count share (leaves_left (reverse operands.now))).trees }
@@ -135,14 +137,14 @@ fn count_share(operands: &[Left], share: Share) -> CountShare
     }
 }
 
-/// The number of trees that are operands, and what is missing.
+/// The number of trees that are operands, and what they do not push although the part pops it.
 #[derive(Clone, Copy)]
 pub(crate) struct Count {
     pub trees: usize,
     pub missing: Missing,
 }
 
-/// Whether a share is 0 words.
+/// Returns whether `share` is 0 words.
 fn is_none(share: Share) -> bool
     ensures value { result ≡ trees.is_none share }
 {
@@ -152,7 +154,7 @@ fn is_none(share: Share) -> bool
     }
 }
 
-/// Counts the last trees that are operands of a part.
+/// Counts how many of the last trees of `operands` are operands of a part that pops `takes`.
 #[tactic(auto, using(crate::proofs::Ends::reverse_without, crate::proofs::Ends::leaves_dropped), unfolding(crate::specs::Trees::takes_count))]
 pub(crate) fn count_takes(operands: &[Left], takes: Takes) -> Count
     ensures trees { result.trees ≡ (trees.takes_count takes (leaves_left (reverse operands.now))).trees }
@@ -181,14 +183,14 @@ pub(crate) fn count_takes(operands: &[Left], takes: Takes) -> Count
     }
 }
 
-/// Whether nothing is missing.
+/// Returns whether nothing is missing: the operands push all that the part pops.
 pub(crate) fn none_missing(missing: Missing) -> bool
     ensures value { result ≡ trees.none_missing missing }
 {
     is_none(missing.top) && is_none(missing.below)
 }
 
-/// Whether a part leaves nothing on the stack.
+/// Returns whether `leaves` is nothing, so that the part pushes nothing on the stack.
 pub fn leaves_nothing(leaves: Leaves) -> bool
     ensures value { result ≡ trees.leaves_nothing leaves }
 {

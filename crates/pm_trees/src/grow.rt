@@ -1,4 +1,5 @@
-//! Builds statements from the parts of code.
+//! Building of statements from the parts of code. *Pending* trees are the last trees, which can still become operands.
+//! A *part* is one item of the code with its stack effect. A *tree* is a part with the trees that push its operands.
 
 ghost use Rattle.std.specs.Prelude.{◌≡◌, ◌≤◌, ◌<◌, ◌-◌, ◌^◌, suc, if◌then◌else◌};
 ghost use Rattle.std.specs.Prelude.{drop, length, reverse, IfOk, OnOk};
@@ -12,7 +13,7 @@ use crate::pile::{Pile, last_of};
 use pm_phrases::{Around, Phrase, phrase};
 use std::alloc::{AllocError, Global};
 
-/// Returns the phrase of a part whose operands are the last trees of `operands`.
+/// Returns the phrase of `part`, whose operands are the last `count.trees` trees of `operands`.
 #[tactic(auto, using(crate::proofs::Ends::last_again, crate::proofs::Ends::reverse_last))]
 fn phrase_by(
     alloc: Global,
@@ -28,8 +29,8 @@ fn phrase_by(
     phrase(alloc, around, part.item, part.known, count.missing, phrases)
 }
 
-/// Returns the number of pending trees before a part. It is 0 if the part has a label or begins the exit code, or if
-/// the last tree is full. Otherwise it is `pending`.
+/// Returns the number of pending trees before `part` is added. It is 0 if `part` has a label or begins the exit code,
+/// or if the last tree has too many parts for an operand. Otherwise it is `pending`.
 #[tactic(auto, using(crate::proofs::Ends::reverse_last, crate::proofs::Written::none_pending))]
 fn before_part(part: &Part<'_>, trees: &Pile, pending: usize) -> usize
     ensures texts { texts.texts_in trees.now result ≡ texts.before_text part.now (texts.texts_in trees.now pending) }
@@ -42,7 +43,7 @@ fn before_part(part: &Part<'_>, trees: &Pile, pending: usize) -> usize
     }
 }
 
-/// Returns the number of pending trees after a part and its operands were added.
+/// Returns the number of pending trees after a part that pushes `leaves` is added together with its operands.
 fn pending_after(leaves: Leaves, count: Count, pending: usize) -> usize
     requires few { count.trees ≤ pending }
     requires room { pending < 2 ^ 63 }
@@ -58,7 +59,8 @@ fn pending_after(leaves: Leaves, count: Count, pending: usize) -> usize
     }
 }
 
-/// Adds a part of code. Its operands are the last of the pending trees.
+/// Adds `part` to `trees`. Its operands are the last of the pending trees. Updates `pending`, the number of pending
+/// trees.
 #[tactic(auto, using(crate::proofs::Ends::reverse_last))]
 fn add(
     alloc: Global,
@@ -80,7 +82,7 @@ fn add(
     trees.push(left, phrase)
 }
 
-/// Returns the statements of code, with their phrases.
+/// Returns the statements of the code that consists of `parts`, with their phrases.
 #[tactic(auto, using(crate::proofs::Written::text_grows), unfolding(crate::specs::Piles::added_all))]
 pub fn statements(alloc: Global, around: Around, parts: &[Part<'_>]) -> Result<Pile, AllocError>
     ensures statements { IfOk result (λ pile. pile ≡ texts.pile_of around (trees.statements parts.now)) }

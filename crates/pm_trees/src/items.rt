@@ -1,4 +1,4 @@
-//! Items as parts of statements.
+//! Items of the code, converted to parts of statements.
 
 ghost use Rattle.std.specs.Prelude.{◌≡◌, Some};
 ghost use Rattle.pm_code.specs.Views.{placed_item};
@@ -14,14 +14,14 @@ use pm_opcode::{Instr, Operation};
 use pm_phrases::condition_of;
 use std::marker::Model;
 
-/// How statements are laid out.
+/// How the lines of statements are indented and grouped.
 #[derive(Clone, Copy, Drop)]
 pub enum Layout {
-    /// Each statement begins at the start of its line.
+    /// Each statement begins at the start of its line (`--statements`).
     Flat,
-    /// Each statement is indented by its depth.
+    /// Each statement is indented by its depth (`--indent`).
     Indented,
-    /// Statements are shown in blocks.
+    /// Statements are grouped in blocks (`--blocks`).
     Blocks,
 }
 
@@ -30,9 +30,9 @@ pub enum Layout {
 pub struct Known<'a> {
     /// The segment of the code.
     pub segment: u8,
-    /// The procedures by their index, which is 256 times the segment plus the procedure number.
+    /// The called procedures whose sizes are known. The index of a procedure is 256 times its segment plus its number.
     pub callees: &'a [Option<Callee>],
-    /// How their statements are laid out.
+    /// How the statements are laid out.
     pub layout: Layout,
 }
 
@@ -44,7 +44,7 @@ impl<'a> Model for Known<'a> {
     ghost view = { λ k. record { segment = k.segment; callees = k.callees.now; layout = k.layout } };
 }
 
-/// Returns the index of the called procedure in the table.
+/// Returns the index of the called procedure in the table `callees` of `Known`.
 fn callee_index(segment: u8, what: Call) -> usize
     ensures value { result ≡ parts.callee_index segment what }
 {
@@ -55,7 +55,7 @@ fn callee_index(segment: u8, what: Call) -> usize
     256 * usize::from(segment) + usize::from(procedure)
 }
 
-/// Returns the stack effect of a call, or `None` if the called procedure is not known.
+/// Returns the stack effect of the call `what`, or `None` if the sizes of the called procedure are not known.
 fn call_effect(known: &Known<'_>, what: Call) -> Option<Effect>
     ensures value { result ≡ parts.call_effect known.now what }
 {
@@ -73,7 +73,8 @@ fn call_effect(known: &Known<'_>, what: Call) -> Option<Effect>
     }
 }
 
-/// Returns the stack effect of an instruction, or `None` if it is not known.
+/// Returns the stack effect of the instruction `instr`, whose operation is `what`, or `None` if the effect is not
+/// known.
 fn effect_by(known: &Known<'_>, what: Operation, instr: &Instr) -> Option<Effect>
     requires what { what ≡ operation_of instr.now }
     ensures value { result ≡ parts.effect_by known.now what instr.now }
@@ -87,7 +88,7 @@ fn effect_by(known: &Known<'_>, what: Operation, instr: &Instr) -> Option<Effect
     }
 }
 
-/// Returns what is taken by an effect. Without an effect, this is nothing.
+/// Returns what an instruction with this effect pops. Without an effect, it pops 0 words.
 fn takes_of(effect: Option<Effect>) -> Takes
     ensures value { result ≡ parts.takes_of effect }
 {
@@ -103,7 +104,7 @@ fn takes_of(effect: Option<Effect>) -> Takes
     }
 }
 
-/// Returns what is left by an effect. Without an effect, this is 0 words.
+/// Returns what an instruction with this effect pushes. Without an effect, it pushes 0 words.
 fn leaves_effect(effect: Option<Effect>) -> Leaves
     ensures value { result ≡ parts.leaves_effect effect }
 {
@@ -116,7 +117,7 @@ fn leaves_effect(effect: Option<Effect>) -> Leaves
     }
 }
 
-/// Returns what an operation leaves on the stack.
+/// Returns what the operation `what` with this effect pushes on the stack.
 fn leaves_by(what: Operation, effect: Option<Effect>) -> Leaves
     ensures value { result ≡ parts.leaves_by what effect }
 {
@@ -132,7 +133,7 @@ fn leaves_by(what: Operation, effect: Option<Effect>) -> Leaves
     }
 }
 
-/// Whether the stack input of an operation is known. It is unknown for calls and standard procedures without an effect.
+/// Returns whether what the operation pops is known. It is unknown for calls and standard procedures without an effect.
 fn is_known(what: Operation, effect: Option<Effect>) -> bool
     ensures value { result ≡ parts.is_known what effect }
 {
@@ -142,7 +143,7 @@ fn is_known(what: Operation, effect: Option<Effect>) -> bool
     }
 }
 
-/// Returns the role of an operation that is no jump.
+/// Returns the role of the operation `what`, which is not a jump.
 fn operation_role(what: Operation) -> Role
     ensures value { result ≡ parts.operation_role what }
 {
@@ -153,7 +154,7 @@ fn operation_role(what: Operation) -> Role
     }
 }
 
-/// Returns the role of a jump.
+/// Returns the role of a jump under `condition` to `target`. Without a condition, the role is `Other`.
 fn jump_role(condition: Option<Condition>, target: Target<usize>) -> Role
     ensures role { result ≡ parts.jump_role condition target }
 {
@@ -163,7 +164,7 @@ fn jump_role(condition: Option<Condition>, target: Target<usize>) -> Role
     }
 }
 
-/// Returns the role of an item whose instruction has the operation `what`.
+/// Returns the role of the item `item`, whose instruction has the operation `what`.
 fn role_by(what: Operation, item: &Item<usize>) -> Role
     ensures value { result ≡ parts.role_by what (placed_item item.now) }
 {
@@ -176,7 +177,7 @@ fn role_by(what: Operation, item: &Item<usize>) -> Role
     }
 }
 
-/// Returns the part for an item with the instruction `instr`.
+/// Returns the part for the item `item` at `place`, whose instruction is `instr`.
 fn instruction_part<'a>(
     known: &Known<'_>,
     item: &'a Item<usize>,
@@ -198,7 +199,7 @@ fn instruction_part<'a>(
     }
 }
 
-/// Returns an item as a part of statements.
+/// Returns the part for the item `item` at `place`.
 pub fn part_of<'a>(known: &Known<'_>, item: &'a Item<usize>, place: Place) -> Part<'a>
     ensures part { result ≡ parts.part_of known.now (placed_item item.now) place }
 {

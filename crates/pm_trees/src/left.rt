@@ -1,4 +1,5 @@
-//! The summary of a tree that may become an operand.
+//! The summary of a tree, which decides whether the tree can become an operand. A *part* is one item of the code with
+//! its stack effect. A *tree* is a part with the trees that push its operands.
 
 ghost use Rattle.std.specs.Prelude.{◌≡◌, reverse};
 ghost use Rattle.pm_trees.specs.Parts.{is_reached};
@@ -8,38 +9,38 @@ use crate::part::{Leaves, Part, Place};
 use pm_code::Target;
 use pm_families::Condition;
 
-/// The role of a tree's operation.
+/// The role of the operation of a tree. The statement view uses the role to choose the text and the layout.
 #[derive(Clone, Copy, Drop)]
 pub enum Role {
-    /// A procedure call.
+    /// A call of a procedure or of a standard procedure.
     Call,
-    /// The I/O check.
+    /// The I/O check (`CSP 0`).
     Check,
-    /// A jump: its condition and its target.
+    /// A jump, with its condition and its target.
     Jump(Condition, Target<usize>),
-    /// A case jump.
+    /// A case jump (`XJP`).
     Case,
-    /// Any other operation.
+    /// Any other operation, which is neither a call nor a jump.
     Other,
 }
 
-/// The summary of a tree: what it leaves, where it begins, how many parts it has, and its role.
+/// The summary of a tree: what it pushes, where it begins, how many parts it has, and the role of its operation.
 #[derive(Clone, Copy, Drop)]
 pub struct Left {
-    /// What it leaves on the stack.
+    /// What the tree pushes on the stack.
     pub leaves: Leaves,
-    /// The place of its first part.
+    /// The place of the first part of the tree.
     pub place: Place,
-    /// The number of its parts. The value 101 means more than 100.
+    /// The number of parts of the tree. The value 101 means more than 100.
     pub parts: u8,
-    /// The role of its operation.
+    /// The role of the operation of the tree.
     pub role: Role,
 }
 
-/// The maximum number of parts of an operand. A tree with more parts is a statement, even if it leaves something.
+/// The maximum number of parts of an operand. A tree with more parts is a statement, even if it pushes something.
 const MOST_PARTS: u8 = 100;
 
-/// Returns the number of parts, limited to `MOST_PARTS + 1`.
+/// Returns `count`, limited to `MOST_PARTS + 1`.
 fn capped(count: u16) -> u8
     ensures value { result ≡ trees.capped count }
 {
@@ -50,7 +51,7 @@ fn capped(count: u16) -> u8
     }
 }
 
-/// Returns the total number of parts of these trees, limited to `MOST_PARTS + 1`.
+/// Returns the total number of parts of the trees `lefts`, limited to `MOST_PARTS + 1`.
 #[tactic(auto, using(crate::proofs::Ends::reverse_pushed))]
 fn parts_left(lefts: &[Left]) -> u8
     ensures value { result ≡ trees.parts_left (reverse lefts.now) }
@@ -61,7 +62,7 @@ fn parts_left(lefts: &[Left]) -> u8
     capped(u16::from(last.parts) + u16::from(parts_left(before)))
 }
 
-/// Returns the place of the first of these trees, or `place` if there are none.
+/// Returns the place of the first tree of `operands`, or `place` if `operands` is empty.
 #[tactic(auto, using(crate::proofs::Ends::first_place_first))]
 fn first_place(place: Place, operands: &[Left]) -> Place
     ensures place { result ≡ trees.first_place place (reverse operands.now) }
@@ -72,7 +73,7 @@ fn first_place(place: Place, operands: &[Left]) -> Place
     }
 }
 
-/// Returns the summary of a part with its operands.
+/// Returns the summary of the tree that consists of `part` and the trees `operands`.
 #[tactic(auto, unfolding(crate::specs::Trees::left_by))]
 pub(crate) fn left_by(part: &Part<'_>, operands: &[Left]) -> Left
     ensures left { result ≡ trees.left_by part.now (reverse operands.now) }
@@ -85,14 +86,14 @@ pub(crate) fn left_by(part: &Part<'_>, operands: &[Left]) -> Left
     }
 }
 
-/// Whether a place has a label or begins the exit code.
+/// Returns whether `place` has a label or begins the exit code.
 pub fn is_reached(place: Place) -> bool
     ensures value { result ≡ is_reached place }
 {
     place.has_label || place.is_exit
 }
 
-/// Whether the last tree has too many parts for an operand.
+/// Returns whether the last tree of `lefts` has too many parts for an operand.
 #[tactic(auto, using(crate::proofs::Ends::reverse_pushed))]
 pub(crate) fn is_full(lefts: &[Left]) -> bool
     ensures value { result ≡ trees.is_full (reverse lefts.now) }

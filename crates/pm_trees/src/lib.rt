@@ -1,7 +1,7 @@
-//! Code as statements, and statements in blocks.
-//!
-//! A statement is a tree of operations on their operands, with its phrase. Statements may jump to other statements.
-//! Blocks show these jumps as IF, ELSE, WHILE, REPEAT and CASE.
+//! The statement view of code: code as statements, and statements grouped in blocks. A *part* is one item of the code
+//! with its stack effect. A *tree* is a part with the trees that push its operands. A *phrase* is the text of a tree
+//! (see pm_phrases). A *statement* is a tree that is no operand of another tree. Blocks show the jumps of statements as
+//! IF, ELSE, WHILE, REPEAT and CASE.
 #![tactic(auto)]
 
 mod backs;

@@ -1,64 +1,64 @@
-//! Parts of statements.
+//! Parts of statements. A part is one item of the code with its role and its stack effect.
 
 use crate::left::Role;
 use pm_code::Item;
 use pm_effects::Share;
 use std::marker::Model;
 
-/// A procedure whose parameter and result sizes are known.
+/// The sizes of a procedure that code calls.
 #[derive(Clone, Copy)]
 pub struct Callee {
-    /// The size of its parameters, in words.
+    /// The size of the parameters, in words.
     pub parameters: u8,
-    /// The size of its result, in words.
+    /// The size of the result, in words.
     pub results: u8,
 }
 
-/// What a part of code leaves on the stack.
+/// What a part pushes on the stack.
 #[derive(Clone, Copy, Drop)]
 pub enum Leaves {
-    /// This number of words.
+    /// The given number of words.
     Words(u16),
-    /// A constant word that may be the size of a set, in words.
+    /// A constant below 256. It is one word, and may be the number of words of a set.
     Constant(u8),
-    /// A set.
+    /// One set.
     Set,
 }
 
-/// What a part takes from the stack.
+/// What a part pops from the stack.
 #[derive(Clone, Copy)]
 pub struct Takes {
-    /// The share at the top of the stack.
+    /// What the part pops first, from the top of the stack.
     pub top: Share,
-    /// The share below that.
+    /// What the part pops after `top`.
     pub below: Share,
 }
 
-/// A place in the code.
+/// A place in the code: an offset, and what is known about it.
 #[derive(Clone, Copy, Drop)]
 pub struct Place {
-    /// Its offset in the segment.
+    /// The offset in the segment.
     pub offset: usize,
-    /// Whether a jump or a procedure entry refers to it.
+    /// Whether a jump or a procedure entry leads to this offset.
     pub has_label: bool,
-    /// Whether the exit code begins here.
+    /// Whether the exit code of the procedure begins at this offset.
     pub is_exit: bool,
 }
 
-/// A part of code: an item with its role and its stack effect.
+/// A part of a statement: an item with its place, its role and its stack effect.
 #[derive(Drop)]
 pub struct Part<'a> {
-    /// Its item.
+    /// The item of the code.
     pub item: &'a Item<usize>,
-    /// Its place.
+    /// The place of the item.
     pub place: Place,
-    /// The role of its operation.
+    /// The role of the item's operation.
     pub role: Role,
-    /// What it takes from the stack.
+    /// What the item pops from the stack.
     pub takes: Takes,
-    /// What it leaves on the stack.
+    /// What the item pushes on the stack.
     pub leaves: Leaves,
-    /// Whether its stack effect is known.
+    /// Whether the stack effect of the item is known.
     pub known: bool,
 }
 

@@ -1,4 +1,5 @@
-//! Trees as phrases and summaries.
+//! A list of trees, each as its summary and its phrase. The phrase is the text of the tree. A *part* is one item of the
+//! code with its stack effect. A *tree* is a part with the trees that push its operands.
 
 ghost use Rattle.std.specs.Prelude.{◌≡◌, ◌-◌, drop, length, IfOk, OnOk};
 ghost use Rattle.pm_trees.specs.Piles as texts;
@@ -8,7 +9,7 @@ use pm_phrases::Phrase;
 use std::alloc::{AllocError, Global};
 use std::marker::Model;
 
-/// A list of trees, the first one first.
+/// A list of trees in the order of the code.
 #[derive(Drop)]
 pub struct Pile {
     /// The summary of each tree.
@@ -27,7 +28,7 @@ impl Model for Pile {
 }
 
 impl Pile {
-    /// Creates an empty list with capacity for `trees` trees.
+    /// Creates an empty list with spare capacity for `trees` trees.
     pub(crate) fn with_room(alloc: Global, trees: usize) -> Result<Pile, AllocError>
         ensures none { IfOk result (λ pile. pile ≡ texts.no_trees) }
     {
@@ -37,7 +38,7 @@ impl Pile {
         })
     }
 
-    /// Appends a tree.
+    /// Appends the tree with the summary `left` and the phrase `phrase`.
     #[tactic(auto, using(crate::proofs::Ends::reverse_pushed))]
     pub(crate) fn push(&mut self, left: Left, phrase: Phrase) -> Result<(), AllocError>
         ensures behind { OnOk result (self.new ≡ texts.upon_all left phrase self.old) }
@@ -61,7 +62,7 @@ impl Pile {
     }
 }
 
-/// Returns the last `count` items of a list, or the whole list if it has fewer.
+/// Returns the last `count` items of `list`, or the whole list if it has fewer items.
 pub(crate) fn last_of<T>(list: &[T], count: usize) -> &[T]
     ensures last { result.now ≡ drop (length list.now - count) list.now }
 {

@@ -1,4 +1,4 @@
-//! Statements in blocks.
+//! The lines that show a list of statements in blocks.
 
 ghost use Rattle.std.specs.Prelude.{◌≡◌, ◌++◌, ◌&&◌, [], Some, option_map, reverse, IfOk, IfSome, OnOk};
 ghost use Rattle.pm_trees.specs.Blocks as blocks;
@@ -12,10 +12,10 @@ use crate::statement::Statement;
 use crate::step::{open_behind, open_repeat, word_by};
 use std::alloc::{AllocError, Global};
 
-/// The number of statements for which the capacity includes one additional line.
+/// The list of lines gets capacity for one additional line for each group of this many statements.
 const BLOCK: usize = 8;
 
-/// Returns the offset after the last statement, or 0 if there is none.
+/// Returns the offset after the last statement, or 0 if `statements` is empty.
 #[tactic(auto, using(crate::proofs::Lists::end_behind_last))]
 fn code_end(statements: &[Statement]) -> usize
     ensures end { result ≡ blocks.code_end statements.now }
@@ -26,8 +26,8 @@ fn code_end(statements: &[Statement]) -> usize
     }
 }
 
-/// Appends the lines of a statement. Returns whether all blocks that end before the statement are choices that end
-/// exactly where it begins.
+/// Appends the lines of `statement`, and updates the open blocks `nest`. Returns whether all blocks that end before the
+/// statement are IF or ELSE blocks that end exactly where the statement begins.
 fn add(
     lines: &mut Vec<Line>,
     nest: &mut Vec<Block>,
@@ -53,7 +53,7 @@ fn add(
     Ok(right)
 }
 
-/// Whether no block is open.
+/// Returns whether `nest` is empty, so that no block is open.
 #[tactic(auto, using(crate::proofs::Lists::reverse_pushed))]
 fn none_open(nest: &[Block]) -> bool
     ensures value { result ≡ blocks.is_empty (reverse nest.now) }
@@ -61,21 +61,21 @@ fn none_open(nest: &[Block]) -> bool
     nest.last().is_none()
 }
 
-/// Whether both are true.
+/// Returns whether both `one` and `other` are true.
 fn both(one: bool, other: bool) -> bool
     ensures value { result ≡ (one && other) }
 {
     one && other
 }
 
-/// Lines, and whether each block ends exactly at the target of its jump.
+/// The lines of statements, and whether each block ends exactly at the target of its jump.
 #[derive(Drop)]
 struct Tried {
     lines: Vec<Line>,
     right: bool,
 }
 
-/// Returns the lines of statements.
+/// Returns the lines of `statements`, and whether each block ends exactly at the target of its jump.
 fn try_blocks(alloc: Global, statements: &[Statement]) -> Result<Tried, AllocError>
     ensures lines { IfOk result (λ t. t.lines.items
         ≡ blocks.lines_from (blocks.code_end statements.now) statements.now [] statements.now) }
@@ -100,8 +100,8 @@ fn try_blocks(alloc: Global, statements: &[Statement]) -> Result<Tried, AllocErr
     Ok(Tried { lines, right })
 }
 
-/// Returns statements in blocks. Each statement has a line, in the original order. The statements can be recovered from
-/// the lines (`expanded`).
+/// Returns the lines that show `statements` in blocks. Each statement has one line, and the order is unchanged. The
+/// definition `expanded` recovers the statements from the lines.
 ///
 /// Returns `None` if a block would not end at the target of the jump around it.
 #[tactic(auto, using(crate::proofs::Read::read_back), unfolding(crate::specs::Blocks::blocks))]

@@ -1,25 +1,25 @@
-//! Statements as ranges of code.
+//! Statements as ranges of code, with their jumps.
 
-/// Where a statement jumps, apart from the next statement.
+/// Where a statement leads, other than to the next statement.
 #[derive(Clone, Copy, Drop)]
 pub enum Leads {
-    /// It does not jump.
+    /// The statement does not jump.
     Nowhere,
-    /// To an offset, if a condition holds.
+    /// The statement jumps to the given offset if a condition holds.
     ByCondition(usize),
-    /// To an offset, always.
+    /// The statement always jumps to the given offset.
     Always(usize),
-    /// To one of several offsets, by a value (case jump).
+    /// The statement is a case jump: a value selects one of several offsets.
     ByValue,
 }
 
-/// A statement.
+/// A statement: its range of bytes, and its jump.
 #[derive(Clone, Copy, Drop)]
 pub struct Statement {
-    /// The offset of its first byte.
+    /// The offset of the first byte of the statement.
     pub at: usize,
-    /// The offset after its last byte.
+    /// The offset after the last byte of the statement.
     pub behind: usize,
-    /// Where it jumps.
+    /// Where the statement jumps.
     pub leads: Leads,
 }

@@ -1,4 +1,5 @@
-//! The lines and blocks of one statement.
+//! The effect of one statement on the lines and on the open blocks. `limit` is the end of the code, and the last item
+//! of `nest` is the innermost open block.
 
 ghost use Rattle.std.specs.Prelude.{◌≡◌, ◌++◌, reverse, IfOk, OnOk};
 ghost use Rattle.pm_trees.specs.Blocks as blocks;
@@ -9,7 +10,8 @@ use crate::line::{Line, Word};
 use crate::statement::{Leads, Statement};
 use std::alloc::AllocError;
 
-/// Opens the REPEAT loop that begins at `at` and ends at `end`, if there is one and it fits into the innermost block.
+/// Opens the REPEAT loop from `at` to `end`, and appends its line, if `end` is after `at` and the loop fits into the
+/// innermost block.
 #[tactic(auto, using(crate::proofs::Lists::reverse_pushed))]
 pub(crate) fn open_repeat(
     lines: &mut Vec<Line>,
@@ -36,7 +38,7 @@ pub(crate) fn open_repeat(
     Ok(())
 }
 
-/// Whether the innermost block is the WHILE loop that begins at `place` and ends at `behind`.
+/// Returns whether the innermost block is the WHILE loop that begins at `place` and ends at `behind`.
 #[tactic(auto, using(crate::proofs::Lists::reverse_pushed))]
 fn ends_while(nest: &[Block], place: usize, behind: usize) -> bool
     ensures value { result ≡ blocks.ends_while place behind (reverse nest.now) }
@@ -50,7 +52,7 @@ fn ends_while(nest: &[Block], place: usize, behind: usize) -> bool
     }
 }
 
-/// Whether the innermost block is the REPEAT loop that begins at `place` and ends at `behind`.
+/// Returns whether the innermost block is the REPEAT loop that begins at `place` and ends at `behind`.
 #[tactic(auto, using(crate::proofs::Lists::reverse_pushed))]
 fn ends_repeat(nest: &[Block], place: usize, behind: usize) -> bool
     ensures value { result ≡ blocks.ends_repeat place behind (reverse nest.now) }
@@ -64,7 +66,7 @@ fn ends_repeat(nest: &[Block], place: usize, behind: usize) -> bool
     }
 }
 
-/// Whether the innermost block is the CASE whose case jump is at `place`, and ends at `behind`.
+/// Returns whether the innermost block is the CASE whose case jump is at `place`, and which ends at `behind`.
 #[tactic(auto, using(crate::proofs::Lists::reverse_pushed))]
 fn ends_case(nest: &[Block], place: usize, behind: usize) -> bool
     ensures value { result ≡ blocks.ends_case place behind (reverse nest.now) }
@@ -78,7 +80,7 @@ fn ends_case(nest: &[Block], place: usize, behind: usize) -> bool
     }
 }
 
-/// Whether the innermost block is a CASE that ends at `place`.
+/// Returns whether the innermost block is a CASE that ends at `place`.
 #[tactic(auto, using(crate::proofs::Lists::reverse_pushed))]
 fn leaves_case(nest: &[Block], place: usize) -> bool
     ensures value { result ≡ blocks.leaves_case place (reverse nest.now) }
@@ -89,7 +91,8 @@ fn leaves_case(nest: &[Block], place: usize) -> bool
     }
 }
 
-/// Whether the innermost block is an IF that ends at `behind`, and an ELSE part up to `end` fits into the next block.
+/// Returns whether the innermost block is an IF block that ends at `behind`, and an ELSE block up to `end` fits into
+/// the block around it.
 #[tactic(auto, using(crate::proofs::Lists::reverse_pushed))]
 fn ends_if(nest: &[Block], limit: usize, end: usize, behind: usize) -> bool
     ensures value { result ≡ blocks.ends_if limit end behind (reverse nest.now) }
@@ -102,7 +105,8 @@ fn ends_if(nest: &[Block], limit: usize, end: usize, behind: usize) -> bool
     }
 }
 
-/// Returns the keyword of a statement that jumps by a condition.
+/// Returns the keyword of a statement that jumps to `place` under a condition. `again` is the end of the last statement
+/// that always jumps back to the statement.
 fn condition_word(limit: usize, again: usize, behind: usize, place: usize, nest: &[Block]) -> Word
     ensures word { result ≡ blocks.condition_word limit again behind place (reverse nest.now) }
 {
@@ -119,8 +123,8 @@ fn condition_word(limit: usize, again: usize, behind: usize, place: usize, nest:
     }
 }
 
-/// Returns the keyword of a statement that always jumps. `end` is the end of the case jump at its target, or 0 if there
-/// is none.
+/// Returns the keyword of a statement that always jumps to `place`. `end` is the end of the case jump at `place`, or 0
+/// if `place` has no case jump.
 fn always_word(limit: usize, end: usize, behind: usize, place: usize, nest: &[Block]) -> Word
     ensures word { result ≡ blocks.always_word limit end behind place (reverse nest.now) }
 {
@@ -137,7 +141,7 @@ fn always_word(limit: usize, end: usize, behind: usize, place: usize, nest: &[Bl
     }
 }
 
-/// Returns the keyword of a case jump.
+/// Returns the keyword of a case jump from `at` to `behind`.
 fn value_word(at: usize, behind: usize, nest: &[Block]) -> Word
     ensures word { result ≡ blocks.value_word at behind (reverse nest.now) }
 {
@@ -148,8 +152,8 @@ fn value_word(at: usize, behind: usize, nest: &[Block]) -> Word
     }
 }
 
-/// Returns the keyword of a statement. `here` contains the ends of the loops that begin at it and of the case jump at
-/// its target.
+/// Returns the keyword of `statement`. `here` has the ends of the loops that begin at the statement, and of the case
+/// jump at its target.
 pub(crate) fn word_by(limit: usize, here: Loops, statement: &Statement, nest: &[Block]) -> Word
     ensures word { result
         ≡ blocks.word_by limit here statement.now.at statement.now.behind statement.now.leads (reverse nest.now) }
@@ -163,7 +167,7 @@ pub(crate) fn word_by(limit: usize, here: Loops, statement: &Statement, nest: &[
     }
 }
 
-/// Closes the innermost block, if there is one.
+/// Removes the innermost block from `nest`, if a block is open.
 #[tactic(auto, using(crate::proofs::Lists::reverse_pushed))]
 fn close_one(nest: &mut Vec<Block>)
     ensures nest { reverse nest.new.items ≡ blocks.without_first (reverse nest.old.items) }
@@ -171,7 +175,7 @@ fn close_one(nest: &mut Vec<Block>)
     nest.pop();
 }
 
-/// Whether a statement with this keyword closes the innermost block.
+/// Returns whether a statement with the keyword `word` closes the innermost block.
 fn closes_one(word: Word) -> bool
     ensures value { result ≡ blocks.closes_one word }
 {
@@ -181,7 +185,7 @@ fn closes_one(word: Word) -> bool
     )
 }
 
-/// Returns the block that a statement with this keyword opens, if any. A CASE block ends at `case_end`.
+/// Returns the block that `statement` with the keyword `word` opens, if it opens one. A CASE block ends at `case_end`.
 fn opened_by(case_end: usize, word: Word, statement: &Statement) -> Option<Block>
     ensures block { result ≡ blocks.opened_by case_end word statement.now }
 {
@@ -207,7 +211,8 @@ fn opened_by(case_end: usize, word: Word, statement: &Statement) -> Option<Block
     }
 }
 
-/// Closes and opens the blocks that a statement with this keyword ends and begins. A CASE block ends at `case_end`.
+/// Updates the open blocks `nest` after `statement` with the keyword `word`: removes the block that it closes, and
+/// appends the block that it opens. A CASE block ends at `case_end`.
 #[tactic(auto, using(crate::proofs::Lists::reverse_pushed))]
 pub(crate) fn open_behind(
     nest: &mut Vec<Block>,

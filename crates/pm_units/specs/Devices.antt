@@ -1,4 +1,4 @@
--- The state of the machine outside its memory, and the unit numbers.
+-- The devices of the machine, and the numbers of units.
 use Rattle.std.specs.Prelude.{ℕ, ◌+◌, ◌*◌, ◌<◌, ◌||◌, ◌&&◌, List, [], length, slice_range, slice_set, slice_index_or}
 use Rattle.std.specs.Prelude.{Option, Some, None, is_none, Result, Ok, Err, if◌then◌else◌, ◌==◌, nat_le, Bool}
 use Rattle.pm_units.specs.declared.ports.Port.{Port}
@@ -6,8 +6,8 @@ use Rattle.pm_units.specs.declared.ports.Port.TheVariants.{Console, Terminal, Ab
 use Rattle.pm_units.specs.declared.ports.MountFault.{MountFault}
 use Rattle.pm_units.specs.declared.ports.MountFault.TheVariants.{NoUnit, Taken}
 
--- the images on the disk units 4, 5, 9, 10, 11 and 12; the input queue; the bytes written to the console and to the
--- printer; the clock
+-- The state of the devices: the images on the disk units 4, 5, 9, 10, 11 and 12; the input queue; the bytes that were
+-- written to the console and to the printer; and the clock.
 pub record Devices : Type 0 where
   pub disks : List (Option (List ℕ))
   pub queue : List ℕ
@@ -15,18 +15,18 @@ pub record Devices : Type 0 where
   pub printer : List ℕ
   pub clock : ℕ
 
--- the spare capacity: the number of bytes that can be appended without more memory
+-- The spare capacity of each list of bytes: the number of bytes that can be appended without a new allocation.
 pub record Room : Type 0 where
   pub queue : ℕ
   pub console : ℕ
   pub printer : ℕ
 
--- the value of the units: the devices, and their spare capacity
+-- The representation of `Units` in contracts: the devices, and their spare capacity.
 pub record Held : Type 0 where
   pub devices : Devices
   pub room : Room
 
--- whether the bytes written to the console and to the printer fit in the spare capacity
+-- Whether the bytes that `new` has more than `old`, on the console and on the printer, fit into the spare capacity `r`.
 abbrev pub has_room : Room → Devices → Devices → Bool
 has_room r old new =
     nat_le (length new.console) (length old.console + r.console)
@@ -36,7 +36,7 @@ abbrev pub mount_number : MountFault → ℕ
 mount_number NoUnit = 1
 mount_number Taken = 2
 
--- the unit that a 16-bit unit number selects; a disk has its index in the list
+-- The unit that the unit number `n` selects. The disk units have the indexes 0 to 5.
 unfoldable pub unit_of : ℕ → Port
 unit_of n =
     if n == 1 then Console
@@ -51,7 +51,7 @@ unit_of n =
     else (if n == 12 then Disk 5
     else Unknown)))))))))
 
--- a disk unit has one of the six indexes
+-- States that the index of a disk unit is below 6. It is true for every other unit.
 abbrev pub HasPlace : Port → Type 0
 HasPlace (Disk k) = k < 6
 HasPlace Console = Unit {0}
@@ -62,11 +62,11 @@ HasPlace Unknown = Unit {0}
 
 -- ---- the images on the disk units
 
--- the image with index `k`, if that unit has a disk
+-- The image on the disk unit with index `k`, or `None` if this unit has no disk.
 abbrev pub image_at : Devices → ℕ → Option (List ℕ)
 image_at d k = slice_index_or d.disks k None
 
--- the image on a unit, if it is a disk unit that has a disk
+-- The image on a unit, or `None` if the unit is not a disk unit or has no disk.
 abbrev pub image_on : Port → Devices → Option (List ℕ)
 image_on (Disk k) d = image_at d k
 image_on Console d = None
@@ -75,12 +75,11 @@ image_on Absent d = None
 image_on Printer d = None
 image_on Unknown d = None
 
--- whether the `n` bytes that begin with block `block` are within an image; the whole image counts, for any contents of
--- its directory
+-- Whether the `n` bytes that begin with block `block` are within `image`. The directory of the image is not used.
 abbrev pub lies_on : List ℕ → ℕ → ℕ → Bool
 lies_on image block n = nat_le (512 * block + n) (length image)
 
--- these bytes
+-- The `n` bytes of `image` that begin with block `block`.
 abbrev pub bytes_from_block : List ℕ → ℕ → ℕ → List ℕ
 bytes_from_block image block n = slice_range image (512 * block) (512 * block + n)
 
@@ -88,12 +87,13 @@ abbrev pub code_in : Option (List ℕ) → ℕ → ℕ → Option (List ℕ)
 code_in None block n = None
 code_in (Some image) block n = if lies_on image block n then Some (bytes_from_block image block n) else None
 
--- the `n` bytes that begin with block `block` of the current disk of a unit; None if there is no disk or the bytes
--- extend past its end
+-- The `n` bytes that begin with block `block` of the disk of unit `unit`, or `None` if the unit has no disk or the
+-- bytes extend past the end of the disk.
 unfoldable pub code_on : Devices → ℕ → ℕ → ℕ → Option (List ℕ)
 code_on d unit block n = code_in (image_on (unit_of unit) d) block n
 
--- an image is mounted on a disk unit that has none
+-- The devices after `image` is mounted on a unit. The error is `Taken` if the disk unit has a disk, and `NoUnit` if the
+-- unit is not a disk unit.
 abbrev pub mounted_at : Port → List ℕ → Devices → Result Devices MountFault
 mounted_at (Disk k) image d =
     if is_none (image_at d k) then Ok (record d { disks = slice_set d.disks k (Some image) }) else Err Taken
@@ -106,7 +106,7 @@ mounted_at Unknown image d = Err NoUnit
 unfoldable pub mounted : ℕ → List ℕ → Devices → Result Devices MountFault
 mounted unit image d = mounted_at (unit_of unit) image d
 
--- the image that is removed from a unit, and the devices without it
+-- The image that an eject of unit `unit` returns: the image on this unit, if it has one.
 unfoldable pub ejected_image : ℕ → Devices → Option (List ℕ)
 ejected_image unit d = image_on (unit_of unit) d
 
@@ -123,7 +123,7 @@ ejected unit d = ejected_at (unit_of unit) d
 
 -- ---- queries of a unit
 
--- the IORESULT of a query: 2 if the number selects no unit, otherwise 0
+-- The IORESULT of a query of a unit: 2 if the number selected no unit, otherwise 0.
 abbrev pub known : Port → ℕ
 known Unknown = 2
 known (Disk k) = 0
@@ -132,8 +132,8 @@ known Terminal = 0
 known Absent = 0
 known Printer = 0
 
--- The result of clearing a unit: the IORESULT and the new devices. For the console and the terminal the input queue is
--- empty.
+-- The result of clearing a unit: the IORESULT, and the devices afterwards. If the unit is the console or the terminal,
+-- the input queue is empty afterwards.
 abbrev pub cleared : Port → Devices → ℕ × Devices
 cleared Unknown d = (2, d)
 cleared Absent d = (9, d)

@@ -16,20 +16,20 @@ use Rattle.pm_units.specs.declared.transfers.Transfer.{Transfer}
 use Rattle.pm_units.specs.declared.trap.Trap.{Trap}
 use Rattle.pm_units.specs.declared.trap.Trap.TheVariants as trap
 
--- the state after a transfer
+-- The state after a transfer: the words of memory, the devices, and the IORESULT.
 pub record Moved : Type 0 where
   pub memory : List ℕ
   pub devices : Devices
   pub ioresult : ℕ
 
--- a transfer that moves nothing
+-- The result of a transfer that copies nothing: the IORESULT is `code`, and memory and devices are unchanged.
 abbrev pub idle : ℕ → List ℕ → Devices → Moved
 idle code m d = record { memory = m; devices = d; ioresult = code }
 
--- ---- reading
+-- ---- reading from a unit into memory
 
--- the first bytes of the input queue are removed, and with `echo` the console shows them; if there are too few, the
--- procedure waits and removes none
+-- The result of reading from the input queue. The first bytes of the queue are removed, and written to the console if
+-- `echo` is true. If the queue has fewer bytes than the transfer reads, the program waits, and no byte is removed.
 abbrev pub from_queue : Bool → Transfer → List ℕ → Devices → Result Moved Pause
 from_queue echo t m d =
     if nat_lt (length d.queue) t.count then Err Waits
@@ -42,7 +42,7 @@ from_queue echo t m d =
       ioresult = 0;
     })
 
--- whether the signed block is not negative and the bytes of the transfer are within the image
+-- Whether the block of the transfer `t` is not negative and all its bytes are within `image`.
 abbrev pub can_move : List ℕ → Transfer → Bool
 can_move image t = nat_lt t.block 32768 && lies_on image t.block t.count
 
@@ -53,7 +53,7 @@ from_disk (Some image) t m d =
     record { memory = with_bytes m t.address (bytes_from_block image t.block t.count); devices = d; ioresult = 0 }
     else idle 1 m d
 
--- bytes read from a unit; the console echoes them, the terminal does not
+-- The result of reading from a unit. The console echoes the bytes that are read, and the terminal does not.
 unfoldable pub unit_read : Port → Transfer → List ℕ → Devices → Result Moved Pause
 unit_read Unknown t m d = Ok (idle 2 m d)
 unit_read Absent t m d = Ok (idle 9 m d)
@@ -62,9 +62,9 @@ unit_read Console t m d = from_queue true t m d
 unit_read Terminal t m d = from_queue false t m d
 unit_read (Disk k) t m d = Ok (from_disk (image_at d k) t m d)
 
--- ---- writing
+-- ---- writing from memory to a unit
 
--- the memory bytes of a transfer
+-- The bytes of the memory `m` that the transfer `t` reads or writes.
 abbrev pub named_bytes : List ℕ → Transfer → List ℕ
 named_bytes m t = bytes_at m t.address t.count
 
@@ -78,7 +78,7 @@ to_disk k (Some image) t m d =
     }
     else idle 1 m d
 
--- bytes written to a unit; the console and the terminal have one output
+-- The result of writing to a unit. Bytes for the console and for the terminal are appended to the same output.
 unfoldable pub unit_written : Port → Transfer → List ℕ → Devices → Moved
 unit_written Unknown t m d = idle 2 m d
 unit_written Absent t m d = idle 9 m d
@@ -90,8 +90,9 @@ unit_written (Disk k) t m d = to_disk k (image_at d k) t m d
 abbrev pub devices_after : Moved → Devices
 devices_after t = t.devices
 
--- the result of a transfer: the IORESULT and the new state, or an error and the old state; memory may be refused only
--- if the transfer writes more to the console or to the printer than their spare capacity
+-- States what a transfer returns and changes. Without an error, the IORESULT, memory and devices are the result of
+-- `done`. With an error, memory and devices are unchanged. Out of memory is possible only if `done` writes more to the
+-- console or to the printer than their spare capacity.
 abbrev pub Transfers : Room → Result ℕ Trap → List ℕ → Devices → List ℕ → Devices → Result Moved Pause → Type 0
 Transfers room (Ok code) m d m2 d2 done = done ≡ Ok (record { memory = m2; devices = d2; ioresult = code })
 Transfers room (Err (trap.Exec e)) m d m2 d2 done = (done ≡ Err (Fails e)) × (m2 ≡ m) × (d2 ≡ d)

@@ -1,31 +1,31 @@
-//! Unit numbers and the units that they select.
+//! The numbers of units, and the units that these numbers select.
 
 ghost use Rattle.std.specs.Prelude.{◌≡◌};
 ghost use Rattle.pm_units.specs.Devices.{HasPlace, known, mount_number, unit_of};
 
 use thiserror::Error;
 
-/// The unit that a unit number selects.
+/// The unit that a unit number selects, such as the console or a disk unit.
 #[derive(Clone, Copy)]
 pub enum Port {
-    /// The console. It echoes the bytes that it reads.
+    /// The console with echo: each byte that is read from it is also written to it.
     Console,
-    /// The console without echo.
+    /// The terminal: the console without echo.
     Terminal,
-    /// A unit that this machine does not have.
+    /// A unit that this machine does not have, such as unit 3.
     Absent,
     /// The printer.
     Printer,
-    /// A disk unit, by its index from 0 to 5.
+    /// A disk unit. The field is its index, 0 to 5.
     Disk(u8),
-    /// No unit.
+    /// The number selects no unit.
     Unknown,
 }
 
-/// The reason why a disk is not mounted.
+/// The reason why a disk cannot be mounted.
 #[derive(Clone, Copy, Debug, Drop, Error)]
 pub enum MountFault {
-    /// 1: the number is not that of a disk unit.
+    /// 1: the number is not the number of a disk unit.
     #[error("not a disk unit")]
     NoUnit,
     /// 2: the unit already has a disk.
@@ -34,7 +34,7 @@ pub enum MountFault {
 }
 
 impl MountFault {
-    /// The number of the fault, as the program prints it.
+    /// Returns the number of the fault, as the program prints it.
     pub fn number(self) -> u8
         ensures value { result ≡ mount_number self }
     {
@@ -66,7 +66,7 @@ pub fn unit_of(number: u16) -> Port
     }
 }
 
-/// Returns the IORESULT of a query of a unit: 2 if the number selects no unit, otherwise 0.
+/// Returns the IORESULT of a query of `unit`: 2 if the number selected no unit, otherwise 0.
 pub fn known(unit: Port) -> u16
     ensures ioresult { result ≡ known unit }
 {

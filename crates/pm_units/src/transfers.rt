@@ -12,18 +12,19 @@ use crate::units::{BLOCK, Units};
 use pm_words::Memory;
 use std::alloc::AllocError;
 
-/// A transfer between a unit and memory.
+/// A transfer of bytes between a unit and memory.
 #[derive(Clone, Copy)]
 pub struct Transfer {
-    /// The memory address of the first byte.
+    /// The address of the first byte in memory.
     pub address: u16,
-    /// The number of bytes.
+    /// The number of bytes that are transferred.
     pub count: u16,
-    /// The block of the disk, a signed number.
+    /// The number of the first block on the disk, as a signed word. Only a disk unit uses this field.
     pub block: u16,
 }
 
-// Appends bytes. Fails only if they do not fit in the spare capacity. Then the bytes and the capacity are unchanged.
+// Appends `more` to `bytes`. Fails only if `more` does not fit into the spare capacity. If the call fails, the bytes
+// and the capacity are unchanged.
 pub(crate) fn append(bytes: &mut Vec<u8>, more: &[u8]) -> Result<(), AllocError>
     ensures appended { OnOk result (bytes.new.items ≡ bytes.old.items ++ more.now) }
     ensures unchanged { OnErr result (bytes.new.items ≡ bytes.old.items) }
@@ -36,7 +37,7 @@ pub(crate) fn append(bytes: &mut Vec<u8>, more: &[u8]) -> Result<(), AllocError>
     Ok(())
 }
 
-// Removes the first `count` bytes.
+// Removes the first `count` bytes of `queue`.
 fn drop_front(queue: &mut Vec<u8>, count: usize)
     requires inside { count ≤ length queue.old.items }
     ensures rest { queue.new.items ≡ drop count queue.old.items }
@@ -46,7 +47,7 @@ fn drop_front(queue: &mut Vec<u8>, count: usize)
     queue.truncate(rest);
 }
 
-// Returns the memory bytes of a transfer.
+// Returns the bytes of memory that the transfer reads or writes.
 #[tactic(auto, unfolding(pm_words::specs::Words::bytes_at))]
 fn named_bytes(memory: &Memory, transfer: Transfer) -> &[u8]
     requires inside { transfer.address + transfer.count ≤ 65536 }
@@ -57,7 +58,7 @@ fn named_bytes(memory: &Memory, transfer: Transfer) -> &[u8]
     &memory.bytes()[at..at + usize::from(transfer.count)]
 }
 
-// Whether the block of a transfer is not negative and its bytes are within the image.
+// Returns whether the block of `transfer` is not negative and all its bytes are within `image`.
 fn can_move(image: &[u8], transfer: Transfer) -> bool
     ensures can_move { result ≡ can_move image.now transfer }
 {
@@ -66,13 +67,14 @@ fn can_move(image: &[u8], transfer: Transfer) -> bool
 }
 
 impl Units {
-    /// Reads from a unit into memory and returns the IORESULT. The bytes of the transfer must be in memory.
+    /// Reads the bytes of `transfer` from `unit` into memory, and returns the IORESULT. The range of the transfer must
+    /// be in memory.
     ///
     /// # Errors
     ///
-    /// Nothing changes. Checked in this order:
+    /// If a call fails, nothing changes. The errors are checked in this order:
     /// - `Waiting`: the input queue has fewer bytes than the transfer reads.
-    /// - `NoMemory`: memory was refused for the bytes that the console echoes.
+    /// - `NoMemory`: the host has no memory for the bytes that the console echoes.
     #[tactic(auto, unfolding(crate::specs::Transfers::unit_read), using(pm_words::proofs::WatchLaws::stays))]
     pub fn read(&mut self, memory: &mut Memory, unit: Port, transfer: Transfer) -> Result<u16, Trap>
         requires place { HasPlace unit }
@@ -92,7 +94,8 @@ impl Units {
         }
     }
 
-    // Reads the first bytes of the input queue. If `echo` is true, the console shows them.
+    // Reads the bytes of `transfer` from the start of the input queue. If `echo` is true, the same bytes are written to
+    // the console.
     #[tactic(auto, using(pm_words::proofs::WatchLaws::stays))]
     fn read_queue(
         &mut self,
@@ -118,7 +121,7 @@ impl Units {
         Ok(0)
     }
 
-    // Reads from the disk with index `k` and returns the IORESULT.
+    // Reads the bytes of `transfer` from the disk with index `k`, and returns the IORESULT.
     #[tactic(auto, using(pm_words::proofs::WatchLaws::stays))]
     fn read_disk(&mut self, memory: &mut Memory, k: usize, transfer: Transfer) -> u16
         requires place { k < 6 }
@@ -142,11 +145,13 @@ impl Units {
         0
     }
 
-    /// Writes from memory to a unit and returns the IORESULT. The bytes of the transfer must be in memory.
+    /// Writes the bytes of `transfer` from memory to `unit`, and returns the IORESULT. The range of the transfer must
+    /// be in memory.
     ///
     /// # Errors
     ///
-    /// `NoMemory`: memory was refused for the bytes that the console or the printer receives. Nothing changes.
+    /// `NoMemory`: the host has no memory for the bytes that are written to the console or to the printer. Nothing
+    /// changes.
     #[tactic(auto, unfolding(crate::specs::Transfers::unit_written), using(pm_words::proofs::WatchLaws::stays))]
     pub fn write(
         &mut self,
@@ -176,7 +181,7 @@ impl Units {
         }
     }
 
-    // Writes to the disk with index `k` and returns the IORESULT.
+    // Writes the bytes of `transfer` to the disk with index `k`, and returns the IORESULT.
     #[tactic(auto, using(pm_words::proofs::WatchLaws::stays))]
     fn write_disk(&mut self, memory: &mut Memory, k: usize, transfer: Transfer) -> u16
         requires place { k < 6 }
@@ -198,7 +203,7 @@ impl Units {
         0
     }
 
-    /// Clears a unit and returns the IORESULT. For the console and the terminal it empties the input queue.
+    /// Clears `unit` and returns the IORESULT. If `unit` is the console or the terminal, the input queue is emptied.
     pub fn clear(&mut self, unit: Port) -> u16
         requires place { HasPlace unit }
         ensures cleared { cleared unit self.old.devices ≡ (result, self.new.devices) }

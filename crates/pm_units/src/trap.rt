@@ -4,16 +4,16 @@ use pm_words::ExecError;
 use std::alloc::AllocError;
 use thiserror::Error;
 
-/// The reason why an instruction is not completed. Nothing has changed since before the instruction.
+/// The reason why an instruction is not completed. The state is the state before the instruction.
 #[derive(Clone, Copy, Debug, Drop, Error)]
 pub enum Trap {
-    /// An execution error, which stops the machine.
+    /// An execution error, which halts the machine.
     #[error("execution error")]
     Exec(ExecError),
     /// The input queue has fewer bytes than the instruction reads.
     #[error("waiting for input")]
     Waiting,
-    /// Memory was refused for the bytes that the instruction writes.
+    /// The host has no memory for the bytes that the instruction writes.
     #[error("out of memory")]
     NoMemory,
 }

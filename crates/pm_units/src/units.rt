@@ -13,11 +13,11 @@ use std::marker::Model;
 /// The size of a block in bytes.
 pub(crate) const BLOCK: usize = 512;
 
-/// The state of the machine outside its memory. It has the images on the disk units 4, 5, 9, 10, 11 and 12, the input
-/// queue, and the clock. It also has the bytes written to the console and to the printer.
+/// The devices of the machine, and the clock. The devices are the images on the disk units 4, 5, 9, 10, 11 and 12, the
+/// input queue of the console, and the bytes that were written to the console and to the printer.
 ///
-/// Unit 1 is the console with echo, unit 2 the console without echo, and unit 6 the printer. Units 3, 7 and 8 do not
-/// exist in this machine. Other numbers select no unit.
+/// Unit 1 is the console with echo, unit 2 is the console without echo, and unit 6 is the printer. Units 3, 7 and 8 do
+/// not exist in this machine. Other numbers select no unit.
 #[derive(Drop)]
 pub struct Units {
     pub(crate) disks: [Option<Disk>; 6],
@@ -49,14 +49,15 @@ impl Model for Units {
     } };
 }
 
-// Returns the disk of a volume, if there is one.
+// Returns the disk of `volume`, or `None` if `volume` is `None`.
 fn disk_of(volume: Option<Volume>) -> Option<Disk>
     ensures disk { result ≡ volume }
 {
     volume.map(Volume::into_disk)
 }
 
-// Returns the `count` bytes of an image that begin with block `block`. Returns None if they extend past its end.
+// Returns the `count` bytes of `image` that begin with block `block`. Returns `None` if they extend past the end of the
+// image.
 fn part(image: &[u8], block: u16, count: u16) -> Option<&[u8]>
     ensures part { option_map (λ bytes. bytes.now) result ≡ code_in (Some image.now) block count }
     ensures size { IfSome result (λ bytes. length bytes.now ≡ count) }
@@ -66,7 +67,7 @@ fn part(image: &[u8], block: u16, count: u16) -> Option<&[u8]>
 }
 
 impl Units {
-    /// Creates units without disks, with an empty input queue and nothing written. Uses no memory.
+    /// Creates units without disks. The input queue is empty, and nothing was written. The call allocates no memory.
     pub fn new(alloc: Global, clock: u32) -> Units
         ensures empty { result.devices ≡ record {
           disks = replicate 6 None;
@@ -85,8 +86,8 @@ impl Units {
         }
     }
 
-    /// Creates units with these volumes on the disk units 4, 5, 9, 10, 11 and 12, with an empty input queue and nothing
-    /// written. Uses no memory.
+    /// Creates units with `volumes` on the disk units 4, 5, 9, 10, 11 and 12, in this order. The input queue is empty,
+    /// and nothing was written. The call allocates no memory.
     pub fn with_volumes(alloc: Global, volumes: [Option<Volume>; 6], clock: u32) -> Units
         ensures mounted { result.devices ≡ record {
           disks = volumes;
@@ -103,11 +104,11 @@ impl Units {
         }
     }
 
-    /// Appends a byte to the input queue.
+    /// Appends `byte` to the input queue.
     ///
     /// # Errors
     ///
-    /// `AllocError`: the queue has no spare capacity and memory was refused. Nothing changes.
+    /// `AllocError`: the queue has no spare capacity, and the host has no memory. Nothing changes.
     pub fn key(&mut self, byte: u8) -> Result<(), AllocError>
         ensures waits { OnOk result (self.new.devices ≡ record self.old.devices
             { queue = self.old.devices.queue ++ byte ∷ [] }) }
@@ -132,18 +133,18 @@ impl Units {
         &self.printer
     }
 
-    /// Returns the clock. It is the value that the units were created with and does not advance.
+    /// Returns the clock. Its value is the `clock` with which the units were created, and it does not change.
     pub fn clock(&self) -> u32
         ensures clock { result ≡ self.now.devices.clock }
     {
         self.clock
     }
 
-    /// Mounts a volume on a disk unit.
+    /// Mounts `volume` on the disk unit with the number `unit`.
     ///
     /// # Errors
     ///
-    /// Nothing changes, and the volume is returned. Checked in this order:
+    /// If a call fails, nothing changes, and the volume is returned. The errors are checked in this order:
     /// - `NoUnit`: `unit` is not the number of a disk unit.
     /// - `Taken`: the unit already has a disk.
     #[tactic(auto, unfolding(crate::specs::Devices::mounted))]
@@ -164,7 +165,8 @@ impl Units {
         Ok(())
     }
 
-    /// Removes the disk of a unit and returns it. Returns None if the unit has no disk or is not a disk unit.
+    /// Removes the disk of the unit with the number `unit`, and returns it. Returns `None` if the unit has no disk or
+    /// is not a disk unit.
     #[tactic(auto, unfolding(crate::specs::Devices::ejected, crate::specs::Devices::ejected_image))]
     pub fn eject(&mut self, unit: u8) -> Option<Disk>
         ensures disk { result ≡ ejected_image unit self.old.devices }
@@ -176,8 +178,8 @@ impl Units {
         }
     }
 
-    /// Returns `count` bytes that begin with block `block` of the current disk of a unit. Returns None if the unit has
-    /// no disk, or if the bytes extend past its end.
+    /// Returns the `count` bytes that begin with block `block` of the disk of unit `unit`. Returns `None` if the unit
+    /// has no disk, or if the bytes extend past the end of the disk.
     #[tactic(auto, unfolding(crate::specs::Devices::code_on))]
     pub fn code(&self, unit: u8, block: u16, count: u16) -> Option<&[u8]>
         ensures code { option_map (λ bytes. bytes.now) result ≡ code_on self.now.devices unit block count }
@@ -186,7 +188,7 @@ impl Units {
         part(self.image(unit_of(u16::from(unit)))?, block, count)
     }
 
-    // Returns the image of a disk unit.
+    // Returns the image of `unit`, or `None` if it is not a disk unit or has no disk.
     fn image(&self, unit: Port) -> Option<&[u8]>
         requires place { HasPlace unit }
         ensures image { option_map (λ bytes. bytes.now) result ≡ image_on unit self.now.devices }

@@ -1,4 +1,4 @@
--- The fields and sets are computed.
+-- The worked examples of fields and sets, computed by the checker.
 use Rattle.std.proofs.Common.{refl}
 use Rattle.pm_values.specs.Fields.{field_of, with_field}
 use Rattle.pm_values.specs.Sets.{bits_from, is_member, set_from}

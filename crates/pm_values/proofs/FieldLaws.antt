@@ -1,4 +1,5 @@
--- A word is still a word after a field of it is replaced.
+-- Laws of fields: after a field of a word is replaced, the result is a word, the field has the new value, and other
+-- fields are unchanged.
 use Rattle.std.proofs.Common.{◌≡◌, ◌⊎◌, ℕ, ◌+◌, ◌-◌, ◌*◌, ◌/◌, ◌%◌, ◌^◌, ◌<◌, ◌≤◌, inl, inr, sym, ap, ◌∙◌, arith}
 use Rattle.std.proofs.Math.Nat.{add-mul-div_right, add-mul-mod_self_right, div-div-eq-div-mul, div-le_self, mod-le, div-add-mod', mod-lt, mul-le-mul_right}
 use Rattle.std.proofs.lemmas.Bool.{cases_lt}
@@ -32,7 +33,7 @@ with_field-below w r k v h fit =
     ap (λ x. 2 ^ (16 - (r + k)) * x) (sym (pow-add 2 k r)) ∙ (sym (pow-add 2 (16 - (r + k)) (k + r)) ∙ ap (λ n. 2 ^ n) sixteen) in
     replaced-below (2 ^ r) (2 ^ k) (2 ^ (16 - (r + k))) w v (pow_pos r) (pow_pos k) whole fit
 
--- A field of a word is a word.
+-- If `w` is below 65,536, then each field of `w` is below 65,536.
 pub field_of-below : (w r k : ℕ) → w < 65536 → field_of w r k < 65536
 unfolding field_of
 field_of-below w r k fit =
@@ -40,7 +41,7 @@ field_of-below w r k fit =
     let rest = mod-le (w / 2 ^ r) (2 ^ k) in
     omega arith
 
--- A word in three parts: the bits above a field, the field, and the bits below it.
+-- If a field is replaced by `u`, then the word consists of the bits above the field, `u`, and the bits below the field.
 word_parts : (w P S u : ℕ) → (w - (w / P) % S * P) + u * P ≡ (w / P / S * S + u) * P + w % P
 word_parts w P S u =
     let outer = div-add-mod' w P in
@@ -77,9 +78,9 @@ other_bits_stay w r k v i away =
       | inr above ↦ bit_above _ _ _ r k i new low above ∙ sym (bit_above _ _ _ r k i old low above)
     ] ∙ ap (λ x. bit_at x i) whole)
 
--- ---- another field
+-- ---- fields that were not replaced
 
--- A field below bit `r` depends only on the bits below `r`.
+-- If a field is below bit `r`, then it depends only on the bits below `r`.
 field_below : (h l r s k : ℕ) → s + k ≤ r → field_of (h * 2 ^ r + l) s k ≡ field_of l s k
 unfolding field_of
 field_below h l r s k fit =
@@ -91,7 +92,7 @@ field_below h l r s k fit =
     ∙ ap (λ x. x % 2 ^ k) (add-mul-div_right l (h * 2 ^ (r - s - k) * 2 ^ k) (pow_pos s))
     ∙ add-mul-mod_self_right (l / 2 ^ s) (h * 2 ^ (r - s - k)) (2 ^ k)
 
--- A field from bit `t` on depends only on the bits from `t` on.
+-- If a field begins at bit `t` or above, then it depends only on the bits from `t` on.
 field_above : (h l t s k : ℕ) → l < 2 ^ t → t ≤ s → field_of (h * 2 ^ t + l) s k ≡ field_of h (s - t) k
 unfolding field_of
 field_above h l t s k low fit =
@@ -100,7 +101,7 @@ field_above h l t s k low fit =
     ap (λ x. (h * 2 ^ t + l) / x % 2 ^ k) whole
     ∙ ap (λ x. x % 2 ^ k) (sym (div-div-eq-div-mul (h * 2 ^ t + l) (2 ^ t) (2 ^ (s - t))) ∙ ap (λ x. x / 2 ^ (s - t)) (div-mul-add h (2 ^ t) l low))
 
--- Replacing a field does not change a field of the same width that does not overlap it.
+-- If two fields of `k` bits do not overlap, then replacing one of them does not change the other.
 pub other_fields_stay : (w r k v s : ℕ) → (s + k ≤ r) ⊎ (r + k ≤ s) → field_of (with_field w r k v) s k ≡ field_of w s k
 other_fields_stay w r k v s away =
     let outer : w / 2 ^ r * 2 ^ r + w % 2 ^ r ≡ w = div-add-mod' w (2 ^ r) in

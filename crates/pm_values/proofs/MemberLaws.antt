@@ -1,4 +1,4 @@
--- The numbers in a set that is defined by a test.
+-- Laws of the members of a set that is defined by a test.
 use Rattle.std.proofs.Common.{◌≡◌, ℕ, zero, suc, ◌+◌, ◌*◌, ◌/◌, ◌%◌, ◌<◌, ◌≤◌, Bool, true, false, cond, eqb, ltb, List, length, get_or, inl, inr, ap, ◌∙◌, refl}
 use Rattle.std.proofs.Common.{arith, max, min}
 use Rattle.std.specs.Prelude.{◌||◌, ◌&&◌, not}
@@ -19,7 +19,7 @@ high_bits : (b : Bool) (r : ℕ) → (cond b 1 0 + 2 * r) / 2 ≡ r
 high_bits true r = omega arith
 high_bits false r = omega arith
 
--- Each bit is the result of the test for its number.
+-- Bit `b` of `bits_from p s n` is 1 if and only if the test `p` is true for the number `s + b`.
 bits_from-bit : (p : ℕ → Bool) (s n b : ℕ) → b < n → eqb (bit_at (bits_from p s n) b) 1 ≡ p (s + b)
 unfolding bits_from
 bits_from-bit p s zero b h = absurd (omega arith)
@@ -31,7 +31,7 @@ bits_from-bit p s (suc n) (suc b) h =
     rw place (ap (λ x. eqb x 1) (bit_at-suc (cond (p s) 1 0 + 2 * bits_from p (suc s) n) b ∙ ap (λ x. bit_at x b) (high_bits (p s) (bits_from p (suc s) n)))
     ∙ bits_from-bit p (suc s) n b (omega arith))
 
--- Each word has the bits of its sixteen numbers.
+-- Word `i` of `set_from p s n` has the bits of the sixteen numbers from `s + 16 * i` on.
 pub get_or-set_from : (n s i : ℕ) (p : ℕ → Bool) → i < n → get_or (set_from p s n) i 0 ≡ bits_from p (s + 16 * i) 16
 unfolding set_from
 get_or-set_from zero s i p h = absurd (omega arith)
@@ -61,7 +61,7 @@ unfolding bits_from
 bits_from-same zero s p q h = refl
 bits_from-same (suc n) s p q h = rw (h s, bits_from-same n (suc s) p q h) refl
 
--- Equal tests define equal sets.
+-- If two tests have the same result for each number, then they define the same set.
 set_from-same : (n s : ℕ) (p q : ℕ → Bool) → ((e : ℕ) → p e ≡ q e) → set_from p s n ≡ set_from q s n
 unfolding set_from
 set_from-same zero s p q h = refl
@@ -89,7 +89,7 @@ intersection_commutes xs ys =
     let count : min (length xs) (length ys) ≡ min (length ys) (length xs) = omega arith in
     rw count (set_from-same _ 0 _ _ (λ e. and_commutes (is_member xs e) (is_member ys e)))
 
--- A member is within the words of the set.
+-- If the number `e` is in the set `xs`, then `e` is below 16 times the number of words of `xs`.
 pub member_within : (xs : List ℕ) (e : ℕ) → is_member xs e ≡ true → e < 16 * length xs
 unfolding is_member
 member_within xs e h = elim (cases_lt e (16 * length xs)) [

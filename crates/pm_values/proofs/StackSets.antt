@@ -1,4 +1,4 @@
--- The words of a set in memory.
+-- Laws of the words of a set in memory.
 use Rattle.std.proofs.Common.{◌≡◌, ◌∙◌, ℕ, ◌+◌, ◌-◌, ◌*◌, ◌/◌, ◌%◌, ◌^◌, ◌<◌, ◌≤◌, ◌⊎◌, inl, inr, ⊎_elim, min, List, [], ◌∷◌, ◌++◌, length, drop, get_or}
 use Rattle.std.proofs.Common.{replicate, refl, sym, ap, arith, rules, true, false, nat_le, Ok, Err}
 use Rattle.std.proofs.lemmas.Bool.{cases_lt}
@@ -17,20 +17,20 @@ use Rattle.pm_values.specs.Sets.{bits_from, is_member, set_of}
 use Rattle.pm_values.proofs.SetLaws.{combined-word, length-set_from, member-word, set_of-more}
 use Rattle.pm_values.proofs.MemberLaws.{get_or-set_from}
 
--- Each word of the set.
+-- Word `i` of the `n` words from the even address `a` on is the word at address `a + 2 * i`.
 pub words_at-word : (ws : List ℕ) (a n i : ℕ) → a % 2 ≡ 0 → i < n → get_or (words_at ws a n) i 0 ≡ word_at ws (a + 2 * i)
 unfolding words_at word_at
 words_at-word ws a n i even h =
     let place : (a + 2 * i) / 2 ≡ a / 2 + i = omega arith in
     rw place (get_or-take n (drop (a / 2) ws) i 0 h ∙ get_or-drop (a / 2) ws i 0)
 
--- After the end of the set, words count as 0.
+-- If `i` is after the last of the `n` words from `a` on, then reading item `i` of this list returns 0.
 pub words_at-past : (ws : List ℕ) (a n i : ℕ) → a / 2 + n ≤ length ws → n ≤ i → get_or (words_at ws a n) i 0 ≡ 0
 words_at-past ws a n i inside h = get_or_past (words_at ws a n) i 0 (omega (arith, length-words_at ws a n inside))
 
 -- ---- a set copied to another address, cut or followed by zeros
 
--- The words of a range that is filled with zeros.
+-- If the two bytes of a word are in a range that is filled with zeros, then the word is 0.
 filled-inside : (ws : List ℕ) (a n x : ℕ) → IsMemory ws → a + n ≤ 65536 → x % 2 ≡ 0 → a ≤ x → x + 1 < a + n → word_at (filled ws a n 0) x ≡ 0
 unfolding filled
 filled-inside ws a n x h room even low high =
@@ -55,7 +55,7 @@ length-filled ws a n h room =
     let fit = All-replicate (λ b. b < 256) n 0 (omega arith) in
     (IsMemory-with_bytes ws (replicate n 0) a h (omega arith) fit).size ∙ sym h.size
 
--- A word among several that were written.
+-- If index `x` is overwritten, then item `x` is the item of `ys` for this index.
 overwritten-inside : (xs ys : List ℕ) (a x : ℕ) → a + length ys ≤ length xs → a ≤ x → x < a + length ys → get_or (overwritten xs a ys) x 0 ≡ get_or ys (x - a) 0
 overwritten-inside xs ys a x room low high = search (rules, places)
 
@@ -77,7 +77,7 @@ with_words-outside : (ws vs : List ℕ) (a i : ℕ) → a / 2 + length vs ≤ le
 unfolding with_words
 with_words-outside ws vs a i room away = overwritten-outside ws vs (a / 2) i room away
 
--- The word at an index is the word at twice this address.
+-- Word `i` of a memory is the word at address `2 * i`.
 at-twice : (ws : List ℕ) (i : ℕ) → get_or ws i 0 ≡ word_at ws (2 * i)
 unfolding word_at
 at-twice ws i = let half : 2 * i / 2 ≡ i = omega arith in rw half refl
@@ -92,7 +92,7 @@ set-fits ws a c j h even inside = ⊎_elim
     (λ past. let e = words_at-past ws a c j (omega (arith, h.size, inside)) past in omega (arith, e))
     (cases_lt j c)
 
--- A word of a set that is resized to `n` words.
+-- Word `j` of the set at `a`, resized to `n` words, is word `j` of the set, or 0 after its last word.
 resized-word : (ws : List ℕ) (a c n j : ℕ) → IsMemory ws → a % 2 ≡ 0 → a + 2 * c ≤ 65536 → j < n
     → get_or (set_of n (λ e. is_member (words_at ws a c) e)) j 0 ≡ get_or (words_at ws a c) j 0
 resized-word ws a c n j h even inside l =
@@ -101,7 +101,8 @@ resized-word ws a c n j h even inside l =
     ∙ ap (λ s. bits_from (λ e. is_member (words_at ws a c) e) s 16) place
     ∙ member-word (words_at ws a c) j (set-fits ws a c j h even inside)
 
--- A word outside the target, after a copy of `2 * k` bytes from `a` to `t` and zeros up to `2 * n` bytes.
+-- `2 * k` bytes are copied from `a` to `t`, and zeros follow up to `2 * n` bytes. A word outside the `2 * n` bytes is
+-- unchanged.
 moved-out : (m : List ℕ) (a t n k x : ℕ) → IsMemory m → k ≤ n → a + 2 * k ≤ 65536 → t + 2 * n ≤ 65536 → x % 2 ≡ 0 → t % 2 ≡ 0
     → (x < t) ⊎ (t + 2 * n ≤ x)
     → word_at (filled (copied m a t (2 * k)) (t + 2 * k) (2 * (n - k)) 0) x ≡ word_at m x
@@ -126,7 +127,7 @@ moved-zero m a t n k j h le source room even_to low high =
     let o = IsMemory-copied m a t (2 * k) h source (omega arith) in
     filled-inside (copied m a t (2 * k)) (t + 2 * k) (2 * (n - k)) (t + 2 * j) o (omega arith) (omega arith) (omega arith) (omega arith)
 
--- A word of the set after this copy.
+-- After the copy and the zeros, word `j` of the target is word `j` of the set at `a`, or 0 after its last word.
 moved-word : (m : List ℕ) (a t c n k j : ℕ) → IsMemory m → k ≡ min c n → a + 2 * c ≤ 65536 → t + 2 * n ≤ 65536 → a % 2 ≡ 0 → t % 2 ≡ 0 → j < n
     → word_at (filled (copied m a t (2 * k)) (t + 2 * k) (2 * (n - k)) 0) (t + 2 * j) ≡ get_or (words_at m a c) j 0
 moved-word m a t c n k j h least inside room even even_to l = ⊎_elim
@@ -160,7 +161,7 @@ moved-place m vs a t c n k i h least inside room even even_to size are =
     (cases_lt i (t / 2 + n)))
     (cases_lt i (t / 2))
 
--- This copy resizes the set to `n` words.
+-- After the copy and the zeros, the `n` words from `t` on are the set at `a`, resized to `n` words.
 pub moved-set : (m : List ℕ) (a t c n k : ℕ) → IsMemory m → k ≡ min c n → a + 2 * c ≤ 65536 → t + 2 * n ≤ 65536 → a % 2 ≡ 0 → t % 2 ≡ 0
     → filled (copied m a t (2 * k)) (t + 2 * k) (2 * (n - k)) 0 ≡ with_words m t (set_of n (λ e. is_member (words_at m a c) e))
 moved-set m a t c n k h least inside room even even_to =
@@ -174,7 +175,8 @@ moved-set m a t c n k h least inside room even even_to =
     (λ i l. moved-place m (set_of n (λ e. is_member (words_at m a c) e)) a t c n k i h least inside room even even_to size
     (λ j l. resized-word m a c n j h even inside l))
 
--- Words that are pushed, and words for which there is no space.
+-- If the stack has space for the words `vs`, then the memory with `vs` below SP is the result of pushing `vs`. If it
+-- has no space, the push fails.
 pub pushed-words : (m vs new : List ℕ) (sp np n : ℕ) → length vs ≡ n → np + 2 * n ≤ sp → new ≡ with_words m (sp - 2 * n) vs
     → push_words m sp np vs ≡ Ok (new, sp - 2 * n)
 pushed-words m vs new sp np n size room is =
@@ -186,14 +188,14 @@ refused-words m vs sp np n size room =
     let test : nat_le (np + 2 * n) sp ≡ false = grind (arith, nat_tests) in
     rw (size, test) refl
 
--- ---- the combination of two sets, written over the lower one
+-- ---- the combination of two sets, written over the lower set
 
 beside-words : (m vs : List ℕ) (a x : ℕ) → a / 2 + length vs ≤ length m → (x / 2 < a / 2) ⊎ (a / 2 + length vs ≤ x / 2)
     → word_at (with_words m a vs) x ≡ word_at m x
 unfolding word_at
 beside-words m vs a x room away = with_words-outside m vs a (x / 2) room away
 
--- A word of a set that is not overwritten yet.
+-- If the words `vs` do not overwrite word `i` of the list of `n` words from `b` on, then word `i` is unchanged.
 kept-word : (m vs : List ℕ) (a b n i : ℕ) → b % 2 ≡ 0 → a / 2 + length vs ≤ length m → b / 2 + n ≤ length m
     → (i < n → ((b + 2 * i) / 2 < a / 2) ⊎ (a / 2 + length vs ≤ (b + 2 * i) / 2))
     → get_or (words_at (with_words m a vs) b n) i 0 ≡ get_or (words_at m b n) i 0
@@ -204,7 +206,8 @@ kept-word m vs a b n i even room inside away = ⊎_elim
     words_at-past (with_words m a vs) b n i (omega (arith, inside, size)) past ∙ sym (words_at-past m b n i inside past))
     (cases_lt i n)
 
--- One word more of the combination of two sets.
+-- If the first `i` words of the combination of two sets are written, and word `i` is written after them, then the first
+-- `i + 1` words are written.
 pub combined-more : (how : Combination) (m now new : List ℕ) (a n b k i low high : ℕ) → IsMemory m → a % 2 ≡ 0 → b % 2 ≡ 0 → a + 2 * n ≤ 65536
     → b + 2 * k ≤ a → i < n
     → now ≡ with_words m a (set_of i (λ e. test_of how (is_member (words_at m a n) e) (is_member (words_at m b k) e)))
@@ -226,7 +229,8 @@ combined-more how m now new a n b k i low high h even even_b inside apart l was 
     (ap (λ x. combined_word how x high) lower ∙ ap (λ x. combined_word how (get_or (words_at m a n) i 0) x) upper)
     ∙ ap (with_words m a) (set_of-more i _ p word))))
 
--- The combination with its count below it.
+-- If a combination is written from `a` on, and its count `n` at `a - 2`, then the result is that of a push of the
+-- counted set.
 pub combined-pushed : (m set new : List ℕ) (a n np above : ℕ) → IsMemory m → a % 2 ≡ 0 → a + 2 * n ≤ 65536 → length set ≡ n → above ≡ a + 2 * n
     → np + 2 ≤ a → new ≡ with_word (with_words m a set) (a - 2) n → push_words m above np (n ∷ set) ≡ Ok (new, a - 2)
 combined-pushed m set new a n np above h even inside size top room is =

@@ -1,15 +1,15 @@
--- What an assignment of a string writes, as one list of bytes.
+-- Laws of the assignment of a string: the length and the characters that it writes, as one list of bytes.
 use Rattle.std.proofs.Common.{◌≡◌, ℕ, suc, ◌+◌, ◌<◌, ◌≤◌, List, ◌∷◌, length, drop, get_or, refl, ap, arith}
 use Rattle.std.proofs.lemmas.List.{drop_more}
 use Rattle.pm_words.specs.Words.{IsMemory, byte_at, bytes_at, bytes_of, copied, with_bytes}
 use Rattle.pm_words.proofs.Laws.{AreMemoryBytes-bytes_of}
 use Rattle.pm_words.proofs.RangeLaws.{length-bytes_at}
 
--- The number of characters of a string is its length.
+-- If the `n` bytes from `a` on are in memory, then the list of these bytes has length `n`.
 pub length_string : (ws : List ℕ) (a n : ℕ) → IsMemory ws → a + n ≤ 65536 → length (bytes_at ws a n) ≡ n
 length_string ws a n h room = length-bytes_at ws a n h room
 
--- A range of bytes is its first byte and the others.
+-- The `n + 1` bytes from `a` on are the byte at `a`, followed by the `n` bytes from `a + 1` on.
 bytes_at-first : (ws : List ℕ) (a n : ℕ) → IsMemory ws → a < 65536 → bytes_at ws a (n + 1) ≡ byte_at ws a ∷ bytes_at ws (a + 1) n
 unfolding bytes_at byte_at
 bytes_at-first ws a n h l =
@@ -18,7 +18,8 @@ bytes_at-first ws a n h l =
     let next : n + 1 ≡ suc n = omega arith in
     rw (next, more) refl
 
--- A string copied together with its length.
+-- A copy of `n + 1` bytes has the same result as writing the length byte at `e`, followed by the `n` characters after
+-- it.
 pub copied_string : (ws : List ℕ) (e d n : ℕ) → IsMemory ws → e < 65536 → copied ws e d (n + 1) ≡ with_bytes ws d (byte_at ws e ∷ bytes_at ws (e + 1) n)
 unfolding copied
 copied_string ws e d n h l = ap (with_bytes ws d) (bytes_at-first ws e n h l)

@@ -1,4 +1,4 @@
--- Subsets, word by word.
+-- Laws of subsets: the test of all numbers, done word by word.
 use Rattle.std.proofs.Common.{◌≡◌, ◌≢◌, ℕ, zero, suc, ◌+◌, ◌-◌, ◌*◌, ◌^◌, ◌<◌, Bool, true, false, cond, eqb, List, length, get_or, sym, ap, ◌∙◌, refl, arith}
 use Rattle.std.specs.Prelude.{◌&&◌, not, bit_and}
 use Rattle.std.specs.Int.{bit_not, w16}
@@ -10,7 +10,7 @@ use Rattle.pm_values.proofs.MemberLaws.{member_within}
 use Rattle.pm_values.specs.Sets.{bits_from, is_member}
 use Rattle.pm_values.proofs.SetLaws.{combined-word}
 
--- No number of a run passes if and only if the number with their bits is zero.
+-- The test `p` is false for each of `n` numbers if and only if the number with the bits of their results is zero.
 none_from-bits : (p : ℕ → Bool) (e n : ℕ) → none_from p e n ≡ eqb (bits_from p e n) 0
 unfolding none_from bits_from
 none_from-bits p e zero = refl
@@ -20,7 +20,8 @@ none_from-bits p e (suc n) = first (p e) (bits_from p (suc e) n) (none_from p (s
     first true x t h = grind (arith, nat_tests)
     first false x t h = grind (arith, nat_tests)
 
--- A run, divided into two.
+-- The test `p` is false for each of `a + b` numbers if and only if it is false for the first `a` and for the next `b`
+-- numbers.
 none_from-append : (p : ℕ → Bool) (e a b : ℕ) → none_from p e (a + b) ≡ none_from p e a && none_from p (e + a) b
 unfolding none_from
 none_from-append p e zero b =
@@ -36,8 +37,8 @@ none_from-append p e (suc a) b =
     both true t u v h = h
     both false t u v h = refl
 
--- All numbers of a word of one set are in the other set if and only if the word without the members of the other is
--- zero.
+-- All numbers in word `i` of `xs` are in `ys` if and only if the bits of word `i` of `xs` that are 0 in word `i` of
+-- `ys` are all 0.
 none_from-word : (xs ys : List ℕ) (i : ℕ) → get_or xs i 0 < 2 ^ 16 → get_or ys i 0 < 2 ^ 16
     → none_from (λ e. is_member xs e && not (is_member ys e)) (16 * i) 16 ≡ eqb (bit_and (get_or xs i 0) (bit_not w16 (get_or ys i 0))) 0
 none_from-word xs ys i p q =
@@ -47,7 +48,8 @@ pub subset-none : (p : ℕ → Bool) → none_from p 0 0 ≡ true
 unfolding none_from
 subset-none p = refl
 
--- One word more of a subset.
+-- If all numbers in the first `i` words of `xs` are in `ys`, and all numbers in word `i` are, then all numbers in the
+-- first `i + 1` words are.
 pub subset-more : (xs ys : List ℕ) (i : ℕ) → get_or xs i 0 < 2 ^ 16 → get_or ys i 0 < 2 ^ 16 → bit_and (get_or xs i 0) (bit_not w16 (get_or ys i 0)) ≡ 0
     → none_from (λ e. is_member xs e && not (is_member ys e)) 0 (16 * i) ≡ true → none_from (λ e. is_member xs e && not (is_member ys e)) 0 (16 * (i + 1))
     ≡ true
@@ -56,7 +58,7 @@ subset-more xs ys i p q zero_word h =
     let place : 0 + 16 * i ≡ 16 * i = omega arith in
     rw (more, none_from-append _ 0 (16 * i) 16, h, place, none_from-word xs ys i p q, zero_word) refl
 
--- A word that is not zero shows that there is no subset.
+-- If word `i` of `xs` has a bit that is 0 in word `i` of `ys`, then `xs` is not a subset of `ys`.
 pub subset-not : (xs ys : List ℕ) (i : ℕ) → get_or xs i 0 < 2 ^ 16 → get_or ys i 0 < 2 ^ 16 → i < length xs
     → bit_and (get_or xs i 0) (bit_not w16 (get_or ys i 0)) ≢ 0 → is_subset xs ys ≡ false
 unfolding is_subset
@@ -77,12 +79,12 @@ subset-not xs ys i p q inside ne =
     never true = refl
     never false = refl
 
--- All words were checked.
+-- If all numbers in all words of `xs` are in `ys`, then `xs` is a subset of `ys`.
 pub subset-whole : (xs ys : List ℕ) (n : ℕ) → n ≡ length xs → none_from (λ e. is_member xs e && not (is_member ys e)) 0 (16 * n) ≡ true → is_subset xs ys ≡ true
 unfolding is_subset
 subset-whole xs ys n e h = rw (← e) h
 
--- A run of which no number passes, number by number.
+-- ---- a list of numbers for which a test is false, number by number
 off_head : (x t : Bool) → not x && t ≡ true → x ≡ false
 off_head true t h = cc
 off_head false t h = refl

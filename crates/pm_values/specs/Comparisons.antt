@@ -1,5 +1,6 @@
--- Typed comparisons. The left operand is below the right one on the stack. A relation that is not defined for a type is
--- error 11, which is checked before the stack is read.
+-- Typed comparisons. The left operand is below the right operand on the stack. If the relation is not defined for the
+-- type, the result is `Unimplemented` (error 11); this error is checked before the stack is read. A line such as `..,
+-- a, b -> .., c` shows the stack before and after the instruction, with the top at the right.
 use Rattle.std.specs.Cmp.Lexicographic.{slice_cmp}
 use Rattle.std.specs.Ordering.{is_eq, is_ge, is_gt, is_le, is_lt, is_ne, nat_cmp}
 use Rattle.std.specs.declared.cmp.Ordering.{Ordering}
@@ -16,7 +17,7 @@ use Rattle.pm_words.specs.Signed.{truth}
 use Rattle.pm_values.specs.Sets.{is_member, pop_set}
 use Rattle.pm_values.specs.Strings.{string_at}
 
--- Whether a relation is true for two values with the order `o`.
+-- Whether a relation is true for two values. `o` is the order of the first value to the second.
 abbrev pub holds : Relation → Ordering → Bool
 holds Equal o = is_eq o
 holds NotEqual o = is_ne o
@@ -25,8 +26,8 @@ holds LessOrEqual o = is_le o
 holds Greater o = is_gt o
 holds GreaterOrEqual o = is_ge o
 
--- EQU, NEQ, LES, LEQ, GRT and GEQ STR. .., address, address -> .., 1 or 0: compares two strings by their unsigned
--- bytes. A proper prefix is less.
+-- EQU, NEQ, LES, LEQ, GRT and GEQ STR. .., address, address -> .., 1 or 0: compares the strings at two addresses by
+-- their unsigned bytes. If one string is a proper prefix of the other, it is less.
 unfoldable pub compare_strings_row : Relation → StackRow
 compare_strings_row r m sp np = do
   b ← pop m sp
@@ -35,16 +36,16 @@ compare_strings_row r m sp np = do
   t ← string_at m b.word
   push m a.above np (truth (holds r (slice_cmp nat_cmp s t)))
 
--- EQU, NEQ, LES, LEQ, GRT and GEQ BOOL. .., a, b -> .., 1 or 0: compares two truth values by bit 0 only. False is less
--- than true.
+-- EQU, NEQ, LES, LEQ, GRT and GEQ BOOL. .., a, b -> .., 1 or 0: compares two truth values. Only bit 0 of each word
+-- counts, and false is less than true.
 unfoldable pub compare_booleans_row : Relation → StackRow
 compare_booleans_row r m sp np = do
   b ← pop m sp
   a ← pop m b.above
   push m a.above np (truth (holds r (nat_cmp (a.word % 2) (b.word % 2))))
 
--- EQU, NEQ, LES, LEQ, GRT and GEQ BYTES. .., address, address -> .., 1 or 0: compares two ranges of `n` bytes by the
--- first byte in which they differ. Bytes are unsigned.
+-- EQU, NEQ, LES, LEQ, GRT and GEQ BYTES. .., address, address -> .., 1 or 0: compares two ranges of `n` bytes. The
+-- first pair of bytes that differ decides. Bytes are unsigned.
 unfoldable pub compare_bytes_row : ℕ → Relation → StackRow
 compare_bytes_row n r m sp np = do
   b ← pop m sp
@@ -61,7 +62,8 @@ is_equality LessOrEqual = false
 is_equality Greater = false
 is_equality GreaterOrEqual = false
 
--- Whether the `n` words from address `a` on are in memory. An operand has at most 32,767 words.
+-- Whether the operand of `n` words from address `a` on is in memory. `n` must not be above 32,767, and `a` must be
+-- even.
 abbrev pub are_words : ℕ → ℕ → Bool
 are_words a n = nat_le n 32767 && words_lie_in_memory a n
 
@@ -74,12 +76,12 @@ compare_words_row n r m sp np = do
   _ ← demand (are_words a.word n && are_words b.word n) InvalidMemory
   push m a.above np (truth (holds r (compared m a.word b.word (2 * n))))
 
--- Whether none of the `n` numbers from `e` on passes the test `p`.
+-- Whether the test `p` is false for each of the `n` numbers from `e` on.
 unfoldable pub none_from : (ℕ → Bool) → ℕ → ℕ → Bool
 none_from p e zero = true
 none_from p e (suc n) = not (p e) && none_from p (suc e) n
 
--- Whether every number in the set with the words `xs` is in the set with the words `ys`.
+-- Whether every number of the set with the words `xs` is in the set with the words `ys`.
 unfoldable pub is_subset : List ℕ → List ℕ → Bool
 is_subset xs ys = none_from (λ e. is_member xs e && not (is_member ys e)) 0 (16 * length xs)
 
@@ -92,7 +94,8 @@ is_of_sets LessOrEqual = true
 is_of_sets Greater = false
 is_of_sets GreaterOrEqual = true
 
--- Whether a relation is true for two sets of numbers: equal, subset, superset.
+-- Whether a relation is true for the sets with the words `s` and `t`. Less or equal means subset, and greater or equal
+-- means superset.
 abbrev pub holds_of_sets : Relation → List ℕ → List ℕ → Bool
 holds_of_sets Equal s t = is_subset s t && is_subset t s
 holds_of_sets NotEqual s t = not (is_subset s t && is_subset t s)
@@ -101,8 +104,8 @@ holds_of_sets LessOrEqual s t = is_subset s t
 holds_of_sets Greater s t = false
 holds_of_sets GreaterOrEqual s t = is_subset t s
 
--- EQU, NEQ, LEQ and GEQ SET. .., set, set -> .., 1 or 0: compares two sets as sets of numbers, regardless of their
--- numbers of words.
+-- EQU, NEQ, LEQ and GEQ SET. .., set, set -> .., 1 or 0: compares two sets by the numbers that they contain, even if
+-- the sets differ in their numbers of words.
 unfoldable pub compare_sets_row : Relation → StackRow
 compare_sets_row r m sp np = do
   _ ← demand (is_of_sets r) Unimplemented
@@ -110,7 +113,8 @@ compare_sets_row r m sp np = do
   s ← pop_set m t.above
   push m s.above np (truth (holds_of_sets r s.members t.members))
 
--- EQU, NEQ, LES, LEQ, GRT and GEQ of a type. .., a, b -> .., 1 or 0: each type with its own rule. Reals have none.
+-- EQU, NEQ, LES, LEQ, GRT and GEQ of a type. .., a, b -> .., 1 or 0: selects the rule of the type. For reals the result
+-- is the error `Unimplemented`.
 unfoldable pub compare_row : Relation → Kind → StackRow
 compare_row r Real m sp np = Err Unimplemented
 compare_row r String m sp np = compare_strings_row r m sp np

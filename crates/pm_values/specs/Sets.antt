@@ -1,5 +1,6 @@
--- Sets of numbers as words: number e is bit e mod 16 of word e div 16. On the stack, a set is the count of its words,
--- and above it the words, the one with the least numbers first.
+-- Sets of numbers as lists of words: the number e is in the set if bit e mod 16 of word e div 16 is 1. On the stack,
+-- the count of the words is on top. The words follow at higher addresses, the word with the least numbers first. A line
+-- such as `.., a, b -> .., c` shows the stack before and after the instruction, with the top at the right.
 use Rattle.std.specs.Prelude.{ℕ, zero, suc, ◌+◌, ◌*◌, ◌/◌, ◌%◌, ◌^◌, ◌==◌, ◌&&◌, ◌||◌, Bool, not, max, min}
 use Rattle.std.specs.Prelude.{if◌then◌else◌, List, [], ◌∷◌, length, slice_index, int_lt, Result, Ok, nat_lt, nat_le}
 use Rattle.pm_words.specs.Words.{words_at}
@@ -14,26 +15,27 @@ use Rattle.pm_words.specs.declared.layout.TheConstants.{STACK_END}
 unfoldable pub is_member : List ℕ → ℕ → Bool
 is_member ws e = (slice_index ws (e / 16) / 2 ^ (e % 16)) % 2 == 1
 
--- The number of `n` bits whose bit b is set if and only if the test `p` passes at `e` + b.
+-- A number of `n` bits: for each b below `n`, bit b is 1 if and only if the test `p` is true for `e` + b.
 unfoldable pub bits_from : (ℕ → Bool) → ℕ → ℕ → ℕ
 bits_from p e zero = 0
 bits_from p e (suc n) = (if p e then 1 else 0) + 2 * bits_from p (suc e) n
 
--- The `n` words of the set of the numbers that pass the test `p`. The first word begins with the number `e`.
+-- The `n` words of a set whose first word begins with the number `e`. A number is in the set if and only if the test
+-- `p` is true for it.
 unfoldable pub set_from : (ℕ → Bool) → ℕ → ℕ → List ℕ
 set_from p e zero = []
 set_from p e (suc n) = bits_from p e 16 ∷ set_from p (e + 16) n
 
--- The set of the numbers below `16 * n` that pass the test `p`, in `n` words.
+-- The set, in `n` words, of the numbers below `16 * n` for which the test `p` is true.
 abbrev pub set_of : ℕ → (ℕ → Bool) → List ℕ
 set_of n p = set_from p 0 n
 
--- A set that was popped, and SP after the pop.
+-- A set that was popped from the stack, and SP after the pop.
 pub record StackSet : Type 0 where
   pub members : List ℕ
   pub above : ℕ
 
--- The set on top of the stack: its count, then this many words.
+-- The set on top of the stack and SP after the pop. The count on top gives the number of words that follow it.
 unfoldable pub pop_set : List ℕ → ℕ → Result StackSet ExecError
 pop_set m sp = do
   n ← pop m sp
@@ -41,19 +43,20 @@ pop_set m sp = do
   _ ← demand (nat_le (n.above + 2 * n.word) STACK_END) InvalidMemory
   Ok (record { members = words_at m n.above n.word; above = n.above + 2 * n.word })
 
--- INN. .., value, set -> .., 1 or 0: whether the value is in the set. A negative value is not.
+-- INN. .., value, set -> .., 1 or 0: pushes 1 if the value is in the set, otherwise 0. A negative value is in no set.
 unfoldable pub in_set_row : StackRow
 in_set_row m sp np = do
   s ← pop_set m sp
   a ← pop m s.above
   push m a.above np (truth (nat_lt a.word 32768 && is_member s.members a.word))
 
--- A set as it is on the stack: the count of its words, then the words.
+-- The words of a set as they are on the stack: the count of the words `ws`, then the words.
 abbrev pub with_length : List ℕ → List ℕ
 with_length ws = length ws ∷ ws
 
--- Replaces two sets by another one. Its number of words is `count` of theirs. `test` determines whether a number is in
--- it, from whether the number is in the lower set and in the upper one.
+-- Replaces two sets on the stack by one set. `count` computes its number of words from the numbers of words of the
+-- lower and the upper set. A number is in the new set if `test` is true, applied to whether it is in the lower set and
+-- whether it is in the upper set.
 abbrev pub two_sets_row : (ℕ → ℕ → ℕ) → (Bool → Bool → Bool) → StackRow
 two_sets_row count test m sp np = do
   t ← pop_set m sp
@@ -61,31 +64,33 @@ two_sets_row count test m sp np = do
   push_words m s.above np (with_length (set_of (count (length s.members) (length t.members))
       (λ e. test (is_member s.members e) (is_member t.members e))))
 
--- INT. .., set, set -> .., set: the numbers in both sets, in as many words as the smaller set has.
+-- INT. .., set, set -> .., set: the numbers that are in both sets, in as many words as the set with fewer words has.
 unfoldable pub intersect_row : StackRow
 intersect_row m sp np = two_sets_row min (λ s t. s && t) m sp np
 
--- UNI. .., set, set -> .., set: the numbers in at least one of the sets, in as many words as the larger set has.
+-- UNI. .., set, set -> .., set: the numbers that are in at least one of the sets, in as many words as the set with more
+-- words has.
 unfoldable pub union_row : StackRow
 union_row m sp np = two_sets_row max (λ s t. s || t) m sp np
 
--- DIF. .., set, set -> .., set: the numbers in the lower set that are not in the upper one, in as many words as the
+-- DIF. .., set, set -> .., set: the numbers in the lower set that are not in the upper set, in as many words as the
 -- lower set has.
 unfoldable pub difference_row : StackRow
 difference_row m sp np = two_sets_row (λ s t. s) (λ s t. s && not t) m sp np
 
--- The set of the numbers from `low` to `high`, in as few words as contain `high`.
+-- The set of the numbers from `low` to `high`. Its last word is the word that contains the bit for `high`.
 abbrev pub interval : ℕ → ℕ → List ℕ
 interval low high = set_of (high / 16 + 1) (λ e. nat_le low e && nat_le e high)
 
--- SGS. .., value -> .., set: the set that has only this number.
+-- SGS. .., value -> .., set: the set that contains only the value.
 unfoldable pub singleton_row : StackRow
 singleton_row m sp np = do
   a ← pop m sp
   _ ← demand (nat_le a.word 4079) InvalidIndex
   push_words m a.above np (with_length (interval a.word a.word))
 
--- SRS. .., low, high -> .., set: the set of the numbers from low to high. If low is above high, the set has no words.
+-- SRS. .., low, high -> .., set: the set of the numbers from low to high. If low is greater than high, the set has no
+-- words.
 unfoldable pub subrange_row : StackRow
 subrange_row m sp np = do
   b ← pop m sp
@@ -94,7 +99,7 @@ subrange_row m sp np = do
       InvalidIndex >>= λ _. Ok (interval a.word b.word))
   push_words m a.above np (with_length set)
 
--- ADJ. .., set -> .., n words: the set in `n` words, without a count.
+-- ADJ. .., set -> .., n words: the numbers of the set that are below `16 * n`, as `n` words without a count.
 unfoldable pub adjust_row : ℕ → StackRow
 adjust_row n m sp np = do
   s ← pop_set m sp

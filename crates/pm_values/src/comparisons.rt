@@ -1,4 +1,4 @@
-//! Typed comparisons.
+//! Typed comparisons: the rules of EQU, NEQ, LES, LEQ, GRT and GEQ for each type of operand.
 
 ghost use Rattle.std.specs.Prelude.{◌≡◌, IfOk};
 ghost use Rattle.pm_words.specs.Stack.{IsStack, Changes};
@@ -13,12 +13,12 @@ use pm_words::stack::{pop, push};
 use pm_words::{ExecError, Memory};
 use std::cmp::Ordering;
 
-/// `EQU`, `NEQ`, `LES`, `LEQ`, `GRT` and `GEQ`: replaces two operands of type `kind` by 1 if the relation is true,
-/// otherwise by 0. The right operand is on top of the stack. Returns the new SP.
+/// `EQU`, `NEQ`, `LES`, `LEQ`, `GRT` and `GEQ`: pops two operands of type `kind`, and pushes 1 if `relation` is true
+/// for them, otherwise 0. The right operand is on top of the stack. Returns the new SP.
 ///
 /// # Errors
 ///
-/// Nothing changes.
+/// If a call fails, nothing changes.
 ///
 /// `Unimplemented` is checked first, in each of these cases:
 /// - The operands are reals.
@@ -26,8 +26,8 @@ use std::cmp::Ordering;
 /// - The operands are words, and the relation is not equality or inequality.
 ///
 /// Other errors:
-/// - `InvalidMemory`: the stack has too few words, an operand extends after the end of memory, or words begin at an odd
-///   address.
+/// - `InvalidMemory`: the stack has too few words, an operand extends after the end of memory, or an operand of type
+///   `Words` begins at an odd address.
 /// - `InvalidIndex`: a set has more than 255 words.
 #[inline(always)]
 #[tactic(auto, unfolding(crate::specs::Comparisons::compare_row), using(pm_words::proofs::WatchLaws::stays))]
@@ -51,7 +51,7 @@ pub fn compare(
     }
 }
 
-// Compares two strings by their characters.
+// Compares two strings, character by character. The stack has their addresses.
 #[tactic(auto, unfolding(crate::specs::Comparisons::compare_strings_row), using(pm_words::proofs::WatchLaws::stays))]
 fn compare_strings(
     memory: &mut Memory,
@@ -90,7 +90,7 @@ fn compare_booleans(
     push(memory, left.above, np, u16::from(found))
 }
 
-// Compares two ranges of bytes.
+// Compares two ranges of `count` bytes. The stack has their addresses.
 #[tactic(auto, unfolding(crate::specs::Comparisons::compare_bytes_row), using(pm_words::proofs::WatchLaws::stays))]
 fn compare_bytes(
     memory: &mut Memory,
@@ -111,7 +111,7 @@ fn compare_bytes(
     push(memory, left.above, np, u16::from(holds(relation, order)))
 }
 
-// Compares two ranges of words.
+// Compares two ranges of `count` words. The stack has their addresses.
 #[tactic(auto, unfolding(crate::specs::Comparisons::compare_words_row), using(pm_words::proofs::WatchLaws::stays))]
 fn compare_words(
     memory: &mut Memory,
@@ -138,7 +138,7 @@ fn compare_words(
     push(memory, left.above, np, u16::from(holds(relation, order)))
 }
 
-// Compares two sets, as sets of numbers.
+// Compares two sets on the stack by the numbers that they contain, even if the sets differ in their numbers of words.
 #[tactic(auto, unfolding(crate::specs::Comparisons::compare_sets_row), using(pm_words::proofs::WatchLaws::stays))]
 fn compare_sets(memory: &mut Memory, sp: u16, np: u16, relation: Relation) -> Result<u16, ExecError>
     ensures row { Changes result memory.old memory.new (compare_sets_row relation memory.old.words sp np) }
@@ -153,7 +153,7 @@ fn compare_sets(memory: &mut Memory, sp: u16, np: u16, relation: Relation) -> Re
     push(memory, left.above, np, u16::from(found))
 }
 
-// Whether a relation is equality or inequality.
+// Returns whether `relation` is equality or inequality.
 fn is_equality(relation: Relation) -> bool
     ensures equality { result ≡ is_equality relation }
 {
@@ -163,7 +163,7 @@ fn is_equality(relation: Relation) -> bool
     }
 }
 
-// Whether a relation is defined for sets.
+// Returns whether `relation` is defined for sets.
 fn is_of_sets(relation: Relation) -> bool
     ensures sets { result ≡ is_of_sets relation }
 {
@@ -173,7 +173,7 @@ fn is_of_sets(relation: Relation) -> bool
     }
 }
 
-// Whether a relation is true for two values with this order.
+// Returns whether `relation` is true for two values, the first of which is in the order `order` to the second.
 fn holds(relation: Relation, order: Ordering) -> bool
     ensures holds { result ≡ holds relation order }
 {
@@ -187,7 +187,7 @@ fn holds(relation: Relation, order: Ordering) -> bool
     }
 }
 
-// Whether a relation is true for two sets.
+// Returns whether `relation` is true for the sets with the words `left` and `right`.
 fn holds_of_sets(relation: Relation, left: &[u16], right: &[u16]) -> bool
     ensures holds { result ≡ holds_of_sets relation left.now right.now }
 {
@@ -200,7 +200,7 @@ fn holds_of_sets(relation: Relation, left: &[u16], right: &[u16]) -> bool
     }
 }
 
-// Whether every number of `left` is in `right`.
+// Returns whether every number in the set with the words `left` is in the set with the words `right`.
 fn is_subset(left: &[u16], right: &[u16]) -> bool
     ensures subset { result ≡ is_subset left.now right.now }
 {

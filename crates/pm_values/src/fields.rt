@@ -1,4 +1,4 @@
-//! Bytes, and packed fields of words.
+//! The rules of instructions on bytes and on packed fields. A packed field is a range of bits of a word.
 
 ghost use Rattle.std.specs.Prelude.{◌≡◌, ◌+◌, ◌≤◌, IfOk, Err};
 ghost use Rattle.pm_words.specs.Stack.{IsStack, Changes, demand};
@@ -10,7 +10,7 @@ use crate::stack::push_words;
 use pm_words::stack::{load, pop, push, store};
 use pm_words::{ExecError, Memory};
 
-/// `LDB`: pops an index in bytes and a base address, and pushes the byte at their sum. Returns the new SP.
+/// `LDB`: pops an index (a number of bytes) and a base address, and pushes the byte at their sum. Returns the new SP.
 ///
 /// # Errors
 ///
@@ -26,8 +26,8 @@ pub fn load_byte(memory: &mut Memory, sp: u16, np: u16) -> Result<u16, ExecError
     push(memory, base.above, np, u16::from(byte))
 }
 
-/// `STB`: pops a value, an index in bytes and a base address, and writes the low byte of the value at the sum of index
-/// and base. Returns the new SP.
+/// `STB`: pops a value, an index (a number of bytes) and a base address. Writes the low byte of the value at the sum of
+/// index and base. Returns the new SP.
 ///
 /// # Errors
 ///
@@ -44,16 +44,17 @@ pub fn store_byte(memory: &mut Memory, sp: u16, np: u16) -> Result<u16, ExecErro
     Ok(base.above)
 }
 
-/// `IXP`: pops an index in fields and a base address, and pushes the location of this field. The location is the
-/// address of its word, its width, and its lowest bit, which is on top. Returns the new SP.
+/// `IXP`: pops an index (a number of fields) and a base address, and pushes the location of the field with this index.
+/// The location is three words: the address of the field's word, the width in bits, and the lowest bit, which is on top
+/// of the stack. Returns the new SP.
 ///
 /// The array packs `per_word` fields of `width` bits into each word, the first field in the lowest bits.
 ///
 /// # Errors
 ///
-/// Nothing changes. Checked in this order:
+/// If a call fails, nothing changes. The errors are checked in this order:
 /// - `InvalidMemory`: the stack has too few words.
-/// - `InvalidIndex`: the index is negative, `per_word` is 0, or the bits are not a field of a word.
+/// - `InvalidIndex`: the index is negative, `per_word` is 0, `width` is 0, or the field would extend past bit 15.
 /// - `StackOverflow`: SP would be below NP.
 #[tactic(auto, unfolding(crate::specs::Fields::index_field_row), using(pm_words::proofs::WatchLaws::stays))]
 pub fn index_field(
@@ -84,9 +85,9 @@ pub fn index_field(
 ///
 /// # Errors
 ///
-/// Nothing changes. Checked in this order:
+/// If a call fails, nothing changes. The errors are checked in this order:
 /// - `InvalidMemory`: the stack has too few words.
-/// - `InvalidIndex`: the bits are not a field of a word.
+/// - `InvalidIndex`: the width is 0, or the field would extend past bit 15.
 /// - `InvalidMemory`: the address is odd.
 #[tactic(auto, unfolding(crate::specs::Fields::load_field_row), using(pm_words::proofs::WatchLaws::stays))]
 pub fn load_field(memory: &mut Memory, sp: u16, np: u16) -> Result<u16, ExecError>
@@ -107,13 +108,13 @@ pub fn load_field(memory: &mut Memory, sp: u16, np: u16) -> Result<u16, ExecErro
 }
 
 /// `STP`: pops a value and the location of a field, and writes the low bits of the value to the field. The location is
-/// the lowest bit, the width and the address of the word. Returns the new SP.
+/// the field's lowest bit, its width and the address of its word. Returns the new SP.
 ///
 /// # Errors
 ///
-/// Nothing changes. Checked in this order:
+/// If a call fails, nothing changes. The errors are checked in this order:
 /// - `InvalidMemory`: the stack has too few words.
-/// - `InvalidIndex`: the bits are not a field of a word.
+/// - `InvalidIndex`: the width is 0, or the field would extend past bit 15.
 /// - `InvalidMemory`: the address is odd.
 #[tactic(auto, unfolding(crate::specs::Fields::store_field_row), using(pm_words::proofs::WatchLaws::stays))]
 pub fn store_field(memory: &mut Memory, sp: u16, np: u16) -> Result<u16, ExecError>
@@ -134,7 +135,7 @@ pub fn store_field(memory: &mut Memory, sp: u16, np: u16) -> Result<u16, ExecErr
     Ok(address.above)
 }
 
-// Returns `InvalidIndex` if `width` bits from bit `lowest` on are not a field of a word.
+// Returns the error `InvalidIndex` if `width` is 0, or if `width` bits from bit `lowest` on extend past bit 15.
 fn check_field(lowest: u16, width: u16) -> Result<(), ExecError>
     ensures field { result ≡ demand (is_field lowest width) InvalidIndex }
 {
@@ -144,7 +145,7 @@ fn check_field(lowest: u16, width: u16) -> Result<(), ExecError>
     Ok(())
 }
 
-// Returns the field of `width` bits from bit `lowest` on.
+// Returns the `width` bits of `word` from bit `lowest` on, as a number.
 fn extracted(word: u16, lowest: u16, width: u16) -> u16
     requires field { lowest + width ≤ 16 }
     ensures field { result ≡ field_of word lowest width }
@@ -154,7 +155,7 @@ fn extracted(word: u16, lowest: u16, width: u16) -> u16
     ((u32::from(word) / place) % size) as u16
 }
 
-// Returns the word with the field of `width` bits from bit `lowest` on replaced by the low bits of `value`.
+// Returns `word` after its `width` bits from bit `lowest` on are replaced by the low `width` bits of `value`.
 fn replaced(word: u16, lowest: u16, width: u16, value: u16) -> u16
     requires field { lowest + width ≤ 16 }
     ensures word { result ≡ with_field word lowest width value }

@@ -1,4 +1,4 @@
-//! The instruction rules for bytes, packed fields, strings and sets, and the typed comparisons.
+//! The rules of the instructions on bytes, packed fields, strings and sets, and of the typed comparisons.
 #![tactic(auto)]
 
 mod comparisons;

@@ -1,4 +1,5 @@
-//! Sets on the stack.
+//! The rules of the instructions on sets. A set is on the stack: the count of its words is on top, and the words
+//! follow.
 
 ghost use Rattle.std.specs.Prelude.{◌≡◌, ◌%◌, ◌≤◌, ◌+◌, ◌*◌, ◌&&◌, ◌∷◌, ℕ, IfOk, IsOk, MatchResult, Ok, Err, length};
 ghost use Rattle.std.specs.Prelude.{[], nat_le, slice_index};
@@ -24,7 +25,7 @@ const COUNTED_WORDS: usize = 256; // a set's words and their count
 
 const LAST_MEMBER: u16 = 4079;
 
-// An operation on two sets.
+// An operation that combines two sets into one.
 #[derive(Clone, Copy)]
 enum Combination {
     Intersection,
@@ -32,8 +33,8 @@ enum Combination {
     Difference,
 }
 
-// The location of a set on the stack: the even address of its first word, its number of words, and SP after the set is
-// popped.
+// The location of a set on the stack: the even address of its first word, the number of its words, and SP after the set
+// is popped.
 #[derive(Clone, Copy)]
 struct SetPlace {
     address: u16,
@@ -41,7 +42,7 @@ struct SetPlace {
     above: u16,
 }
 
-/// A set that was popped, and SP after the pop.
+/// A set that was popped from the stack, and SP after the pop.
 #[derive(Drop)]
 pub struct StackSet {
     pub words: ArrayVec<u16, SET_WORDS>,
@@ -52,7 +53,7 @@ pub struct StackSet {
 ///
 /// # Errors
 ///
-/// Nothing changes. Checked in this order:
+/// If a call fails, nothing changes. The errors are checked in this order:
 /// - `InvalidMemory`: the stack does not have the count of the set.
 /// - `InvalidIndex`: the set has more than 255 words.
 /// - `InvalidMemory`: the stack does not have all words of the set, or does not have the value.
@@ -67,11 +68,13 @@ pub fn in_set(memory: &mut Memory, sp: u16, np: u16) -> Result<u16, ExecError>
     push(memory, value.above, np, u16::from(found))
 }
 
-/// `INT`: replaces two sets by their intersection, which has as many words as the smaller set. Returns the new SP.
+/// `INT`: replaces two sets by their intersection. The result has as many words as the set with fewer words. Returns
+/// the new SP.
 ///
 /// # Errors
 ///
-/// Nothing changes. Checked in this order for the set on top, and then for the other one:
+/// If a call fails, nothing changes. These errors are checked in this order, first for the set on top of the stack and
+/// then for the other set:
 /// - `InvalidMemory`: the stack does not have the count of the set.
 /// - `InvalidIndex`: the set has more than 255 words.
 /// - `InvalidMemory`: the stack does not have all words of the set.
@@ -85,11 +88,12 @@ pub fn intersect(memory: &mut Memory, sp: u16, np: u16) -> Result<u16, ExecError
     combine(memory, sp, np, Combination::Intersection)
 }
 
-/// `UNI`: replaces two sets by their union, which has as many words as the larger set. Returns the new SP.
+/// `UNI`: replaces two sets by their union. The result has as many words as the set with more words. Returns the new
+/// SP.
 ///
 /// # Errors
 ///
-/// Those of `intersect`. Nothing changes.
+/// The errors of `intersect`, in the same order. Nothing changes.
 #[tactic(auto, unfolding(crate::specs::Sets::union_row), using(pm_words::proofs::WatchLaws::stays))]
 pub fn union(memory: &mut Memory, sp: u16, np: u16) -> Result<u16, ExecError>
     ensures row { Changes result memory.old memory.new (union_row memory.old.words sp np) }
@@ -98,12 +102,12 @@ pub fn union(memory: &mut Memory, sp: u16, np: u16) -> Result<u16, ExecError>
     combine(memory, sp, np, Combination::Union)
 }
 
-/// `DIF`: replaces two sets by the numbers of the lower set in the stack that are not in the upper one. The result has
+/// `DIF`: replaces two sets by the numbers of the lower set in the stack that are not in the upper set. The result has
 /// as many words as the lower set. Returns the new SP.
 ///
 /// # Errors
 ///
-/// Those of `intersect`. Nothing changes.
+/// The errors of `intersect`, in the same order. Nothing changes.
 #[tactic(auto, unfolding(crate::specs::Sets::difference_row), using(pm_words::proofs::WatchLaws::stays))]
 pub fn difference(memory: &mut Memory, sp: u16, np: u16) -> Result<u16, ExecError>
     ensures row { Changes result memory.old memory.new (difference_row memory.old.words sp np) }
@@ -112,11 +116,11 @@ pub fn difference(memory: &mut Memory, sp: u16, np: u16) -> Result<u16, ExecErro
     combine(memory, sp, np, Combination::Difference)
 }
 
-/// `SGS`: replaces a value by the set that has only this number. Returns the new SP.
+/// `SGS`: pops a value, and pushes the set that contains only this number. Returns the new SP.
 ///
 /// # Errors
 ///
-/// Nothing changes. Checked in this order:
+/// If a call fails, nothing changes. The errors are checked in this order:
 /// - `InvalidMemory`: the stack has too few words.
 /// - `InvalidIndex`: the value is not in 0 to 4,079.
 /// - `StackOverflow`: SP would be below NP.
@@ -132,14 +136,14 @@ pub fn singleton(memory: &mut Memory, sp: u16, np: u16) -> Result<u16, ExecError
     push_words(memory, value.above, np, &interval(value.word, value.word))
 }
 
-/// `SRS`: replaces two signed values by the set of the numbers from the lower value in the stack to the upper one. If
-/// the lower one is the greater, the set has no words. Returns the new SP.
+/// `SRS`: pops two signed values, and pushes the set of the numbers from the lower value in the stack to the upper
+/// value. If the lower value is greater than the upper value, the set has no words. Returns the new SP.
 ///
 /// # Errors
 ///
-/// Nothing changes. Checked in this order:
+/// If a call fails, nothing changes. The errors are checked in this order:
 /// - `InvalidMemory`: the stack has too few words.
-/// - `InvalidIndex`: the lower one is not the greater, and a value is not in 0 to 4,079.
+/// - `InvalidIndex`: the lower value is not greater than the upper value, and one of them is not in 0 to 4,079.
 /// - `StackOverflow`: SP would be below NP.
 #[tactic(auto, unfolding(crate::specs::Sets::subrange_row), using(pm_words::proofs::WatchLaws::stays))]
 pub fn subrange(memory: &mut Memory, sp: u16, np: u16) -> Result<u16, ExecError>
@@ -157,12 +161,12 @@ pub fn subrange(memory: &mut Memory, sp: u16, np: u16) -> Result<u16, ExecError>
     push_words(memory, low.above, np, &interval(low.word, high.word))
 }
 
-/// `ADJ`: replaces a set by its first `words` words, without a count. If the set has fewer words, zeros follow. Returns
-/// the new SP.
+/// `ADJ`: pops a set, and pushes its first `words` words without a count. If the set has fewer words, zeros follow
+/// them. Returns the new SP.
 ///
 /// # Errors
 ///
-/// Nothing changes. Checked in this order:
+/// If a call fails, nothing changes. The errors are checked in this order:
 /// - `InvalidMemory`: the stack does not have the count of the set.
 /// - `InvalidIndex`: the set has more than 255 words.
 /// - `InvalidMemory`: the stack does not have all words of the set.
@@ -182,7 +186,7 @@ pub fn adjust(memory: &mut Memory, sp: u16, np: u16, words: u8) -> Result<u16, E
     Ok(top)
 }
 
-// Replaces two sets by their combination.
+// Pops two sets, and pushes the set that `combination` makes of them.
 #[tactic(auto, using(pm_words::proofs::WatchLaws::stays))]
 fn combine(
     memory: &mut Memory,
@@ -210,8 +214,8 @@ fn combine(
     push_words(memory, lower.above, np, &set)
 }
 
-// Replaces two sets by their combination, if it has as many words as the lower set in the stack. It is written over the
-// lower set.
+// Replaces two sets by the set that `combination` makes of them, if this set has as many words as the lower set in the
+// stack. The words of the new set overwrite the words of the lower set.
 #[inline(always)]
 #[tactic(auto, using(pm_words::proofs::WatchLaws::stays))]
 fn combine_in_place(
@@ -242,7 +246,7 @@ fn combine_in_place(
     Ok(top)
 }
 
-// Overwrites the words of the lower set with those of the combination.
+// Overwrites the words of the set `lower` with the words that `combination` makes of `lower` and `upper`.
 #[inline(always)]
 fn write_combined(memory: &mut Memory, combination: Combination, lower: SetPlace, upper: SetPlace)
     requires lower_even { lower.address % 2 ≡ 0 }
@@ -266,7 +270,7 @@ fn write_combined(memory: &mut Memory, combination: Combination, lower: SetPlace
     }
 }
 
-// Returns the location of the set on top of the stack, without popping it.
+// Returns the location of the set on top of the stack, and does not pop the set.
 #[inline(always)]
 #[tactic(auto, unfolding(crate::specs::Sets::pop_set))]
 fn find_set(memory: &Memory, sp: u16) -> Result<SetPlace, ExecError>
@@ -295,7 +299,7 @@ fn find_set(memory: &Memory, sp: u16) -> Result<SetPlace, ExecError>
     })
 }
 
-// Returns a word of a set in memory, or 0 after its end.
+// Returns the word at `index` of the set at the location `set`, or 0 if `index` is after the last word.
 #[inline(always)]
 fn set_word(memory: &Memory, set: SetPlace, index: usize) -> u16
     requires even { set.address % 2 ≡ 0 }
@@ -332,7 +336,7 @@ pub fn take_set(memory: &Memory, sp: u16) -> Result<StackSet, ExecError>
     })
 }
 
-// Returns `count` words from an even address on.
+// Returns the `count` words of memory from the even address `address` on.
 fn words_on_stack(
     memory: &Memory,
     address: u16,
@@ -352,7 +356,7 @@ fn words_on_stack(
     Ok(words)
 }
 
-// Whether a number is in a set in memory.
+// Returns whether the number `value` is in the set at the location `set`.
 #[tactic(auto, unfolding(crate::specs::Sets::is_member))]
 fn contains(memory: &Memory, set: SetPlace, value: u16) -> bool
     requires even { set.address % 2 ≡ 0 }
@@ -362,15 +366,15 @@ fn contains(memory: &Memory, set: SetPlace, value: u16) -> bool
     (set_word(memory, set, usize::from(value / 16)) >> (value % 16)) % 2 == 1
 }
 
-/// Returns the word at `index`, or 0 after the end.
+/// Returns the word of `words` at `index`, or 0 if `index` is after the last word.
 pub fn word_or_zero(words: &[u16], index: usize) -> u16
     ensures word { result ≡ slice_index words.now index }
 {
     words.get(index).copied().unwrap_or(0)
 }
 
-// Appends the combination of two sets in memory to an empty list of words, its count first. The list belongs to the
-// caller, so that it is not copied.
+// Appends to the empty list `words` the set that `combination` makes of `lower` and `upper`, with its count first. The
+// list belongs to the caller, so that it is not copied.
 #[inline(always)]
 fn combined(
     memory: &Memory,
@@ -403,7 +407,7 @@ fn combined(
     }
 }
 
-// Returns the number of words of the combination of two sets with `lower` and `upper` words.
+// Returns the number of words of the set that `combination` makes of two sets with `lower` and `upper` words.
 fn combined_count(combination: Combination, lower: usize, upper: usize) -> usize
     ensures count { result ≡ count_of combination lower upper }
 {
@@ -414,7 +418,7 @@ fn combined_count(combination: Combination, lower: usize, upper: usize) -> usize
     }
 }
 
-// Returns the combination of two words of sets.
+// Returns the word that `combination` makes of the words `lower` and `upper` of two sets.
 fn combined_word(combination: Combination, lower: u16, upper: u16) -> u16
     ensures word { result ≡ combined_word combination lower upper }
 {
@@ -425,7 +429,7 @@ fn combined_word(combination: Combination, lower: u16, upper: u16) -> u16
     }
 }
 
-// Returns the set of the numbers from `low` to `high`, its count first.
+// Returns the set of the numbers from `low` to `high`, with its count first.
 fn interval(low: u16, high: u16) -> ArrayVec<u16, COUNTED_WORDS>
     requires order { low ≤ high }
     requires bound { high ≤ 4079 }
@@ -441,7 +445,8 @@ fn interval(low: u16, high: u16) -> ArrayVec<u16, COUNTED_WORDS>
     words
 }
 
-// Returns the word with the numbers `first` to `first + 15` of the set of the numbers from `low` to `high`.
+// Returns one word of the set of the numbers from `low` to `high`: the word that has the bits for the numbers `first`
+// to `first + 15`.
 fn interval_word(low: u16, high: u16, first: u16) -> u16
     requires order { low ≤ high }
     requires bound { high ≤ 4079 }
@@ -452,7 +457,8 @@ fn interval_word(low: u16, high: u16, first: u16) -> u16
     ((1u32 << to) - (1u32 << from)) as u16
 }
 
-// Copies the first `count` words of a set to an even address. If the set has fewer words, zeros follow.
+// Copies the first `count` words of the set at the location `set` to the even address `to`. If the set has fewer words,
+// zeros follow them.
 #[inline(always)]
 fn resize(memory: &mut Memory, set: SetPlace, to: u16, count: u16)
     requires even { set.address % 2 ≡ 0 }

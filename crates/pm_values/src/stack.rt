@@ -1,4 +1,4 @@
-//! Pushing several words.
+//! A stack operation that pushes several words.
 
 ghost use Rattle.std.specs.Prelude.{◌≡◌, ◌%◌, ◌≤◌, IfOk, length};
 ghost use Rattle.pm_words.specs.Stack.{IsStack, Changes};
@@ -6,7 +6,7 @@ ghost use Rattle.pm_values.specs.Several.{push_words};
 
 use pm_words::{ExecError, Memory};
 
-/// Pushes words, the first of them on top of the stack, and returns the new SP.
+/// Pushes the items of `words`, so that the first item is on top of the stack, and returns the new SP.
 ///
 /// # Errors
 ///

@@ -1,4 +1,5 @@
-//! Strings in memory.
+//! The rules of the instructions on strings. A string is in memory: a byte with the number of characters, then the
+//! characters.
 
 ghost use Rattle.std.specs.Prelude.{◌≡◌, ◌≤◌, IfOk, MatchResult, Ok, Err, length};
 ghost use Rattle.pm_words.specs.Stack.{IsStack, Changes};
@@ -8,13 +9,13 @@ ghost use Rattle.pm_values.specs.Strings.{assign_row, index_string_row, string_a
 use pm_words::stack::pop;
 use pm_words::{ExecError, Memory};
 
-/// `IXS`: checks that the index on top of the stack is not above the length of the string whose address is below it.
-/// Both remain on the stack. Returns SP, which is unchanged, as is everything else.
+/// `IXS`: checks that the index on top of the stack is not greater than the length of the string. The address of the
+/// string is the word below the index. Both words remain on the stack. Returns SP. Nothing changes.
 ///
 /// # Errors
 ///
 /// - `InvalidMemory`: the stack has too few words.
-/// - `InvalidIndex`: the index is above the length of the string. Both are unsigned.
+/// - `InvalidIndex`: the index is greater than the length of the string. Both numbers are unsigned.
 #[tactic(auto, unfolding(crate::specs::Strings::index_string_row), using(pm_words::proofs::WatchLaws::stays))]
 pub fn index_string(memory: &mut Memory, sp: u16, np: u16) -> Result<u16, ExecError>
     ensures row { Changes result memory.old memory.new (index_string_row memory.old.words sp np) }
@@ -28,12 +29,13 @@ pub fn index_string(memory: &mut Memory, sp: u16, np: u16) -> Result<u16, ExecEr
     Ok(sp)
 }
 
-/// `SAS`: pops a source and a destination address, and writes the length and characters of the source at the
-/// destination. Returns the new SP. A source below 256 is a character, any other is the address of a string.
+/// `SAS`: pops a source and a destination address, and writes the length and the characters of the source at the
+/// destination. Returns the new SP. If the source is below 256, it is one character; otherwise it is the address of a
+/// string.
 ///
 /// # Errors
 ///
-/// Nothing changes. Checked in this order:
+/// If a call fails, nothing changes. The errors are checked in this order:
 /// - `InvalidMemory`: the stack has too few words, or the source extends after the end of memory.
 /// - `StringTooLong`: the source has more than `limit` characters.
 /// - `InvalidMemory`: the destination extends after the end of memory.

@@ -1,8 +1,8 @@
-//! Computed values of fields and sets. The function does nothing.
+//! Worked examples of fields and sets. The checker computes them; the function has an empty body.
 
 ghost use Rattle.pm_values.specs.Worked.{WorkedValues};
 
-/// The values of the definitions for a few words, computed.
+/// States the values of the definitions of fields and sets for a few words (see `WorkedValues`).
 #[tactic(auto, using(crate::proofs::Computed::worked_values))]
 pub fn worked_values()
     ensures law { WorkedValues }

@@ -1,4 +1,6 @@
--- Laws of ranges: a word or a byte after a copy, and the conditions under which a copy byte by byte is a copy at once.
+-- Laws of ranges of memory: a word or a byte after a copy, and when a copy one by one equals a copy of all bytes at
+-- once. `touched` is *updated for* some bytes if it is true afterwards exactly if it was true before or one of these
+-- bytes belongs to a watched word.
 use Rattle.std.proofs.Common.{◌≡◌, ◌≢◌, ℕ, zero, suc, ◌+◌, ◌-◌, ◌*◌, ◌/◌, ◌%◌, ◌<◌, ◌≤◌, ◌⊎◌, List, [], ◌∷◌, length}
 use Rattle.std.proofs.Common.{drop, get_or, replicate, refl, sym, ap, ◌∙◌, subst, arith, inl, inr, ⊎_elim, nat_lt}
 use Rattle.std.specs.Prelude.{IsTrue, ◌↔◌}
@@ -13,7 +15,7 @@ use Rattle.pm_words.proofs.Pairs.{words_of-bytes_of}
 use Rattle.pm_words.proofs.Laws.{AreMemoryBytes-bytes_of, IsMemory-with_bytes, get_or-with_words_other, byte_at-even, byte_at-odd, byte_at-with_bytes}
 use Rattle.pm_words.proofs.Laws.{byte_at-with_bytes_other, word_at-bytes, word_at-with_word, word_at-with_word_other}
 
--- The items of a range of a memory are bytes.
+-- All items of `bytes_at` of a memory are below 256.
 pub All-bytes_at : (ws : List ℕ) (a n : ℕ) → IsMemory ws → All (λ b. b < 256) (bytes_at ws a n)
 unfolding bytes_at
 All-bytes_at ws a n h =
@@ -29,7 +31,7 @@ unfolding bytes_at byte_at
 get_or-bytes_at ws a n k h =
     get_or-take n (drop a (bytes_of ws)) k 0 h ∙ get_or-drop a (bytes_of ws) k 0
 
--- The low byte of a word after it is written.
+-- If `x` equals the even address `a`, then the byte at `x` after the word `w` is written at `a` is the low byte of `w`.
 pub byte_at-with_word_low : (ws : List ℕ) (a x w : ℕ) → a % 2 ≡ 0 → a / 2 < length ws → x ≡ a → byte_at (with_word ws a w) x ≡ w % 256
 byte_at-with_word_low ws a x w even h e =
     let place : x % 2 ≡ 0 = omega arith in
@@ -41,7 +43,8 @@ byte_at-with_word_high ws a x w even h e =
     let same : x - 1 ≡ a = omega arith in
     byte_at-odd (with_word ws a w) x place ∙ ap (λ v. v / 256) (word_at-with_word ws a (x - 1) w same h)
 
--- Writing a word does not change any other byte.
+-- If address `x` is neither `a` nor `a + 1`, then writing a word at the even address `a` does not change the byte at
+-- `x`.
 pub byte_at-with_word_other : (ws : List ℕ) (a x w : ℕ) → a % 2 ≡ 0 → (x < a) ⊎ (a + 1 < x) → byte_at (with_word ws a w) x ≡ byte_at ws x
 byte_at-with_word_other ws a x w even away =
     ⊎_elim
@@ -55,7 +58,7 @@ byte_at-with_word_other ws a x w even away =
     ∙ sym (byte_at-odd ws x place)))
     (cases_eq (x % 2) 0)
 
--- Writing bytes does not change a word that has none of them.
+-- If the even address `x` has none of the written bytes, then the word at `x` is unchanged.
 pub word_at-with_bytes_other : (ws ys : List ℕ) (a x : ℕ) → IsMemory ws → a + length ys ≤ 65536 → All (λ b. b < 256) ys → x % 2 ≡ 0
     → (x + 1 < a) ⊎ (a + length ys ≤ x) → word_at (with_bytes ws a ys) x ≡ word_at ws x
 word_at-with_bytes_other ws ys a x h room fit even away =
@@ -63,7 +66,8 @@ word_at-with_bytes_other ws ys a x h room fit even away =
     let high = byte_at-with_bytes_other ws ys a (x + 1) h room fit (⊎_elim (λ l. inl l) (λ r. inr (omega arith)) away) in
     rw (word_at-bytes (with_bytes ws a ys) x even, word_at-bytes ws x even, low, high) refl
 
--- The bytes after a copy.
+-- If address `x` is in the target range of a copy, then its byte is the old byte at the same offset of the source
+-- range.
 pub byte_at-copied : (ws : List ℕ) (from to n x : ℕ) → IsMemory ws → from + n ≤ 65536 → to + n ≤ 65536 → to ≤ x → x < to + n
     → byte_at (copied ws from to n) x ≡ byte_at ws (from + (x - to))
 unfolding copied
@@ -79,7 +83,8 @@ byte_at-copied_other ws from to n x h source room away =
     let size = length-bytes_at ws from n h source in
     byte_at-with_bytes_other ws (bytes_at ws from n) to x h (omega arith) (All-bytes_at ws from n h) (⊎_elim (λ l. inl l) (λ r. inr (omega arith)) away)
 
--- The words after a copy from an even address to an even address.
+-- If both addresses of a copy are even, then a word in the target range is the old word at the same offset of the
+-- source.
 pub word_at-copied : (ws : List ℕ) (from to n x : ℕ) → IsMemory ws → from + n ≤ 65536 → to + n ≤ 65536 → from % 2 ≡ 0 → to % 2 ≡ 0 → x % 2 ≡ 0 → to ≤ x
     → x + 1 < to + n → word_at (copied ws from to n) x ≡ word_at ws (from + (x - to))
 word_at-copied ws from to n x h source room f t even low high =
@@ -102,7 +107,7 @@ IsMemory-copied ws from to n h source room =
     let size = length-bytes_at ws from n h source in
     IsMemory-with_bytes ws (bytes_at ws from n) to h (omega arith) (All-bytes_at ws from n h)
 
--- Two memories with the same bytes are equal.
+-- If two memories have the same bytes at `x` and `x + 1`, and `x` is even, then they have the same word at `x`.
 same_word : (ws vs : List ℕ) (x : ℕ) → x % 2 ≡ 0 → byte_at ws x ≡ byte_at vs x → byte_at ws (x + 1) ≡ byte_at vs (x + 1) → word_at ws x ≡ word_at vs x
 same_word ws vs x even first second =
     rw (word_at-bytes ws x even, word_at-bytes vs x even, first, second) refl
@@ -117,7 +122,7 @@ same_memories ws vs h k same =
     (λ i l. sym (word_at-twice ws i) ∙ (same_word ws vs (2 * i) (omega arith) (same (2 * i) (omega (arith, h.size))) (same (2 * i + 1) (omega (arith, h.size)))
     ∙ word_at-twice vs i))
 
--- ---- copies byte by byte
+-- ---- laws of copies one by one
 
 byte_at-below : (ws : List ℕ) (a : ℕ) → IsMemory ws → a < 65536 → byte_at ws a < 256
 unfolding byte_at
@@ -149,7 +154,8 @@ copied-none ws from to =
     let e : to + 0 ≡ to = omega arith in
     rw (append-nil, e, take-append-drop to (bytes_of ws)) (words_of-bytes_of ws)
 
--- If no byte is read that was written, copying the first byte and then the others is copying all at once.
+-- Let a copy, the lowest address first, read no byte that it has written. Then copying the first byte and then the
+-- other `n` bytes has the same result as copying all at once.
 copied-first : (ws : List ℕ) (from to n : ℕ) → IsMemory ws → from + suc n ≤ 65536 → to + suc n ≤ 65536 → (to ≤ from) ⊎ (from + suc n ≤ to)
     → copied (with_byte ws to (byte_at ws from)) (suc from) (suc to) n ≡ copied ws from to (suc n)
 copied-first ws from to n h source room apart =
@@ -179,7 +185,8 @@ copied-first ws from to n h source room apart =
     (cases_lt x (to + suc n)))
     (cases_lt x to))
 
--- A copy of ascending bytes is a copy at once if the target is below the source or the ranges do not overlap.
+-- Let the target be at or below the source, or let the two ranges not overlap. Then a copy one by one, the lowest
+-- address first, has the same result as a copy of all bytes at once.
 pub moved_up-copied : (n : ℕ) (ws : List ℕ) (from to : ℕ) → IsMemory ws → from + n ≤ 65536 → to + n ≤ 65536 → (to ≤ from) ⊎ (from + n ≤ to)
     → moved_up ws from to n ≡ copied ws from to n
 unfolding moved_up
@@ -190,7 +197,8 @@ moved_up-copied (suc n) ws from to h source room apart =
     (omega arith) (⊎_elim (λ l. inl (omega arith)) (λ r. inr (omega arith)) apart)
     ∙ copied-first ws from to n h source room apart
 
--- If no byte is read that was written, copying the last byte and then the others is copying all at once.
+-- Let a copy, the highest address first, read no byte that it has written. Then copying the last byte and then the
+-- other `n` bytes has the same result as copying all at once.
 copied-last : (ws : List ℕ) (from to n : ℕ) → IsMemory ws → from + suc n ≤ 65536 → to + suc n ≤ 65536 → (from ≤ to) ⊎ (to + suc n ≤ from)
     → copied (with_byte ws (to + n) (byte_at ws (from + n))) from to n ≡ copied ws from to (suc n)
 copied-last ws from to n h source room apart =
@@ -220,7 +228,8 @@ copied-last ws from to n h source room apart =
     (cases_lt x (to + suc n)))
     (cases_lt x to))
 
--- A copy of descending bytes is a copy at once if the target is above the source or the ranges do not overlap.
+-- Let the target be at or above the source, or let the two ranges not overlap. Then a copy one by one, the highest
+-- address first, has the same result as a copy of all bytes at once.
 pub moved_down-copied : (n : ℕ) (ws : List ℕ) (from to : ℕ) → IsMemory ws → from + n ≤ 65536 → to + n ≤ 65536 → (from ≤ to) ⊎ (to + n ≤ from)
     → moved_down ws from to n ≡ copied ws from to n
 unfolding moved_down
@@ -236,13 +245,13 @@ pub ruleset byte_laws = (byte_at-with_byte, byte_at-with_byte_other, byte_at-wit
 
 pub ruleset copy_laws = (word_at-copied, word_at-copied_other, byte_at-copied, byte_at-copied_other, IsMemory-copied)
 
--- ---- the watch
+-- ---- laws of watched words after copies and fills
 
 word_at-half : (ws : List ℕ) (x : ℕ) → word_at ws (2 * (x / 2)) ≡ word_at ws x
 unfolding word_at
 word_at-half ws x = let half : 2 * (x / 2) / 2 ≡ x / 2 = omega arith in rw half refl
 
--- A word that has none of the written bytes has its old value.
+-- If none of the written bytes is in the word that contains address `x`, then this word is unchanged.
 watched_word_stays : (ws ys : List ℕ) (a x : ℕ) → IsMemory ws → a + length ys ≤ 65536 → All (λ b. b < 256) ys
     → ((y : ℕ) → a ≤ y → y < a + length ys → y / 2 ≡ x / 2 → ⊥) → word_at (with_bytes ws a ys) x ≡ word_at ws x
 watched_word_stays ws ys a x h room fit none =
@@ -269,7 +278,7 @@ WatchStays-with_bytes m n a ys h room fit words watched touched = record {
       (λ y low high e. false≢true (sym no ∙ touched.1 (inr (y, low, high, subst (λ k. IsTrue (nat_lt 0 (times m.watched k))) (sym e) set)))));
 }
 
--- A copy keeps the watch.
+-- If a copy changes `m` into `n`, and `touched` is updated for the target range, then `WatchStays m n` holds.
 pub WatchStays-copied : (m n : Contents) (from to k : ℕ) → IsMemory m.words → from + k ≤ 65536 → to + k ≤ 65536 → n.words ≡ copied m.words from to k
     → n.watched ≡ m.watched → IsTrue n.touched ↔ (IsTrue m.touched ⊎ IsSomeWatched m.watched to k) → WatchStays m n
 unfolding copied
@@ -277,7 +286,7 @@ WatchStays-copied m n from to k h source room words watched touched =
     let size = length-bytes_at m.words from k h source in
     WatchStays-with_bytes m n to (bytes_at m.words from k) h (omega arith) (All-bytes_at m.words from k h) words watched (rw size touched)
 
--- A fill keeps the watch.
+-- If a fill changes `m` into `n`, and `touched` is updated for the filled range, then `WatchStays m n` holds.
 pub WatchStays-filled : (m n : Contents) (a k b : ℕ) → IsMemory m.words → a + k ≤ 65536 → b < 256 → n.words ≡ filled m.words a k b → n.watched ≡ m.watched
     → IsTrue n.touched ↔ (IsTrue m.touched ⊎ IsSomeWatched m.watched a k) → WatchStays m n
 unfolding filled
@@ -285,7 +294,8 @@ WatchStays-filled m n a k b h room fit words watched touched =
     let size = length-replicate k b in
     WatchStays-with_bytes m n a (replicate k b) h (omega arith) (All-replicate (λ x. x < 256) k b fit) words watched (rw size touched)
 
--- Writing words from an even address on keeps the watch.
+-- If writing the words `vs` changes `m` into `n`, and `touched` is updated for these words, then `WatchStays m n`
+-- holds.
 pub WatchStays-with_words : (m n : Contents) (a : ℕ) (vs : List ℕ) → IsMemory m.words → a % 2 ≡ 0 → a + 2 * length vs ≤ 65536
     → n.words ≡ with_words m.words a vs → n.watched ≡ m.watched
     → IsTrue n.touched ↔ (IsTrue m.touched ⊎ IsSomeWatched m.watched a (2 * length vs)) → WatchStays m n

@@ -1,4 +1,4 @@
--- Words as signed numbers (a word from 32,768 on represents itself less 65,536), and truth values as words.
+-- Words as signed numbers, and truth values as words. A word of 32,768 or more represents this word less 65,536.
 use Rattle.std.specs.Prelude.{ℕ, ◌-◌, ◌%◌, Bool, ℤ, pos, negsuc, if◌then◌else◌}
 use Rattle.std.specs.Int.{w16, cast_signed}
 

@@ -1,12 +1,13 @@
 //! Fixed addresses of the memory.
 
-/// The end of the stack: SP if the stack is empty, and the SP that the system's frame saves.
+/// The address of the end of the stack: the value of SP if the stack is empty, and the SP that the system's frame
+/// saves.
 pub const STACK_END: u16 = 65_504;
 
-/// The address of the highest word that the stack can hold. A segment cannot end above it.
+/// The address of the highest word that the stack can hold. A loaded segment ends at this word or at a lower address.
 pub const HIGHEST_WORD: u16 = 65_502;
 
-/// The address of the system's frame, which ends every chain of frames.
+/// The address of the system's frame, which is the last frame of every chain of static or dynamic links.
 pub const SYSTEM_FRAME: u16 = 65_492;
 
 /// The address at which the heap, or bare code, begins.

@@ -1,4 +1,4 @@
-//! The memory of the p-machine, the execution errors, and the stack operations of which instruction rules consist.
+//! The memory of the p-machine, the execution errors, and the stack operations that the rules of instructions use.
 #![tactic(auto)]
 
 mod error;

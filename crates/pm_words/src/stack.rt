@@ -1,5 +1,5 @@
-//! The stack operations of which instruction rules consist. The stack grows down: SP is the address of the word on top
-//! of it. SP is never below NP, the top of the heap.
+//! The stack operations that the rules of instructions use. The stack grows down: SP is the address of the word on top
+//! of the stack. SP is never below NP, the address at which the heap ends.
 
 ghost use Rattle.std.specs.Prelude.{◌≡◌, ℕ, IfOk};
 ghost use Rattle.pm_words.specs.Stack.{Changes, IsStack, Writes, load, pop, push, store};
@@ -35,7 +35,7 @@ pub fn store(memory: &mut Memory, address: u16, word: u16) -> Result<(), ExecErr
     }
 }
 
-/// A word that was popped.
+/// A word that was popped, and SP after the pop.
 #[derive(Clone, Copy)]
 pub struct Popped {
     /// The word that was on the top of the stack.
@@ -44,11 +44,11 @@ pub struct Popped {
     pub above: u16,
 }
 
-/// Returns the word on top of the stack, and SP after the pop.
+/// Returns the word on top of the stack (at address `sp`), and SP after the pop.
 ///
 /// # Errors
 ///
-/// `InvalidMemory`: SP would be above 65,504, or is odd.
+/// `InvalidMemory`: SP after the pop would be above 65,504, or `sp` is odd.
 #[inline(always)]
 pub fn pop(memory: &Memory, sp: u16) -> Result<Popped, ExecError>
     ensures row { result ≡ pop memory.now.words sp }
@@ -64,13 +64,13 @@ pub fn pop(memory: &Memory, sp: u16) -> Result<Popped, ExecError>
     })
 }
 
-/// Pushes `word` and returns the new SP.
+/// Pushes `word` on the stack, and returns the new SP.
 ///
 /// # Errors
 ///
-/// Nothing changes. Checked in this order:
-/// - `StackOverflow`: SP would be below NP.
-/// - `InvalidMemory`: SP is odd.
+/// If a call fails, nothing changes. The errors are checked in this order:
+/// - `StackOverflow`: the new SP would be below `np`.
+/// - `InvalidMemory`: `sp` is odd.
 #[inline(always)]
 pub fn push(memory: &mut Memory, sp: u16, np: u16, word: u16) -> Result<u16, ExecError>
     ensures row { Changes result memory.old memory.new (push memory.old.words sp np word) }

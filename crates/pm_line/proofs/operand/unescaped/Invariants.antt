@@ -3,7 +3,7 @@ use Rattle.pm_source.specs.Line.{unescaped}
 use Rattle.pm_line.specs.Views.{onto_bytes}
 use Rattle.pm_line.proofs.operand.unescaped.Given as goal
 
--- The bytes so far, followed by those of the remaining text, are all bytes.
+-- The bytes so far, followed by the bytes of the remaining text, are all bytes.
 abbrev pub invariant-bytes : goal.invariant-bytes
 invariant-bytes l = onto_bytes l.bytes.items (unescaped l.rest) ≡ unescaped l.text
 

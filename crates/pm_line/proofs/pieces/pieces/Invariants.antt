@@ -4,7 +4,7 @@ use Rattle.pm_source.specs.Line.{pieces}
 use Rattle.pm_line.specs.Views.{pieces_behind, text_seen, texts_seen, left}
 use Rattle.pm_line.proofs.pieces.pieces.Given as goal
 
--- The pieces so far, followed by those of the remaining text, are all pieces.
+-- The pieces so far, followed by the pieces of the remaining text, are all pieces.
 abbrev pub invariant-pieces : goal.invariant-pieces
 invariant-pieces l = texts_seen l.list.items ++ map trimmed (pieces_behind (option_map text_seen l.rest)) ≡ map trimmed (pieces false l.text)
 

@@ -2,7 +2,7 @@ use Rattle.std.proofs.Common.{◌≡◌, ◌≤◌, length, reverse, take}
 use Rattle.pm_source.specs.Words.{unindented}
 use Rattle.pm_line.proofs.words.without_end_blanks.Given as goal
 
--- The removed characters are spaces and tabs.
+-- The characters after the first `count` are spaces and tabs.
 abbrev pub invariant-blanks : goal.invariant-blanks
 invariant-blanks l = record {
   within : l.count ≤ length l.text;

@@ -5,7 +5,7 @@ use Rattle.pm_reader.specs.Reader.{reader_seen}
 use Rattle.pm_reader.proofs.Numbering.{seen_from}
 use Rattle.pm_reader.proofs.reading.counts_of.Given as goal
 
--- The result so far, updated with the remaining lines, is the whole result.
+-- If the remaining lines are read in the state of the reader, then the result is the state after all lines.
 abbrev pub invariant-loop-part : goal.invariant-loop-part
 invariant-loop-part l = record {
   count : l.number ≡ length l.yielded;

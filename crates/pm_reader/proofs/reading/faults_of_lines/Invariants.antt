@@ -5,7 +5,7 @@ use Rattle.pm_reader.specs.Reader.{reader_seen}
 use Rattle.pm_reader.proofs.Numbering.{seen_from}
 use Rattle.pm_reader.proofs.reading.faults_of_lines.Given as goal
 
--- The faults so far, followed by those of the remaining lines, are all faults.
+-- The faults so far, followed by the first faults of the remaining lines, are the first faults of all lines.
 abbrev pub invariant-loop-part : goal.invariant-loop-part
 invariant-loop-part l = record {
   count : l.number ≡ length l.yielded;

@@ -5,7 +5,8 @@ use Rattle.pm_reader.specs.Reader.{reader_seen}
 use Rattle.pm_reader.proofs.Numbering.{seen_from}
 use Rattle.pm_reader.proofs.reading.source_of.Given as goal
 
--- The result so far, updated with the remaining lines, is the whole result. Only the remaining lines can have faults.
+-- If the remaining lines are read in the state of the reader, then the result is the state after all lines. Only the
+-- remaining lines can have faults.
 abbrev pub invariant-loop-part : goal.invariant-loop-part
 invariant-loop-part l = record {
   count : l.number ≡ length l.yielded;

@@ -4,7 +4,7 @@ use Rattle.pm_source.specs.Faults.{lines_from}
 use Rattle.pm_reader.proofs.Ends.{IsUntil}
 use Rattle.pm_reader.proofs.reading.until_last_end.Given as goal
 
--- The last of the lines so far that ends a procedure.
+-- `until` is the number of the last of the first `number` lines that ends a procedure, or 0.
 abbrev pub invariant-loop-part : goal.invariant-loop-part
 invariant-loop-part l = record {
   count : l.number ≡ length l.yielded;

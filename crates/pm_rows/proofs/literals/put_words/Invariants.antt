@@ -4,7 +4,7 @@ use Rattle.pm_words.specs.Watch.{WatchStays}
 use Rattle.pm_words.specs.Words.{with_words}
 use Rattle.pm_rows.proofs.literals.put_words.Given as goal
 
--- The words written so far are in memory from `at` on.
+-- The words that the loop has written are in memory from address `at` on, the last one first.
 abbrev pub invariant-loop-word : goal.invariant-loop-word
 invariant-loop-word l = record {
   place : l.at + 2 * l.word-index ≡ l.sp;

@@ -35,14 +35,14 @@ loop-start-preserved c =
 pub add_line-requires : goal.add_line-requires
 add_line-requires c = record { fits = coded-fits _ _ _ c.in_ok-check_line.ensures.sound }
 
--- no line remains at the end, so there is no fault
+-- When the loop ends, no line remains, so the text has no fault.
 no_fault : (c : In_ok-fill) → text_fault c.args.text.now ≡ None
 unfolding text_lines lines_fault
 no_fault c =
     sym c.loop-start.invariant.faults
     ∙ at_drop_all (λ rest. lines_fault c.loop-start.start c.loop-start.number (text_lines rest)) c.args.text.now c.loop-start.start (omega arith)
 
--- and what remains is the padding of the last page
+-- When the loop ends, the padding of the last page completes the file.
 pages_laid : (c : In_ok-fill) → c.fill.new.self.bytes.items ≡ replicate 1024 0 ++ laid 0 (text_lines c.args.text.now)
 unfolding text_lines laid
 pages_laid c =

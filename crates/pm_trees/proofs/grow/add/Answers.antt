@@ -10,7 +10,7 @@ use Rattle.pm_trees.proofs.Ends.{reverse_last}
 use Rattle.pm_trees.proofs.Written.{added_in}
 use Rattle.pm_trees.proofs.grow.add.Goals as goal
 
--- The operands are the last of the pending trees.
+-- The clause `texts`. The operands of the added part are the last of the pending trees.
 pub returns-clause-texts : goal.returns-clause-texts
 returns-clause-texts c =
     let a : Around = c.args.around in

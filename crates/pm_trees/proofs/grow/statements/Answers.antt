@@ -5,7 +5,7 @@ use Rattle.pm_trees.specs.Piles.{Texts, closed_texts, texts_in}
 use Rattle.pm_trees.proofs.Written.{added_none, both_parts, text_grows}
 use Rattle.pm_trees.proofs.grow.statements.Goals as goal
 
--- After the last part nothing is added.
+-- After the last part of the code, no part remains to be added.
 pub returns : goal.returns
 returns c = record {
   statements =

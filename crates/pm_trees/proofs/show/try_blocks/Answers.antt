@@ -8,7 +8,7 @@ use Rattle.pm_trees.specs.Blocks.{end_here, end_lines, is_empty, open_after, ope
 use Rattle.pm_trees.proofs.Growing.{growing_done, growing_step}
 use Rattle.pm_trees.proofs.show.try_blocks.Goals as goal
 
--- A value for an index after the end of the list.
+-- A statement that is returned for an index after the end of the list.
 abbrev nothing : Statement
 nothing = record { at = 0; behind = 0; leads = leads.Nowhere }
 

@@ -7,7 +7,7 @@ use Rattle.pm_trees.specs.declared.statement.Statement.{Statement}
 use Rattle.pm_trees.proofs.BlockEnds.{ends_done, ends_step}
 use Rattle.pm_trees.proofs.backs.Backs.of.Goals as goal
 
--- A value for an index after the end of the list.
+-- A statement that is returned for an index after the end of the list.
 abbrev nothing : Statement
 nothing = record { at = 0; behind = 0; leads = leads.Nowhere }
 

@@ -4,7 +4,7 @@ use Rattle.pm_trees.specs.Backs.Way.{Always, ByCondition, ByValue}
 use Rattle.pm_trees.specs.declared.statement.Statement.{Statement}
 use Rattle.pm_trees.proofs.backs.Backs.of.Given as goal
 
--- The ends so far, updated with the remaining statements, are the ends of all statements.
+-- States that the ends so far, updated with the remaining statements, are the ends of all statements.
 abbrev SoFar : List ℕ → Way → ℕ → List Statement → Type 0
 SoFar ends w i ss = (p : ℕ) → back_end w p (written ends p) (drop i ss) ≡ loop_end w p ss
 

@@ -1,6 +1,7 @@
 //! The files of a volume, written to a folder.
 ghost use Rattle.std.specs.Prelude.{◌≡◌, ◌++◌, ◌∷◌, [], IfOk, OnErr, OnOk, codes, map, string_bytes};
 ghost use Rattle.pm_export.specs.Exported.{Adds, AddsOne, AddsSome, FillsFolder, IsBrokenOff, names_of};
+ghost use Rattle.pm_files.specs.Folders.{IsAt};
 ghost use Rattle.pm_folder.specs.Folder.{folder_of, seen};
 
 use pm_files::{DiskFault, Folder};
@@ -48,6 +49,7 @@ fn add_files<F: Folder>(
     ensures adds { OnOk result (Adds (F.files folder.old) (F.files folder.new) (map seen files.now)
         (string_bytes list.old) (string_bytes list.new) (names_of unwritten.old.items)
         (names_of unwritten.new.items)) }
+    ensures at { F.at folder.new ≡ F.at folder.old }
     ensures some { OnErr result (AddsSome (F.files folder.old) (F.files folder.new) (map seen files.now)) }
 {
     match files {
@@ -71,6 +73,7 @@ fn add_list<F: Folder>(
 ) -> Result<(), DiskFault>
     ensures adds { OnOk result (AddsOne (F.files folder.old) (F.files folder.new) (codes "LIST") list.now
         (names_of unwritten.old.items) (names_of unwritten.new.items)) }
+    ensures at { F.at folder.new ≡ F.at folder.old }
     ensures unchanged { OnErr result (F.files folder.new ≡ F.files folder.old) }
 {
     match folder.add(LIST, list.as_bytes()) {
@@ -100,6 +103,7 @@ pub fn export<F: Folder>(
 ) -> Result<Vec<Unwritten>, DiskFault>
     ensures filled { IfOk result (λ unwritten. FillsFolder (F.files folder.new) volume.now
         (folder_of text wanted.now volume.now) (names_of unwritten.items)) }
+    ensures at { OnOk result (IsAt (F.at folder.new) path.now) }
     ensures broken { OnErr result (IsBrokenOff (F.files folder.old) (F.files folder.new)
         (folder_of text wanted.now volume.now)) }
 {

@@ -1,6 +1,9 @@
 -- The contents of the files of a folder, if they are known.
-use Rattle.std.specs.Prelude.{◌≡◌, ◌≢◌, ℕ, List, ⊤, Option, None, Some}
+use Rattle.std.specs.Prelude.{◌≡◌, ◌≢◌, ◌⊎◌, ◌<◌, ℕ, List, ⊤, Option, None, Some, length}
 use Rattle.pm_files.specs.Held.{Files}
+use Rattle.pm_files.specs.declared.fault.DiskFault.{DiskFault}
+use Rattle.pm_files.specs.declared.fault.DiskFault.TheVariants.{NoMemory}
+use Rattle.pm_files.specs.declared.image.TheConstants.{IMAGE_LIMIT}
 
 -- The folder has no file.
 abbrev pub IsEmptyFolder : Files → Type 0
@@ -13,3 +16,14 @@ AddsFile None new name bytes = ⊤
 AddsFile (Some files) None name bytes = ⊥
 AddsFile (Some files) (Some after) name bytes = (files name ≡ None) × (after name ≡ Some bytes)
     × ((other : List ℕ) → other ≢ name → after other ≡ files other)
+
+-- The folder was created or opened at this path.
+abbrev pub IsAt : Option (List ℕ) → List ℕ → Type 0
+IsAt None path = ⊤
+IsAt (Some at) path = at ≡ path
+
+-- A read of a file fails only if the file does not exist, if it has more than 33,554,432 bytes, or if memory runs out.
+abbrev pub MayFail : Files → List ℕ → DiskFault → Type 0
+MayFail None name fault = ⊤
+MayFail (Some files) name fault = (files name ≡ None) ⊎ ((fault ≡ NoMemory)
+    ⊎ ((bytes : List ℕ) × (files name ≡ Some bytes) × (IMAGE_LIMIT < length bytes)))

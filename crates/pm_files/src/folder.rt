@@ -1,6 +1,6 @@
 //! A folder that is created or opened once, and its files.
-ghost use Rattle.std.specs.Prelude.{◌≡◌, ℕ, List, Option, None, IfOk, OnErr, OnOk};
-ghost use Rattle.pm_files.specs.Folders.{AddsFile, IsEmptyFolder};
+ghost use Rattle.std.specs.Prelude.{◌≡◌, ℕ, List, Option, None, IfErr, IfOk, OnErr, OnOk};
+ghost use Rattle.pm_files.specs.Folders.{AddsFile, IsAt, IsEmptyFolder, MayFail};
 ghost use Rattle.pm_files.specs.Held.{HoldsFile};
 
 use crate::fault::DiskFault;
@@ -21,23 +21,31 @@ pub trait Folder {
     /// What each file of the folder contains, where that is known.
     ghost files: { Self → Option (List ℕ → Option (List ℕ)) };
 
+    /// The path at which the folder was created or opened, where that is known.
+    ghost at: { Self → Option (List ℕ) };
+
     /// Creates the folder. Nothing may exist at the path. The parent folder must exist.
     fn create(&mut self, path: &str) -> Result<(), DiskFault>
         ensures empty { OnOk result (IsEmptyFolder (files self.new)) }
+        ensures at { OnOk result (IsAt (at self.new) path.now) }
         ensures unchanged { OnErr result (files self.new ≡ files self.old) };
 
     /// Opens a folder that exists.
-    fn open(&mut self, path: &str) -> Result<(), DiskFault>;
+    fn open(&mut self, path: &str) -> Result<(), DiskFault>
+        ensures at { OnOk result (IsAt (at self.new) path.now) };
 
     /// Creates a file in the folder. No file is replaced and no link is followed. After an error, no file has been
     /// created.
     fn add(&mut self, name: &str, bytes: &[u8]) -> Result<(), DiskFault>
         ensures adds { OnOk result (AddsFile (files self.old) (files self.new) name.now bytes.now) }
+        ensures at { at self.new ≡ at self.old }
         ensures unchanged { OnErr result (files self.new ≡ files self.old) };
 
     /// Returns the contents of a regular file of the folder, of at most `IMAGE_LIMIT` bytes. No link is followed.
     fn read(&mut self, alloc: Global, name: &str) -> Result<Vec<u8>, DiskFault>
         ensures value { IfOk result (λ bytes. HoldsFile (files self.old) name.now bytes.items) }
+        ensures fault { IfErr result (λ fault. MayFail (files self.old) name.now fault) }
+        ensures at { at self.new ≡ at self.old }
         ensures unchanged { files self.new ≡ files self.old };
 }
 
@@ -59,8 +67,16 @@ pub struct HostFolder<'a, R: Host> {
     opened: Option<Opened<R::File>>,
 }
 
-/// Returns a path in a folder.
+/// Returns the path of a file of a folder.
+///
+/// # Errors
+///
+/// - `Read(InvalidInput)`: the name contains a slash, so that the path could lead out of the folder.
+/// - `NoMemory`.
 fn joined(alloc: Global, folder: &str, name: &str) -> Result<String, DiskFault> {
+    if name.contains('/') {
+        return Err(DiskFault::Read(ErrorKind::InvalidInput));
+    }
     match format!(in alloc; "{folder}/{name}") {
         Ok(path) => Ok(path),
         Err(_) => Err(DiskFault::NoMemory),
@@ -138,6 +154,8 @@ impl<'a, R: Host + AllocGlobal> HostFolder<'a, R> {
 
 impl<R: Host + AllocGlobal> Folder for HostFolder<'_, R> {
     ghost files = { λ _. None };
+
+    ghost at = { λ _. None };
 
     fn create(&mut self, path: &str) -> Result<(), DiskFault> {
         fs::create_dir(self.rt, path).map_err(DiskFault::of_write)?;

@@ -23,8 +23,9 @@ use Rattle.pm_jobs.specs.declared.selection.Code.TheVariants as code
 use Rattle.pm_jobs.specs.declared.selection.Selection.{Selection}
 use Rattle.pm_folder.specs.declared.folder.Wanted.{Wanted}
 use Rattle.pm_folder.specs.declared.folder.Wanted.TheVariants as wanted
-use Rattle.pm_plan.specs.FolderWords.{IsText}
+use Rattle.pm_plan.specs.FolderWords.{AreEnds, IsText}
 use Rattle.pm_plan.specs.declared.folder_words.ExportPlan.{ExportPlan}
+use Rattle.pm_plan.specs.declared.folder_words.ImportPlan.{ImportPlan}
 use Rattle.pm_plan.specs.declared.file_words.FilesPlan.{FilesPlan}
 use Rattle.pm_plan.specs.declared.file_words.SalvagePlan.{SalvagePlan}
 use Rattle.pm_plan.specs.declared.file_words.Verb.{Verb}
@@ -261,6 +262,14 @@ AsksExport m plan = (rows : List Row) × (subcommand_rows_of m ≡ Some (codes "
     × IsText (is_set (word_found rows (codes "text"))) (word_found rows (codes "ends")) plan.text
     × AsksWanted rows plan.wanted
 
+-- The arguments of `files import`, which also specify a folder.
+abbrev pub AsksImport : ArgMatches → ImportPlan → Type 0
+AsksImport m plan = (rows : List Row) × (subcommand_rows_of m ≡ Some (codes "import", rows))
+    × IsPath (word_found (words_of m) (codes "image")) (word_found rows (codes "image")) (string_bytes plan.path)
+    × (word_found rows (codes "FOLDER") ≡ Some (string_bytes plan.folder))
+    × AreEnds (word_found rows (codes "ends")) plan.ends
+    × IsFlag (one_of (codes "dry-run") rows) plan.is_trial
+
 -- ---- lines of a trace
 
 -- The first step whose line is shown. The default is 0: all steps.
@@ -358,6 +367,7 @@ Asks command m (plans.Debug program typed) = (command ≡ codes "debug") × Asks
     × (word_found (words_of m) (codes "input") ≡ option_map string_bytes typed)
 Asks command m (plans.Salvage plan) = (command ≡ codes "files") × AsksSalvage m plan
 Asks command m (plans.Export plan) = (command ≡ codes "files") × AsksExport m plan
+Asks command m (plans.Import plan) = (command ≡ codes "files") × AsksImport m plan
 
 -- The command among all arguments, and the arguments found for it.
 abbrev pub IsCommand : ArgMatches → List ℕ → ArgMatches → Type 0

@@ -23,3 +23,13 @@ abbrev pub IsGoodText : Bool → Option (List ℕ) → Type 0
 IsGoodText text None = ⊤
 IsGoodText false (Some word) = ⊥
 IsGoodText true (Some word) = ends_named word ≢ None
+
+-- The line ends of imported texts: byte 10 if no word names others.
+abbrev pub AreEnds : Option (List ℕ) → Ends → Type 0
+AreEnds None e = e ≡ ends.Lf
+AreEnds (Some word) e = ends_named word ≡ Some e
+
+-- A word for line ends names line ends.
+abbrev pub AreGoodEnds : Option (List ℕ) → Type 0
+AreGoodEnds None = ⊤
+AreGoodEnds (Some word) = ends_named word ≢ None

@@ -8,7 +8,7 @@ use Rattle.clap.specs.Words.{Row, subcommand_rows_of}
 use Rattle.clap.specs.declared.parser.matches.ArgMatches.{ArgMatches}
 use Rattle.pm_plan.specs.Asked.{IsCommand, IsKind, IsLimitWord, IsNumberUpTo, IsNumberWord, IsRunLimitWord, is_set}
 use Rattle.pm_plan.specs.Asked.{word_below, word_found, words_of}
-use Rattle.pm_plan.specs.FolderWords.{IsGoodText}
+use Rattle.pm_plan.specs.FolderWords.{AreGoodEnds, IsGoodText}
 use Rattle.pm_plan.specs.Forms.{IsFormWord}
 use Rattle.pm_plan.specs.declared.words.WordsError.{WordsError}
 use Rattle.pm_plan.specs.declared.words.WordsError.TheVariants as errors
@@ -272,10 +272,18 @@ IsGoodExport rows (Some after) = (after.0 ≡ codes "export")
     × IsGoodText (is_set (word_found after.1 (codes "text"))) (word_found after.1 (codes "ends"))
     × IsGoodWanted (word_found after.1 (codes "only")) (word_found after.1 (codes "slot"))
 
+-- The arguments before `import`, the verb and the arguments after it are valid.
+abbrev pub IsGoodImport : List Row → Option (List ℕ × List Row) → Type 0
+IsGoodImport rows None = ⊥
+IsGoodImport rows (Some after) = (after.0 ≡ codes "import")
+    × IsOnePath (word_found rows (codes "image")) (word_found after.1 (codes "image"))
+    × IsThere (word_found after.1 (codes "FOLDER")) × AreGoodEnds (word_found after.1 (codes "ends"))
+
 -- The arguments of `files` are valid for its verb.
 abbrev pub AreGoodFiles : List Row → Option (List ℕ × List Row) → Type 0
 AreGoodFiles rows after = MatchBool (is_verb (codes "salvage") after) (IsGoodSalvage rows after)
-    (MatchBool (is_verb (codes "export") after) (IsGoodExport rows after) (AreGoodBefore rows after))
+    (MatchBool (is_verb (codes "export") after) (IsGoodExport rows after)
+    (MatchBool (is_verb (codes "import") after) (IsGoodImport rows after) (AreGoodBefore rows after)))
 
 -- The arguments of a command are valid.
 abbrev pub AreGood : List ℕ → ArgMatches → Type 0

@@ -218,6 +218,29 @@ const VERBS: &[CommandRow] = &[
         ],
     ),
     (
+        "import",
+        "Add the files of a folder that 'export' or 'salvage FOLDER/' made, with their kinds and dates",
+        &[
+            IMAGE,
+            FORM,
+            (
+                "FOLDER",
+                Form::Word,
+                "Folder with the files and the list LIST",
+            ),
+            (
+                "ends",
+                Form::Free("ENDS"),
+                "Line ends of the plain texts in the folder: lf, crlf or cr [default: lf]",
+            ),
+            (
+                "dry-run",
+                Form::Flag,
+                "Report the files that cannot be added, and do not write the image",
+            ),
+        ],
+    ),
+    (
         "krunch",
         "Move the files together; bad blocks are not moved, and gaps may remain between them",
         &[IMAGE, FORM],

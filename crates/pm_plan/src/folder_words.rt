@@ -1,13 +1,13 @@
-//! The words of `files export`.
+//! The arguments of `files export` and `files import`.
 ghost use Rattle.std.specs.Prelude.{◌≡◌, ◌↔◌, IfErr, IfOk, IsOk, IsOkUnless, codes};
 ghost use Rattle.clap.specs.Words.{subcommand_rows_of};
-ghost use Rattle.pm_plan.specs.Asked.{AsksExport, AsksWanted, is_set, word_found, words_of};
-ghost use Rattle.pm_plan.specs.FolderWords.{IsGoodText, IsText, ends_named};
-ghost use Rattle.pm_plan.specs.Needed.{IsGoodExport, IsGoodWanted, IsWrong};
+ghost use Rattle.pm_plan.specs.Asked.{AsksExport, AsksImport, AsksWanted, is_set, word_found, words_of};
+ghost use Rattle.pm_plan.specs.FolderWords.{AreEnds, AreGoodEnds, IsGoodText, IsText, ends_named};
+ghost use Rattle.pm_plan.specs.Needed.{IsGoodExport, IsGoodImport, IsGoodWanted, IsWrong};
 ghost use Rattle.pm_plan.specs.declared.words.WordsError.TheVariants.{NoMemory};
 
 use crate::file_words::{path_of, slot_of, word};
-use crate::words::{WordsError, found, given, is_set};
+use crate::words::{WordsError, flag, found, given, is_set};
 use clap::ArgMatches;
 use pm_folder::{Ends, Wanted};
 use std::alloc::Global;
@@ -26,6 +26,19 @@ pub struct ExportPlan {
     pub text: Option<Ends>,
     /// Which files are written.
     pub wanted: Wanted,
+}
+
+/// The files of a folder that are added to a volume.
+#[derive(Drop)]
+pub struct ImportPlan {
+    /// The path of the image.
+    pub path: String,
+    /// The path of the folder.
+    pub folder: String,
+    /// The line ends of the texts in the folder.
+    pub ends: Ends,
+    /// Whether the image is not written.
+    pub is_trial: bool,
 }
 
 /// Returns the line ends that a word names. `None` if it names none.
@@ -107,5 +120,60 @@ pub fn export_plan(alloc: Global, matches: &ArgMatches<'_>) -> Result<ExportPlan
         folder,
         text,
         wanted,
+    })
+}
+
+/// Returns the line ends of imported texts: those that `--ends` names, or byte 10 without it.
+///
+/// # Errors
+///
+/// `Wrong` for a word that names no line ends.
+fn ends_of(matches: &ArgMatches<'_>) -> Result<Ends, WordsError>
+    ensures value { IfOk result (AreEnds (word_found (words_of matches.now) (codes "ends"))) }
+    ensures good { IsOk result ↔ AreGoodEnds (word_found (words_of matches.now) (codes "ends")) }
+    ensures refusal { IfErr result IsWrong }
+{
+    match found(matches, "ends") {
+        None => Ok(Ends::Lf),
+        Some(word) => match ends_named(word) {
+            Some(ends) => Ok(ends),
+            None => Err(WordsError::Wrong(ENDS)),
+        },
+    }
+}
+
+/// Returns the job that the arguments of `files` with the verb `import` specify.
+///
+/// # Errors
+///
+/// - The verb is another one, or is missing: `NoCommand`.
+/// - The path after `--image` is empty: `NoValue`.
+/// - The image is given twice, or not at all: `Wrong`.
+/// - The path of the folder is missing: `NoCommand`.
+/// - The line ends are invalid: `Wrong`.
+/// - Out of memory at any of these steps: `NoMemory`.
+pub fn import_plan(alloc: Global, matches: &ArgMatches<'_>) -> Result<ImportPlan, WordsError>
+    ensures asked { IfOk result (AsksImport matches.now) }
+    ensures good { IsOk result → IsGoodImport (words_of matches.now) (subcommand_rows_of matches.now) }
+    ensures taken { IsGoodImport (words_of matches.now) (subcommand_rows_of matches.now)
+        → IsOkUnless result NoMemory }
+{
+    let Some((verb, words)) = matches.subcommand() else {
+        return Err(WordsError::NoCommand);
+    };
+    if verb != "import" {
+        return Err(WordsError::NoCommand);
+    }
+    let before = given(alloc, matches, "image")?;
+    let behind = given(alloc, words, "image")?;
+    let path = path_of(before, behind)?;
+    let folder = word(alloc, words, "FOLDER")?;
+    let ends = ends_of(words)?;
+    let is_trial = flag(words, "dry-run");
+    Ok(ImportPlan {
+        path,
+        folder,
+        ends,
+        is_trial,
     })
 }

@@ -13,7 +13,7 @@ mod words;
 pub mod worked;
 
 pub use file_words::{FilesPlan, SalvagePlan, Verb};
-pub use folder_words::ExportPlan;
+pub use folder_words::{ExportPlan, ImportPlan};
 pub use form::Form;
 pub use in_form::InForm;
 pub use pm_check::Order;

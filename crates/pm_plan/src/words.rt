@@ -10,7 +10,7 @@ ghost use Rattle.pm_plan.specs.declared.words.WordsError.TheVariants.{NoCommand,
 
 use crate::commands::all_commands;
 use crate::file_words::{FilesPlan, SalvagePlan, files_plan, is_verb, salvage_plan};
-use crate::folder_words::{ExportPlan, export_plan};
+use crate::folder_words::{ExportPlan, ImportPlan, export_plan, import_plan};
 use crate::form::{Form, form_asked};
 use crate::run_words::{Program, RunChoices, choices_of, program_of};
 use crate::text_words::{TextFiles, text_files};
@@ -53,6 +53,8 @@ pub enum Plan {
     Salvage(SalvagePlan),
     /// The files of a volume that are written to a new folder.
     Export(ExportPlan),
+    /// Adds the files of a folder to a volume.
+    Import(ImportPlan),
 }
 
 /// The job, and the form of its images.
@@ -234,6 +236,8 @@ fn files_asked(alloc: Global, matches: &ArgMatches<'_>) -> Result<Plan, WordsErr
         Ok(Plan::Salvage(salvage_plan(alloc, matches)?))
     } else if is_verb(matches, "export") {
         Ok(Plan::Export(export_plan(alloc, matches)?))
+    } else if is_verb(matches, "import") {
+        Ok(Plan::Import(import_plan(alloc, matches)?))
     } else {
         Ok(Plan::Files(files_plan(alloc, matches)?))
     }
@@ -410,6 +414,7 @@ fn command_for(word: &str) -> Option<&'static str> {
         | "repair"
         | "check"
         | "export"
+        | "import"
         | "salvage" => {
             Some(
                 "this is a verb of 'pmach files', which is used as in: pmach files --image IMAGE list",

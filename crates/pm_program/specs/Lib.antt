@@ -3,3 +3,4 @@ pub mod Texts
 pub mod Conflicts
 pub mod Got
 pub mod Exported
+pub mod Imported

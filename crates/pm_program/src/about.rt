@@ -79,6 +79,7 @@ fn image_of(plan: &Plan) -> Option<&str> {
         },
         Plan::Salvage(plan) => Some(plan.path.as_str()),
         Plan::Export(plan) => Some(plan.path.as_str()),
+        Plan::Import(plan) => Some(plan.path.as_str()),
         Plan::Asm(_, files) | Plan::Dis(_, files) => match &files.input {
             TextInput::OnImage { image, .. } => Some(image.as_str()),
             _ => None,

@@ -1,6 +1,7 @@
 //! The end of the program: its exit status and its message.
 use pm_export::Unwritten;
 use pm_files::DiskFault;
+use pm_import::{Left, Why};
 use pm_tool::{Exit, Outcome};
 
 /// A conflict between paths, or between output and a terminal.
@@ -59,6 +60,8 @@ pub enum End {
     File(DiskFault, Option<String>),
     /// A folder was created; these of its files could not be written.
     Folder(String, Vec<Unwritten>),
+    /// The files of a folder were added to a volume, except these. The line is the message.
+    Import(String, Vec<Left>, String),
     /// The arguments are in conflict.
     Words(Conflict),
 }
@@ -73,7 +76,27 @@ impl End {
                 Some(first) => Exit::of_fault(first.fault.fault()).number(),
                 None => Exit::Ended.number(),
             },
+            End::Import(_, left, _) => status_of_import(left),
             End::Words(_) => Exit::Usage.number(),
         }
+    }
+}
+
+/// Returns the first file that could not be read, and why.
+pub fn first_unread(left: &[Left]) -> Option<DiskFault> {
+    for file in left {
+        if let Why::Unread(fault) = file.why {
+            return Some(fault);
+        }
+    }
+    None
+}
+
+/// Returns the exit status of an import that did not add these files.
+fn status_of_import(left: &[Left]) -> u8 {
+    match first_unread(left) {
+        Some(fault) => Exit::of_fault(fault.fault()).number(),
+        None if left.is_empty() => Exit::Ended.number(),
+        None => Exit::Refused.number(),
     }
 }

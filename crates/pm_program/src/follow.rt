@@ -10,15 +10,17 @@ use crate::console::{END, ESCAPE, Failed, Keys, Lined, Lines, Prompted};
 use crate::end::{Conflict, End};
 use crate::exported::{Exported, SavedFolder, do_export, do_salvage_folder};
 use crate::got::do_get;
+use crate::imported::{Imported, do_import};
 use crate::saved::{Printing, SavedOfRun, do_debug, do_files, do_run, do_salvage, do_trace};
 use crate::texts::do_text;
 use pm_export::Unwritten;
 use pm_filer::FileCommand;
 use pm_files::{DiskFault, Folder, Host, HostFolder, HostStore, Store, Stream};
+use pm_import::Left;
 use pm_jobs::{AsmOutput, Reader, Saving, Sink, Source, Writer};
 use pm_plan::{
-    Asked, ExportPlan, FilesPlan, Form, InForm, Order, Plan, Program, RunChoices, SalvagePlan,
-    TextFiles, TextInput, Verb,
+    Asked, ExportPlan, FilesPlan, Form, ImportPlan, InForm, Order, Plan, Program, RunChoices,
+    SalvagePlan, TextFiles, TextInput, Verb,
 };
 use pm_tool::{Job, Outcome, Refusal};
 use pm_volume::VolumeFault;
@@ -184,6 +186,25 @@ enum Ended {
     Job(Outcome),
     /// A folder was created; these of its files could not be written.
     Folder(String, Vec<Unwritten>),
+    /// The files of a folder were added to a volume, except these.
+    Import(String, Vec<Left>),
+}
+
+/// Adds the files of a folder to a volume.
+fn import<S: Store, F: Folder, I: Source, O: Sink>(
+    alloc: Global,
+    store: &mut S,
+    folder: &mut F,
+    source: &mut I,
+    sink: &mut O,
+    plan: ImportPlan,
+) -> Result<Ended, DiskFault>
+    requires well { AreWell (both (I.seen source.old) (O.seen sink.old)) }
+{
+    match do_import(alloc, store, source, sink, folder, &plan)? {
+        Imported::Refused(outcome) => Ok(Ended::Job(outcome)),
+        Imported::Done(left) => Ok(Ended::Import(plan.folder, left)),
+    }
 }
 
 /// Writes the files of a volume to a new folder.
@@ -259,6 +280,7 @@ fn act<S: Store, F: Folder, I: Source, O: Sink>(
         }
         Plan::Salvage(plan) => do_salvage(alloc, store, source, sink, plan)?,
         Plan::Export(plan) => return export(alloc, store, folder, source, sink, plan),
+        Plan::Import(plan) => return import(alloc, store, folder, source, sink, plan),
     };
     Ok(Ended::Job(outcome))
 }
@@ -556,6 +578,30 @@ fn end_of_job(alloc: Global, named: &Option<Named>, form: Form, mut outcome: Out
     End::Outcome(outcome, about)
 }
 
+/// Returns the end of an import that did not add these files.
+fn end_of_import(alloc: Global, path: String, left: Vec<Left>) -> End {
+    let count = left.len();
+    match format!(in alloc; "refused import {count}") {
+        Ok(line) => End::Import(path, left, line),
+        Err(_) => End::File(DiskFault::NoMemory, None),
+    }
+}
+
+/// Returns the path that a message names if a folder of a plan cannot be created, or its list cannot be read.
+fn folder_path(alloc: Global, plan: &Plan) -> Option<String> {
+    match plan {
+        Plan::Export(plan) => String::from_str(alloc, plan.folder.as_str()).ok(),
+        Plan::Salvage(plan) if is_folder(plan.target.as_str()) => {
+            String::from_str(alloc, plan.target.as_str()).ok()
+        }
+        Plan::Import(plan) => {
+            let folder = plan.folder.trim_end_matches('/');
+            format!(in alloc; "{folder}/LIST").ok()
+        }
+        _ => None,
+    }
+}
+
 /// Two paths of a plan that name no image.
 ///
 /// The first one is the path of the system's code file; for `asm` and `dis`, the file that is read. The second one is
@@ -629,10 +675,12 @@ fn end_of_plan<R: Host + AllocGlobal, I: Source, O: Sink>(
         Err(_) => return End::File(DiskFault::NoMemory, None),
     };
     let mut folder = HostFolder::new(rt);
+    let path = folder_path(rt.alloc(), &plan);
     match act(rt.alloc(), &mut files, &mut folder, source, sink, plan) {
         Ok(Ended::Job(outcome)) => end_of_job(rt.alloc(), &named, form, outcome),
         Ok(Ended::Folder(path, unwritten)) => End::Folder(path, unwritten),
-        Err(fault) => End::File(fault, files.store.into_refused()),
+        Ok(Ended::Import(path, left)) => end_of_import(rt.alloc(), path, left),
+        Err(fault) => End::File(fault, files.store.into_refused().or(path)),
     }
 }
 

@@ -1,7 +1,10 @@
 //! The messages of the program on standard error at its end.
 ghost use Rattle.std.specs.Prelude.{◌≡◌, true, []};
 
-use crate::end::End;
+use crate::end::{End, first_unread};
+use pm_filer::FilerFault;
+use pm_import::Why;
+use pm_textfile::TextFault;
 use pm_tool::{Ending, Outcome, Reason, Refusal, RunReason, Whereabouts};
 use std::fmt;
 
@@ -135,6 +138,11 @@ fn message(end: &End, is_silent: bool) -> &str
             Some(first) => first.fault.fault().text(),
             None => "",
         },
+        End::Import(_, left, _) if left.is_empty() => "",
+        End::Import(_, left, line) => match first_unread(left) {
+            Some(fault) => fault.fault().text(),
+            None => line.as_str(),
+        },
         End::Words(conflict) => conflict.text(),
     }
 }
@@ -185,7 +193,7 @@ fn explain<R: Eprint>(rt: &R, end: &End, has_system: bool) {
             explain_refusal(rt, outcome, about);
             Ok(())
         }
-        End::Folder(..) | End::Words(_) => Ok(()),
+        End::Folder(..) | End::Import(..) | End::Words(_) => Ok(()),
     };
 }
 
@@ -204,6 +212,44 @@ fn name_unwritten<R: Eprint>(rt: &R, end: &End) {
     }
 }
 
+/// Why the file of a line of `LIST` was not added.
+#[derive(Clone, Copy)]
+struct NotAdded(Why);
+
+impl fmt::Display for NotAdded {
+    fn fmt<W: fmt::Write>(&self, f: &mut fmt::Formatter<W>) -> fmt::Result {
+        match self.0 {
+            Why::Line => f.write_str("LIST has no valid line for it"),
+            Why::Unread(fault) => f.write_str(fault.reason()),
+            Why::Refused(FilerFault::Text(fault @ TextFault::BadByte(_))) => {
+                write!(
+                    f,
+                    "{fault}; if lines end with byte 13, use --ends crlf or --ends cr"
+                )
+            }
+            Why::Refused(fault) => write!(f, "{}", Reason(Refusal::Filer(fault))),
+        }
+    }
+}
+
+/// Prints a line for each file of a folder that was not added to a volume.
+fn name_left<R: Eprint + AllocGlobal>(rt: &R, end: &End) {
+    if let End::Import(folder, left, _) = end {
+        let folder = folder.trim_end_matches('/');
+        for file in left {
+            let why = NotAdded(file.why);
+            let _ = match String::from_utf8_lossy(rt.alloc(), &file.name) {
+                Ok(name) => eprintln!(rt;
+                    "pmach: {}/{}: {why}",
+                    Plain(folder),
+                    Plain(name.as_str())
+                ),
+                Err(_) => eprintln!(rt; "pmach: {}: {why}", Plain(folder)),
+            };
+        }
+    }
+}
+
 /// How messages are written to standard error.
 #[derive(Clone, Copy)]
 pub struct Manner {
@@ -218,7 +264,7 @@ pub struct Manner {
 }
 
 /// Prints the message of an end on standard error, if there is one.
-pub fn say<R: Eprint>(rt: &R, end: &End, manner: Manner) {
+pub fn say<R: Eprint + AllocGlobal>(rt: &R, end: &End, manner: Manner) {
     let message = message(end, manner.is_silent);
     if message.is_empty() {
         return;
@@ -228,6 +274,7 @@ pub fn say<R: Eprint>(rt: &R, end: &End, manner: Manner) {
     }
     let _ = eprintln!(rt; "{message}");
     name_unwritten(rt, end);
+    name_left(rt, end);
     if manner.explains {
         explain(rt, end, manner.has_system);
     }

@@ -1,0 +1,6 @@
+pub mod Pieces
+pub mod Feeds
+pub mod Listed
+pub mod Placed
+pub mod Imported
+pub mod Worked

@@ -214,8 +214,8 @@ fn first_refusal(faults: &[AsmFault]) -> Option<Refusal>
 /// The maximum number of faults for which `lines_told` returns a message.
 const TOLD: usize = 20;
 
-/// Returns the messages for the lines of `text` that the first `TOLD` faults name, in ascending order of the lines. Returns
-/// None if `faults` is empty, if one of these faults names no line of `text`, or if memory runs out.
+/// Returns the messages for the lines of `text` that the first `TOLD` faults name, in ascending order of the lines.
+/// Returns None if `faults` is empty, if one of these faults names no line of `text`, or if memory runs out.
 fn lines_told(alloc: Global, text: &str, faults: &[AsmFault]) -> Option<String> {
     let mut told = String::new(alloc);
     let mut faults = faults.iter().take(TOLD);

@@ -21,8 +21,8 @@ use Rattle.pm_session.specs.Sessions.{answer_line, is_quit}
 use Rattle.pm_c.specs.declared.held.Held.{Held}
 use Rattle.pm_c.specs.declared.status.TheConstants.{AT_BREAK, CHANGED, DONE, NO_MACHINE, NO_MEMORY}
 
--- The same as `Leads` for a status other than `NO_MEMORY`. If the status is `NO_MEMORY`, the handle can be empty after
--- the call.
+-- The effect of a call on a handle as in `Leads`, except that a handle with a machine can also become empty. Then the
+-- status is `NO_MEMORY`.
 abbrev pub LeadsOrEnds : ℕ → Option Held → Option Held → (Held → Held → Type 0) → Type 0
 LeadsOrEnds status None new P = (status ≡ NO_MACHINE) × (new ≡ None)
 LeadsOrEnds status (Some m) None P = status ≡ NO_MEMORY

@@ -1,4 +1,4 @@
-//! Jobs on volumes.
+//! Executes the jobs on volumes.
 ghost use Rattle.std.specs.Prelude.{◌≡◌, IfOk, IfSome, Some, string_bytes};
 ghost use Rattle.pm_filer.specs.Filed.{answer_of, order_of};
 ghost use Rattle.pm_volume.specs.Copies.{repaired};

@@ -1,4 +1,4 @@
--- The answer of a whole job to its caller.
+-- The answer that a call for a whole job copies to the buffer of the caller.
 use Rattle.std.specs.Prelude.{◌≡◌, ◌≢◌, ◌⊎◌, ℕ, List, ◌++◌, Option, None, Some, length, if◌then◌else◌, nat_lt}
 use Rattle.pm_tool.specs.Outcomes.{Said, exit_number}
 use Rattle.pm_c.specs.Changes.{filled}

@@ -56,8 +56,8 @@ AnswersAreApart = (stop : Stop) → (stop_code stop ≢ NO_MEMORY) × (stop_code
 abbrev pub IsTold : ℕ → Type 0
 IsTold status = is_some (sentence status) ≡ true
 
--- The library has a sentence for each end of a step and of a run of the debugger, and for each fault of a start, a
--- unit, a volume and a breakpoint.
+-- The library has a sentence for each end of a step and of a run of the debugger. It also has a sentence for each fault
+-- of a start, a unit, a volume and a breakpoint.
 pub record AnswersAreTold : Type 0 where
   pub stops : (stop : Stop) → IsTold (stop_code stop)
   pub runs : (reason : BreakReason) → IsTold (go_code reason)

@@ -1,4 +1,4 @@
-//! A file that will be written: its paths and its lock.
+//! A file that is prepared for writing: its paths and its lock.
 use crate::fault::DiskFault;
 use crate::host::{Host, Kind, Node};
 use crate::image::{fault_of_open, read_file};

@@ -83,7 +83,7 @@ fn is_denied(kind: ErrorKind) -> bool {
     )
 }
 
-/// The result of an attempt to replace the file at a path with a new file.
+/// The result of an attempt to replace the file at a path with a new file, if the attempt returned no error.
 #[derive(Clone, Copy)]
 enum Came {
     /// The new file is at the path. The old file was replaced.

@@ -19,8 +19,8 @@ pub enum Code {
     },
 }
 
-/// The lines of a trace that are shown, and their prefixes. A line is shown only if `from`, `code` and `calls` all
-/// select it.
+/// Selects the lines of a trace that are shown, and their prefixes. A line is shown only if `from`, `code` and `calls`
+/// all select it.
 #[derive(Clone, Copy)]
 pub struct Selection {
     /// The number of steps before the first step that is shown.

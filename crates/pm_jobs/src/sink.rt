@@ -1,4 +1,4 @@
-//! The output of a job.
+//! The output of a job: the trait `Sink`, and the function that writes to a sink.
 ghost use Rattle.std.specs.Prelude.{◌≡◌, ⊤, Bool, Option, false, ◌||◌, List, ℕ, is_err, OnOk, IfErr};
 ghost use Rattle.std.specs.Io.{WritesAtMost};
 ghost use Rattle.std.specs.Io.KnownBytes.{WriteAppends, Appends};
@@ -20,7 +20,7 @@ pub trait Sink {
         ensures bytes { WriteAppends (seen self.old).contents (seen self.new).contents result buf.now }
         ensures failed { (seen self.new).failed ≡ ((seen self.old).failed || took_nothing result) };
 
-    /// Whether a write has returned an error or has written no byte.
+    /// Returns whether a write has returned an error or has written no byte.
     fn failed(&self) -> bool
         ensures value { result ≡ (seen self.now).failed };
 }

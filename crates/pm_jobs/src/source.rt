@@ -1,4 +1,4 @@
-//! The input of a job.
+//! The input of a job: the trait `Source`, and the functions that read from a source.
 ghost use Rattle.std.specs.Prelude.{◌≡◌, ⊤, Bool, Option, false, ◌||◌, List, ℕ, is_err, OnOk, OnErr, IfErr, IfOk};
 ghost use Rattle.std.specs.Io.{ReadsAtMost};
 ghost use Rattle.std.specs.Io.KnownBytes.{ReadConsumes, Consumes, Keeps};
@@ -23,7 +23,7 @@ pub trait Source {
         ensures failed { (seen self.new).failed ≡ ((seen self.old).failed || is_err result) }
         ensures counts { Counts (seen self.old).given (seen self.new).given result };
 
-    /// Whether a read has returned an error.
+    /// Returns whether a read has returned an error.
     fn failed(&self) -> bool
         ensures value { result ≡ (seen self.now).failed };
 }

@@ -90,8 +90,8 @@ only_ends at next (s ∷ ss) h b = by (nat_lt at s.behind) (nat_lt next s.behind
     by false true e f more = absurd (grind (arith, nat_tests, e, f, h))
     by false false e f more = rw here (rw there (rw e (rw f more)))
 
--- If the spans `ss` are open at `at` and their ends ascend, then the spans that are still open at a later offset `next`
--- are those of `ss` that contain `next`.
+-- If all spans `ss` have begun at `at` and their ends ascend, then `open_at` computes which of them still contain the
+-- later offset `next`.
 open_later : (at next : ℕ) (ss : List JumpSpan) → at ≤ next → Begun at ss → Rising (ends_at at ss)
     → open_at next (ends_at at ss) ≡ ends_at next ss
 open_later at next ss h b r = open_only next (ends_at at ss) r ∙ only_ends at next ss h b

@@ -1,4 +1,4 @@
--- Texts of the same statements.
+-- Laws about texts of the same statements.
 use Rattle.std.specs.Prelude.{◌≡◌, ℕ, List}
 use Rattle.std.specs.Prelude.{not, ◌==◌}
 use Rattle.std.specs.List.{filter}

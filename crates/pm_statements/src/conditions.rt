@@ -1,4 +1,4 @@
-//! The conditions of jumps.
+//! Computes the condition of a conditional jump from the text of the jump.
 
 ghost use Rattle.std.specs.Prelude.{◌≡◌, ◌++◌, string_bytes, OnOk};
 ghost use Rattle.pm_code.specs.Shown.{target_text};

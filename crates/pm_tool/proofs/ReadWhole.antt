@@ -1,4 +1,4 @@
--- Jobs that read all of their input before they write.
+-- Jobs that read their whole input before they write.
 use Rattle.std.proofs.Common.{◌≡◌, ℕ, List, [], ◌∷◌, ◌++◌, Option, None, Some, Result, Bool, true, false, refl, sym, ap, ◌∙◌, append-nil, subst, IfSome, IfErr}
 use Rattle.std.specs.Io.KnownBytes.{Consumes, Appends, Keeps, IsAtEnd}
 use Rattle.std.proofs.KnownBytes.{Appends-nil}
@@ -14,8 +14,8 @@ use Rattle.pm_tool.specs.Disks.{loaded}
 use Rattle.pm_tool.specs.Said.{said_started, said_work, IsSoundExit, Tells, TellsAll, Finishes, BreaksOff}
 use Rattle.pm_jobs.specs.Streams.{Incoming, Streams, both, IsFront, AppendsFront, IsCause, ReadsAll}
 
--- If the rest of the input after `read` is known and the job has its defined output for `read` and this rest, then it
--- has its defined output for the input.
+-- If the job has its defined output for `read` followed by any known rest of the input, then it has its defined output
+-- for the input.
 pub tells_known : (old new : Streams) (read : List ℕ) → Consumes old.source.remaining new.source.remaining read → (outcome : Outcome) (text : List ℕ → Said)
     → ((rest : List ℕ) → new.source.remaining ≡ Some rest → Tells old new outcome (text (read ++ rest)))
     → TellsAll old new outcome text

@@ -84,7 +84,7 @@ Names exit (Some refusal) message =
 abbrev pub SaysWhy : Outcome → Type 0
 SaysWhy outcome = Names outcome.exit outcome.refusal (string_bytes outcome.message)
 
--- No images on units 5, 9, 10, 11 and 12.
+-- The images of units 5, 9, 10, 11 and 12 if none of them is saved.
 abbrev pub no_others : List (Option (List ℕ))
 no_others = None ∷ None ∷ None ∷ None ∷ None ∷ []
 

@@ -184,8 +184,8 @@ FailsExactly old new exit = (read : List ℕ) × Consumes old.source.remaining n
     × (exit ≡ exits.ReadFault ↔ (new.source.failed ≡ true) ⊎ (INPUT_LIMIT < length read))
     × (exit ≡ exits.WriteFault ↔ new.sink.failed ≡ true)
 
--- If the source had returned at most 2^63 bytes before the job, then the exit is a read fault if and only if the source
--- has failed or has returned more than `INPUT_LIMIT` bytes since. The number of bytes is the count of the source.
+-- The exit is a read fault if and only if the source has failed or has returned more than `INPUT_LIMIT` bytes during
+-- the job, by its count. This is stated only if its count was at most 2^63 before the job.
 abbrev pub CountsExactly : Streams → Streams → Exit → Type 0
 CountsExactly old new exit = CountsOn old.source.given →
     (exit ≡ exits.ReadFault ↔ (new.source.failed ≡ true) ⊎ (old.source.given + INPUT_LIMIT < new.source.given))

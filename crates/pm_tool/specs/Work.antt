@@ -1,4 +1,4 @@
--- The kinds of jobs.
+-- Groups jobs by how they use their streams.
 use Rattle.pm_batch.specs.declared.batch.Batch.TheVariants as batches
 use Rattle.pm_tool.specs.declared.outcome.Job.{Job}
 use Rattle.pm_tool.specs.declared.outcome.Job.TheVariants as jobs

@@ -121,7 +121,7 @@ pub enum Job {
     /// # Errors
     ///
     /// - `refused volume 10`: the name is not valid.
-    /// - `refused volume 3`: there are fewer than 6 blocks.
+    /// - `refused volume 3`: the number of blocks is less than 6.
     New {
         name: String,
         blocks: u16,
@@ -223,7 +223,7 @@ pub(crate) fn no_images() -> OtherImages
     [None, None, None, None, None]
 }
 
-/// The file that the refusal of a program is about.
+/// The file because of which a program was refused.
 #[derive(Clone, Copy)]
 pub enum About {
     /// The image on this unit. It is either an image that is no volume, or the image of unit 4, which contains the

@@ -6,7 +6,7 @@ use pm_session::Ending;
 use pm_words::ExecError;
 use std::fmt;
 
-/// The hint for a call of the operating system.
+/// The hint for a run that fails because it calls a procedure of the operating system.
 const SYSTEM: &str =
     "CXP 0, n calls procedure n of the operating system, and --system PATH adds its segment";
 

@@ -1,4 +1,4 @@
-//! The state in which an error stopped a run.
+//! Records the state in which an execution error stopped a run.
 ghost use Rattle.std.specs.Prelude.{◌≡◌};
 ghost use Rattle.pm_tool.specs.Stops.{AreStops, IsStop, stop_of};
 

@@ -1,4 +1,4 @@
-//! The kinds of jobs.
+//! Groups jobs by how they use their streams, and computes the group of a job.
 ghost use Rattle.std.specs.Prelude.{◌≡◌};
 ghost use Rattle.pm_batch.specs.Files.{opened_image};
 ghost use Rattle.pm_check.specs.Forms.{form_seen};

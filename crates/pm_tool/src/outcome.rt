@@ -92,8 +92,8 @@ pub enum Job {
     /// that the fault names. The output is one of the following:
     ///
     /// - The source text: the segments in ascending order of their slots, each with its procedures.
-    /// - The source text with names. Each line `CSP n` or `CXP 0, n` ends with a comment. The comment is the name of
-    ///   standard procedure `n` or of procedure `n` of the system, if this number has a name.
+    /// - The source text with names. If the number `n` in a line `CSP n` or `CXP 0, n` has a name, the line ends with a
+    ///   comment: the name of standard procedure `n` or of procedure `n` of the system.
     /// - The listing, with the bytes and offsets of the code file. Segments are in ascending order. Each has a line for
     ///   each item, jump entry and attribute table of its procedures, in the order of its dictionary, and for its
     ///   dictionary.

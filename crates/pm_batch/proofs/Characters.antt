@@ -1,4 +1,4 @@
--- A text of characters up to 127 is its bytes.
+-- If all bytes of an input are ASCII, then the text of the input has the same numbers as the bytes.
 use Rattle.std.proofs.Common.{◌≡◌, ◌<◌, ℕ, suc, true, List, [], ◌∷◌, refl, ap, arith}
 use Rattle.std.specs.Prelude.{nat_le}
 use Rattle.std.specs.Str.{IsAscii}

@@ -1,4 +1,4 @@
--- Jobs that convert bytes to bytes: the product of each for its input, and which of them read it.
+-- Jobs that convert bytes to bytes: the product of each job for its input, and which jobs read their input.
 use Rattle.std.specs.Prelude.{ℕ, Bool, true, false, List, Result, Ok, Err, string_bytes}
 use Rattle.pm_jobs.specs.declared.output.AsmOutput.TheVariants as asm
 use Rattle.pm_volume.specs.Copies.{repaired}
@@ -12,7 +12,7 @@ use Rattle.pm_batch.specs.Assembly.{made_asm, made_faults, made_symbols}
 use Rattle.pm_batch.specs.Files.{made_check, made_file, made_new, made_salvage, made_volume, takes_input}
 use Rattle.pm_batch.specs.Products.{Product}
 
--- The product of a job for its input.
+-- Returns the product of a job for `input`.
 abbrev pub made_of : Batch → List ℕ → Product
 made_of (batches.Asm asm.File) input = made_asm false input
 made_of (batches.Asm asm.Listing) input = made_asm true input
@@ -25,12 +25,13 @@ made_of (batches.Repair image) input = made_volume (repaired image.items)
 made_of (batches.Check image) input = made_check image.items
 made_of (batches.Salvage image second) input = made_salvage (salvaged image.items second)
 
--- A command reads the input. An image that is no volume is refused before the input is read.
+-- Is true if a command on an image reads the input of the job. If the image is no volume, the job is refused and reads
+-- no input.
 abbrev pub reads_file : Result (List ℕ) VolumeFault → Order → Bool
 reads_file (Ok volume) order = takes_input order
 reads_file (Err fault) order = false
 
--- A job reads its input to the end. Otherwise it reads nothing of it.
+-- Is true if a job reads its whole input, and false if it reads no input.
 abbrev pub reads_input : Batch → Bool
 reads_input (batches.Asm what) = true
 reads_input (batches.Files opened form command) = reads_file opened (order_of command)

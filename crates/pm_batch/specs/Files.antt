@@ -14,7 +14,7 @@ use Rattle.pm_batch.specs.declared.refusal.Refusal.{Refusal}
 use Rattle.pm_batch.specs.declared.refusal.Refusal.TheVariants as refusals
 use Rattle.pm_batch.specs.Products.{Product, Written, Image, Refused, Judged, Saved}
 
--- The volume of an image, or the reason why it is none.
+-- Returns the image, or the given fault for which the image is no volume.
 abbrev pub opened_unless : Option VolumeFault → List ℕ → Result (List ℕ) VolumeFault
 opened_unless None image = Ok image
 opened_unless (Some fault) image = Err fault
@@ -22,18 +22,18 @@ opened_unless (Some fault) image = Err fault
 abbrev pub opened_image : List ℕ → Result (List ℕ) VolumeFault
 opened_image image = opened_unless (image_fault image) image
 
--- The answer of a command, or the image after a change.
+-- Returns the product of a command from its answer. For `Done`, the product is `image`, the image after the change.
 abbrev pub answered : Answer → List ℕ → Product
 answered (Lines text) image = Written text
 answered (Bytes bytes) image = Written bytes
 answered Done image = Image image
 
--- A command that was executed or refused.
+-- Returns the product of a command that was executed, or its refusal.
 abbrev pub made_filed : Result Filed FilerFault → Product
 made_filed (Ok f) = answered f.answer f.image
 made_filed (Err fault) = Refused (refusals.Filer fault)
 
--- A command uses the bytes of the input.
+-- Is true if a command reads bytes from the input of the job.
 abbrev pub takes_input : Order → Bool
 takes_input ListFiles = false
 takes_input (Get name) = false
@@ -59,7 +59,7 @@ takes_input ListAll = false
 takes_input (ListFitting pattern) = false
 takes_input (RemoveFitting pattern) = false
 
--- The command with the bytes of the input instead of its own.
+-- Returns the command with its bytes replaced by `input`, if it is a command that has bytes.
 abbrev pub with_input : Order → List ℕ → Order
 with_input ListFiles input = ListFiles
 with_input (Get name) input = Get name
@@ -85,31 +85,33 @@ with_input ListAll input = ListAll
 with_input (ListFitting pattern) input = ListFitting pattern
 with_input (RemoveFitting pattern) input = RemoveFitting pattern
 
--- A command on the volume of an image, with the bytes of the input if it uses them.
+-- Returns the product of the command `order` on a volume. If the command reads bytes from the input, `input` has these
+-- bytes. If the image is no volume, its fault is the refusal.
 abbrev pub made_file : Result (List ℕ) VolumeFault → Order → List ℕ → Product
 made_file (Ok volume) order input = made_filed (filed volume (with_input order input))
 made_file (Err fault) order input = Refused (refusals.Volume fault)
 
--- A new volume, or its refusal.
+-- Returns the image of a new volume, or the refusal with the given fault.
 abbrev pub made_new : Option VolumeFault → List ℕ → ℕ → Product
 made_new None name blocks = Image (blank_image name blocks)
 made_new (Some fault) name blocks = Refused (refusals.Volume fault)
 
--- A volume that is saved, or its refusal.
+-- Returns the product that saves a volume, or the refusal with its fault.
 abbrev pub made_volume : Result (List ℕ) VolumeFault → Product
 made_volume (Ok image) = Image image
 made_volume (Err fault) = Refused (refusals.Volume fault)
 
--- The refusal of an image that is no volume.
+-- Returns the refusal of an image that is no volume. Returns None if the image is a volume.
 abbrev pub refusal_of : Result (List ℕ) VolumeFault → Option Refusal
 refusal_of (Ok volume) = None
 refusal_of (Err fault) = Some (refusals.Volume fault)
 
--- The faults of an image, and its refusal.
+-- Returns the product of the check of `image`: a report on its faults, and its refusal if it is no volume.
 abbrev pub made_check : List ℕ → Product
 made_check image = Judged (check_text image) (refusal_of (opened_image image))
 
--- The volume with the files of an image and the report about them, or the refusal.
+-- Returns the product of a salvage: the new volume with the files of an image and the report about them, or the
+-- refusal.
 abbrev pub made_salvage : Result saving.Saved VolumeFault → Product
 made_salvage (Ok s) = Saved s.text s.volume
 made_salvage (Err fault) = Refused (refusals.Volume fault)

@@ -1,4 +1,4 @@
--- The refusals of an input, as numbers and names.
+-- The refusals of an input, with their numbers and texts.
 use Rattle.std.specs.Prelude.{ℕ, Bool, true, false, List, [], ◌∷◌, ◌++◌, Option, None, Some, codes}
 use Rattle.std.specs.Fmt.{decimal}
 use Rattle.pm_words.specs.Errors.{number_of}
@@ -23,7 +23,8 @@ use Rattle.pm_filer.specs.declared.system_fault.SystemFault.TheVariants as syste
 use Rattle.pm_batch.specs.declared.refusal.Refusal.{Refusal}
 use Rattle.pm_batch.specs.declared.refusal.Refusal.TheVariants as refusals
 
--- A space and the number of the execution error if a start fails with one.
+-- Returns a space and the number of the execution error if a start fails with an execution error. Otherwise returns no
+-- text.
 abbrev pub error_text : BootFault → List ℕ
 error_text boot.NoFile = []
 error_text boot.NotCode = []
@@ -31,40 +32,43 @@ error_text boot.BadCode = []
 error_text (boot.Exec error) = 32 ∷ decimal (number_of error)
 error_text boot.NoMemory = []
 
--- A space and the number that a fault names: an entry of the directory, the fault of the first copy, a slot, a line or
--- a position.
+-- Returns a space and `entry`, or no text for None. `entry` is the number that a fault names: an entry of the
+-- directory, the fault of the first copy, a slot, a line or a position.
 abbrev pub entry_text : Option ℕ → List ℕ
 entry_text None = []
 entry_text (Some entry) = 32 ∷ decimal entry
 
--- The number of a fault of a start, and the number of its execution error.
+-- Returns the number of a fault of a start. If the fault is an execution error, the number of the error follows.
 abbrev pub boot_text : BootFault → List ℕ
 boot_text fault = decimal (boot_number fault) ++ error_text fault
 
--- The number of a fault of a volume, and the entry or the fault of the first copy that it names.
+-- Returns the number of a fault of a volume. If the fault names an entry or the fault of the first copy, this number
+-- follows.
 abbrev pub volume_text : VolumeFault → List ℕ
 volume_text fault = decimal (volume_number fault) ++ entry_text (detail_of fault)
 
--- The number of a fault of a text, and the line or position that it names.
+-- Returns the number of a fault of a text. If the fault names a line or a position, it follows.
 abbrev pub text_fault_text : TextFault → List ℕ
 text_fault_text fault = decimal (text_number fault) ++ entry_text (place_of_text_fault fault)
 
--- The number of a fault of a volume command, and the number of the fault within it.
+-- Returns the number of a fault of a volume command. If the fault contains another fault, the number of that fault
+-- follows.
 abbrev pub filer_text : FilerFault → List ℕ
 filer_text (filer.Volume fault) = 49 ∷ 32 ∷ volume_text fault
 filer_text (filer.Text fault) = 50 ∷ 32 ∷ text_fault_text fault
 filer_text filer.BadDate = 51 ∷ []
 filer_text filer.NoMemory = 52 ∷ []
 
--- The number of a fault of a code file, and the slot that it names.
+-- Returns the number of a fault of a code file. If the fault names a slot, it follows.
 abbrev pub code_text : CodeFault → List ℕ
 code_text fault = decimal (code_number fault) ++ entry_text (slot_of_fault fault)
 
--- The number of a fault of an assembler source text, and the line or segment that it names.
+-- Returns the number of a fault of an assembler source text. If the fault names a line or a segment, it follows.
 abbrev pub asm_text : AsmFault → List ℕ
 asm_text fault = decimal (asm_number fault) ++ entry_text (asm_place fault)
 
--- The number of a fault of the system segment, and the number of the fault within it.
+-- Returns the number of a fault of the system segment. If the fault contains another fault, the number of that fault
+-- follows.
 abbrev pub system_text : SystemFault → List ℕ
 system_text (system.NoCode fault) = 49 ∷ 32 ∷ code_text fault
 system_text system.NoSegment = 50 ∷ []
@@ -82,7 +86,7 @@ refusal_text (refusals.System fault) = codes "refused system " ++ system_text fa
 refusal_text (refusals.Filer fault) = codes "refused filer " ++ filer_text fault
 refusal_text (refusals.Boot fault) = codes "refused boot " ++ boot_text fault
 
--- A fault that means that memory is out, which is no refusal.
+-- Is true if the fault means out of memory. Out of memory is not reported as a refusal.
 abbrev pub is_boot_want : BootFault → Bool
 is_boot_want boot.NoFile = false
 is_boot_want boot.NotCode = false

@@ -5,7 +5,8 @@ use Rattle.pm_check.specs.declared.note.Form.TheVariants as forms
 use Rattle.pm_volume.specs.declared.fault.VolumeFault.{VolumeFault}
 use Rattle.pm_volume.specs.declared.fault.VolumeFault.TheVariants as faults
 
--- A fault in an image with the header of a volume. The form of the image is not the cause.
+-- Is true if the fault occurs only in an image with the header of a volume. Then the form of the image is not the cause
+-- of the fault.
 abbrev pub is_behind_header : VolumeFault → Bool
 is_behind_header (faults.BadEntry entry) = true
 is_behind_header faults.TooManyFiles = true
@@ -13,7 +14,7 @@ is_behind_header faults.PastEnd = true
 is_behind_header (faults.FirstCopyBad number) = true
 is_behind_header _ = false
 
--- The sentence about a form and how to read it.
+-- Returns a sentence that names the form of an image and states how to read an image of this form.
 abbrev pub form_sentence : Form → List ℕ
 form_sentence forms.Dos =
     codes "the image has the form dos (sectors in DOS order): add --form dos to the command"
@@ -22,7 +23,8 @@ form_sentence forms.Swapped =
 form_sentence _ =
     codes "the image has a header before its blocks: --form 2mg reads it, examples/form.sh IMAGE NEW removes it"
 
--- The message for a fault and the known form of the image, if any.
+-- Returns the message about an image with this fault. Returns None if the form is not known, or if the fault occurs
+-- only in an image with the header of a volume.
 abbrev pub form_told : VolumeFault → Option Form → Option (List ℕ)
 form_told fault None = None
 form_told fault (Some form) = if is_behind_header fault then None else Some (form_sentence form)

@@ -1,4 +1,4 @@
-//! The jobs on an assembler source text.
+//! Executes the jobs on an assembler source text.
 ghost use Rattle.std.specs.Prelude.{◌≡◌, ◌≢◌, ◌++◌, Ok, Err, IfOk, IfErr, OnOk, string_bytes};
 ghost use Rattle.pm_asm.specs.Assembled.{assembled, wanted};
 ghost use Rattle.pm_source.specs.declared.fault.AsmFault.TheVariants.{NoMemory};
@@ -18,14 +18,14 @@ use pm_asm::{
 use std::alloc::{AllocError, Global};
 use std::fmt::Write;
 
-/// Returns the character of a byte. A byte above 127 is character 127.
+/// Returns the character of `byte`. A byte above 127 is read as character 127.
 fn character(byte: u8) -> char
     ensures value { result ≡ character_of byte }
 {
     char::from(byte.min(127))
 }
 
-/// Copies bytes into a new string of their characters.
+/// Copies `input` into a new string, with one character for each byte.
 #[tactic(auto, unfolding(crate::specs::Assembly::text_of_input))]
 fn text_of(alloc: Global, input: &[u8]) -> Result<String, AllocError>
     ensures text { IfOk result (λ text. string_bytes text ≡ text_of_input input.now) }
@@ -37,7 +37,8 @@ fn text_of(alloc: Global, input: &[u8]) -> Result<String, AllocError>
     Ok(text)
 }
 
-/// Returns the string of the characters of an input. The memory of an ASCII input is reused.
+/// Converts `input` to a string with one character for each byte. If all bytes are ASCII, the memory of `input` is
+/// reused.
 #[tactic(auto, using(crate::proofs::Characters::ascii_stays))]
 fn text_in_place(alloc: Global, input: Vec<u8>) -> Result<String, AllocError>
     ensures text { IfOk result (λ text. string_bytes text ≡ text_of_input input.items) }
@@ -51,8 +52,8 @@ fn text_in_place(alloc: Global, input: Vec<u8>) -> Result<String, AllocError>
     }
 }
 
-/// Assembles a source text and returns the bytes of its code file, or with `list` those of its listing. Only the
-/// requested one is created.
+/// Assembles `text`. Returns the bytes of the listing if `list` is true, and otherwise the bytes of the code file. Only
+/// the requested one is created.
 fn made(alloc: Global, text: &str, list: bool) -> Result<Vec<u8>, AsmFault>
     ensures bytes { IfOk result (λ bytes. wanted list (assembled text.now) ≡ Ok bytes.items) }
     ensures refusal { IfErr result (λ fault. fault ≢ NoMemory → assembled text.now ≡ Err fault) }
@@ -64,8 +65,8 @@ fn made(alloc: Global, text: &str, list: bool) -> Result<Vec<u8>, AsmFault>
     assemble_file(alloc, text)
 }
 
-/// Returns the bytes of the code file of a source text, or with `list` those of its listing. The inner error is the
-/// fault of the source text.
+/// Returns the bytes of the listing of `text` if `list` is true, and otherwise the bytes of its code file. The inner
+/// error is the fault of `text`; the outer error is out of memory.
 fn wanted(alloc: Global, text: &str, list: bool) -> Result<Result<Vec<u8>, AsmFault>, AllocError>
     ensures bytes { IfOk result (λ bytes. IfOk bytes (λ bytes. wanted list (assembled text.now) ≡ Ok bytes.items)) }
     ensures refusal { IfOk result (λ bytes. IfErr bytes (λ fault. wanted list (assembled text.now) ≡ Err fault)) }
@@ -77,7 +78,7 @@ fn wanted(alloc: Global, text: &str, list: bool) -> Result<Result<Vec<u8>, AsmFa
     }
 }
 
-/// Returns the part of a text before the line with this number, which counts from 1.
+/// Returns the part of `text` before line `number`. Lines are counted from 1. Returns None if `text` has no such line.
 fn before_line(text: &str, number: usize) -> Option<&str> {
     let mut line: usize = 1;
     for (place, byte) in text.bytes().enumerate() {
@@ -91,8 +92,8 @@ fn before_line(text: &str, number: usize) -> Option<&str> {
     None
 }
 
-/// Returns the hint for an `.END` that is refused in line `number`, if the bytes and jump entries of its procedure can
-/// be counted.
+/// Returns the hint for a refused `.END` in line `number` of `text`. Returns None if the bytes and jump entries of the
+/// procedure before it cannot be counted.
 fn hint_at_end(alloc: Global, text: &str, number: usize) -> Option<Hint> {
     match counts_of(alloc, before_line(text, number)?) {
         Ok(Some(counts)) => Some(ended_hint(counts)),
@@ -100,8 +101,9 @@ fn hint_at_end(alloc: Global, text: &str, number: usize) -> Option<Hint> {
     }
 }
 
-/// Returns the message of a line with a fault, or `None` if memory is out. It has the line number with a hint, or the
-/// fault if there is no hint. Below it are the line and the mark.
+/// Returns the message for `line`, which is line `number` of `text` and has `fault`. The first line of the message has
+/// the line number with a hint, or the fault if no hint exists. The next lines are `line` and a mark below the faulty
+/// column. Returns None if memory runs out.
 fn told_line(
     alloc: Global,
     text: &str,
@@ -121,7 +123,8 @@ fn told_line(
     told.ok()
 }
 
-/// Returns the message of the line that a fault names, if it names one and there is memory.
+/// Returns the message for the line of `text` that `fault` names. Returns None if `fault` names no line or memory runs
+/// out.
 fn line_of(alloc: Global, text: &str, fault: AsmFault) -> Option<String> {
     let number = match fault {
         AsmFault::TooLong(_) => return None,
@@ -131,7 +134,8 @@ fn line_of(alloc: Global, text: &str, fault: AsmFault) -> Option<String> {
     told_line(alloc, text, fault, number, line)
 }
 
-/// Returns the bytes, or the refusal with the message of the line that it names.
+/// Returns the product with `bytes`. If `bytes` is a fault, returns the refusal, with the message for the line of
+/// `text` that the fault names.
 fn bytes_made(alloc: Global, text: &str, bytes: Result<Vec<u8>, AsmFault>) -> Made
     ensures bytes { IfOk bytes (λ bytes. product_of result ≡ Written bytes.items) }
     ensures fault { IfErr bytes (λ fault. product_of result ≡ Refused (refusals.Asm fault)) }
@@ -145,7 +149,7 @@ fn bytes_made(alloc: Global, text: &str, bytes: Result<Vec<u8>, AsmFault>) -> Ma
     }
 }
 
-/// Returns the code file of the source text in the input, or with `list` its listing.
+/// Assembles the source text in `input`. The product is the listing if `list` is true, and otherwise the code file.
 pub(crate) fn assemble(alloc: Global, input: Vec<u8>, list: bool) -> Result<Made, AllocError>
     ensures made { IfOk result (λ made. product_of made ≡ made_asm list input.items) }
 {
@@ -154,7 +158,8 @@ pub(crate) fn assemble(alloc: Global, input: Vec<u8>, list: bool) -> Result<Made
     Ok(bytes_made(alloc, &text, bytes))
 }
 
-/// Returns the lines of the procedures and labels of a source text. The inner error is the fault of the source text.
+/// Returns a line for each procedure and each label of the source text `text`. The inner error is the fault of `text`;
+/// the outer error is out of memory.
 fn symbols(alloc: Global, text: &str) -> Result<Result<Vec<u8>, AsmFault>, AllocError>
     ensures bytes { IfOk result (λ bytes. IfOk bytes (λ bytes. symbol_text text.now ≡ Ok bytes.items)) }
     ensures refusal { IfOk result (λ bytes. IfErr bytes (λ fault. symbol_text text.now ≡ Err fault)) }
@@ -166,7 +171,7 @@ fn symbols(alloc: Global, text: &str) -> Result<Result<Vec<u8>, AsmFault>, Alloc
     }
 }
 
-/// Returns the lines of the procedures and labels of the source text in the input.
+/// Returns a line for each procedure and each label of the source text in `input`.
 pub(crate) fn list_symbols(alloc: Global, input: Vec<u8>) -> Result<Made, AllocError>
     ensures made { IfOk result (λ made. product_of made ≡ made_symbols input.items) }
 {
@@ -175,7 +180,7 @@ pub(crate) fn list_symbols(alloc: Global, input: Vec<u8>) -> Result<Made, AllocE
     Ok(bytes_made(alloc, &text, bytes))
 }
 
-/// Appends the line of a fault.
+/// Appends the line for `fault` to `text`: the same line that a refusal with this fault prints.
 #[tactic(auto, unfolding(crate::specs::Assembly::fault_line))]
 fn push_fault(text: &mut String, fault: AsmFault) -> Result<(), AllocError>
     ensures text { OnOk result (string_bytes text.new ≡ string_bytes text.old ++ fault_line fault) }
@@ -185,7 +190,7 @@ fn push_fault(text: &mut String, fault: AsmFault) -> Result<(), AllocError>
     Ok(())
 }
 
-/// Returns the lines of faults.
+/// Returns the lines for all `faults`, in their order.
 fn lines_of(alloc: Global, faults: &[AsmFault]) -> Result<String, AllocError>
     ensures text { IfOk result (λ text. string_bytes text ≡ fault_lines faults.now) }
 {
@@ -196,7 +201,7 @@ fn lines_of(alloc: Global, faults: &[AsmFault]) -> Result<String, AllocError>
     Ok(text)
 }
 
-/// Returns the refusal of a source text with these faults, or `None` if there are none.
+/// Returns the refusal of a source text with these `faults`: the first of them. Returns None if `faults` is empty.
 fn first_refusal(faults: &[AsmFault]) -> Option<Refusal>
     ensures refusal { result ≡ first_refusal faults.now }
 {
@@ -206,10 +211,11 @@ fn first_refusal(faults: &[AsmFault]) -> Option<Refusal>
     }
 }
 
-/// The maximum number of faults whose lines are shown.
+/// The maximum number of faults for which `lines_told` returns a message.
 const TOLD: usize = 20;
 
-/// Returns the messages of the lines that the first faults name, in ascending order.
+/// Returns the messages for the lines of `text` that the first `TOLD` faults name, in ascending order of the lines.
+/// Returns None if `faults` is empty, if one of these faults names no line of `text`, or if memory runs out.
 fn lines_told(alloc: Global, text: &str, faults: &[AsmFault]) -> Option<String> {
     let mut told = String::new(alloc);
     let mut faults = faults.iter().take(TOLD);
@@ -231,7 +237,7 @@ fn lines_told(alloc: Global, text: &str, faults: &[AsmFault]) -> Option<String> 
     None
 }
 
-/// Returns the lines of all faults of the source text in the input, and its refusal if it has faults.
+/// Returns a line for each fault of the source text in `input`, and the refusal if the text has faults.
 pub(crate) fn find_faults(alloc: Global, input: Vec<u8>) -> Result<Made, AllocError>
     ensures made { IfOk result (λ made. product_of made ≡ made_faults input.items) }
 {

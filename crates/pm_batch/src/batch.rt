@@ -1,4 +1,4 @@
-//! Jobs that convert bytes to bytes, as functions of their input.
+//! Jobs that convert bytes to bytes. Each job is a function that maps its input to its product.
 ghost use Rattle.std.specs.Prelude.{◌≡◌, IfOk};
 ghost use Rattle.pm_batch.specs.Batches.{made_of, reads_input};
 ghost use Rattle.pm_batch.specs.Products.{product_of};
@@ -15,28 +15,30 @@ use std::alloc::{AllocError, Global};
 /// A job that converts bytes to bytes.
 #[derive(Drop)]
 pub enum Batch {
-    /// An output of `asm` for an assembler source text.
+    /// The assembly of a source text, with one of the outputs of `asm`.
     Asm(AsmOutput),
-    /// A command on a volume. An image that is no volume is refused, and its form is reported.
+    /// A command on a volume. If the image is no volume, `opened` is the fault and the job is refused. `form` is the
+    /// form of the image for the message of this refusal.
     Files {
         opened: Result<Volume, VolumeFault>,
         form: Option<Form>,
         command: FileCommand,
     },
-    /// A new volume with this name and number of blocks.
+    /// The creation of a volume with this name and number of blocks.
     New {
         name: String,
         blocks: u16,
     },
-    /// The repair of the first copy of the directory of a volume.
+    /// The repair of an image: the first copy of the directory is replaced if it is damaged.
     Repair {
         image: Vec<u8>,
     },
-    /// A check of an image.
+    /// The check of an image for faults.
     Check {
         image: Vec<u8>,
     },
-    /// The copy of the files of an image to a new volume.
+    /// The copy of the files of an image to a new volume. If `second` is true, the second copy of the directory is
+    /// used.
     Salvage {
         image: Vec<u8>,
         second: bool,
@@ -44,7 +46,7 @@ pub enum Batch {
 }
 
 impl Batch {
-    /// Whether it reads its input to the end. Otherwise it reads nothing of it.
+    /// Returns true if the job reads its whole input, and false if the job reads no input.
     pub fn reads_input(&self) -> bool
         ensures value { result ≡ reads_input self.now }
     {
@@ -61,24 +63,24 @@ impl Batch {
     }
 }
 
-/// The product of a job.
+/// The product of a job: what the job writes, saves or refuses.
 #[derive(Drop)]
 pub enum Made {
-    /// Bytes that are written.
+    /// The bytes that are written.
     Bytes(Vec<u8>),
-    /// The image of a volume that is saved.
+    /// The image of a volume, which is saved.
     Image(Vec<u8>),
-    /// A refusal. A terminal shows the text instead of the reason if there is one. For an assembler source text it has
-    /// the line that the refusal names and a hint.
+    /// A refusal. The string, if it is given, is what a terminal shows instead of the reason for the refusal. For an
+    /// assembler source text it has the line that the refusal names and a hint.
     Refused(Refusal, Option<String>),
-    /// A report on an image or an assembler source text, which is written, and its refusal, if any. A terminal shows
-    /// the last text instead of the reason if there is one.
+    /// A report on an image or an assembler source text, which is written, and the refusal of this image or text, if it
+    /// has faults. The string, if it is given, is what a terminal shows instead of the reason for the refusal.
     Judged(Vec<u8>, Option<Refusal>, Option<String>),
     /// A text that is written, and the image of a volume that is saved.
     Saved(Vec<u8>, Vec<u8>),
 }
 
-/// Returns the product of a job for its input. The input of a job that reads nothing is empty.
+/// Returns the product of `job` for `input`. If `job` reads no input, `input` must be empty.
 pub fn make(alloc: Global, job: Batch, input: Vec<u8>) -> Result<Made, AllocError>
     ensures made { IfOk result (λ made. product_of made ≡ made_of job input.items) }
 {

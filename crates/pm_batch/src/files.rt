@@ -1,4 +1,4 @@
-//! Jobs on volumes.
+//! Executes the jobs on volumes.
 ghost use Rattle.std.specs.Prelude.{◌≡◌, IfOk, IfSome, Some, string_bytes};
 ghost use Rattle.pm_filer.specs.Filed.{answer_of, order_of};
 ghost use Rattle.pm_volume.specs.Copies.{repaired};
@@ -16,7 +16,7 @@ use pm_filer::{FileCommand, FilerFault, Reply, apply};
 use pm_volume::{Volume, VolumeFault};
 use std::alloc::{AllocError, Global};
 
-/// Opens an image as a volume, or returns the reason why it is none.
+/// Opens `image` as a volume, or returns the fault for which it is no volume.
 pub fn open(image: Vec<u8>) -> Result<Volume, VolumeFault>
     ensures opened { result ≡ opened_image image.items }
 {
@@ -26,7 +26,7 @@ pub fn open(image: Vec<u8>) -> Result<Volume, VolumeFault>
     }
 }
 
-/// Whether a command uses the bytes of the input.
+/// Returns whether `command` reads bytes from the input of the job.
 pub(crate) fn takes_input(command: &FileCommand) -> bool
     ensures value { result ≡ takes_input (order_of command.now) }
 {
@@ -39,7 +39,7 @@ pub(crate) fn takes_input(command: &FileCommand) -> bool
     )
 }
 
-/// Returns the command with the bytes of the input instead of its own.
+/// Returns `command` with its bytes replaced by `input`, if it is a command that has bytes.
 fn with_input(command: FileCommand, input: Vec<u8>) -> FileCommand
     ensures order { order_of result ≡ with_input (order_of command) input.items }
 {
@@ -52,7 +52,8 @@ fn with_input(command: FileCommand, input: Vec<u8>) -> FileCommand
     }
 }
 
-/// Returns the answer of a command, or the image of the volume that it changed.
+/// Returns the product of an executed command: the text or the bytes of `reply`, or the image of `volume` if the
+/// command changed the volume.
 fn answer(volume: Volume, reply: Reply) -> Made
     ensures made { product_of result ≡ answered (answer_of reply) volume }
 {
@@ -63,7 +64,8 @@ fn answer(volume: Volume, reply: Reply) -> Made
     }
 }
 
-/// Returns a copy of the name of the file that a command reads or changes, if it names one and there is memory.
+/// Returns a copy of the name of the file that `command` reads or changes. Returns None if `command` names no such file
+/// or memory runs out.
 fn wanted_name(alloc: Global, command: &FileCommand) -> Option<String> {
     match command {
         FileCommand::Get(name) | FileCommand::GetText(name) | FileCommand::Remove(name) => {
@@ -76,14 +78,15 @@ fn wanted_name(alloc: Global, command: &FileCommand) -> Option<String> {
     }
 }
 
-/// Returns `name` with `ending` appended if the volume has a file of this name.
+/// Returns `name` with `ending` appended if `volume` has a file with this longer name. Otherwise returns None.
 fn longer_name(alloc: Global, volume: &Volume, name: &str, ending: &str) -> Option<String> {
     let longer = format!(in alloc; "{name}{ending}").ok()?;
     volume.find(longer.as_str())?;
     Some(longer)
 }
 
-/// Returns the message for a missing file: the name with .TEXT or .CODE appended, if such a file exists.
+/// Returns a message if `fault` is a missing file and a file exists whose name is `name` with `.TEXT` or `.CODE`
+/// appended. The message has this longer name.
 fn told_missing(
     alloc: Global,
     volume: &Volume,
@@ -102,7 +105,7 @@ fn told_missing(
     format!(in alloc; "no file of that name, but there is {longer}").ok()
 }
 
-/// Whether a fault is in an image with the header of a volume.
+/// Returns whether `fault` occurs only in an image that begins with the header of a volume.
 fn is_behind_header(fault: VolumeFault) -> bool
     ensures value { result ≡ is_behind_header fault }
 {
@@ -115,7 +118,7 @@ fn is_behind_header(fault: VolumeFault) -> bool
     )
 }
 
-/// Returns the sentence about the form of an image and how to read it.
+/// Returns a sentence that names the form of an image and states how to read an image of this form.
 fn form_sentence(form: Form) -> &'static str
     ensures sentence { result.now ≡ form_sentence form }
 {
@@ -131,8 +134,8 @@ fn form_sentence(form: Form) -> &'static str
     }
 }
 
-/// Returns the message about an image without the header of a volume, if its form is known. Returns `None` if memory is
-/// out.
+/// Returns the message about an image that has `fault` and no header of a volume. Returns None if the form is not
+/// known, if `fault` is in an image with a header, or if memory runs out.
 pub fn form_told(alloc: Global, fault: VolumeFault, form: Option<Form>) -> Option<String>
     ensures told { IfSome result (λ told. form_told fault form ≡ Some (string_bytes told)) }
 {
@@ -143,7 +146,8 @@ pub fn form_told(alloc: Global, fault: VolumeFault, form: Option<Form>) -> Optio
     String::from_str(alloc, form_sentence(form)).ok()
 }
 
-/// Returns the message about an image that is no volume: how to copy its files, or its form if that is known.
+/// Returns the message about an image that is no volume because of `fault`. The message states how to copy the files,
+/// or the form of the image. Returns None if neither is known or memory runs out.
 fn told_checked(alloc: Global, fault: VolumeFault, form: Option<Form>) -> Option<String> {
     match fault {
         VolumeFault::BadEntry(_) | VolumeFault::TooManyFiles | VolumeFault::PastEnd => {
@@ -155,7 +159,8 @@ fn told_checked(alloc: Global, fault: VolumeFault, form: Option<Form>) -> Option
     }
 }
 
-/// Executes a command on the volume of an image, with the bytes of the input if it uses them.
+/// Executes `command` on the volume `opened` and returns the product. If `command` reads bytes from the input, `input`
+/// has these bytes. If `opened` is a fault, the job is refused.
 pub(crate) fn file(
     alloc: Global,
     opened: Result<Volume, VolumeFault>,
@@ -183,7 +188,8 @@ pub(crate) fn file(
     }
 }
 
-/// Returns the message for a new volume that cannot be created, if it differs from that for an image.
+/// Returns the message about a new volume that cannot be created because of `fault`. Returns None if the message for an
+/// image with this fault also applies.
 fn told_new(alloc: Global, fault: VolumeFault) -> Option<String> {
     match fault {
         VolumeFault::BadHeader => String::from_str(alloc, "a volume has at least 6 blocks").ok(),
@@ -191,7 +197,7 @@ fn told_new(alloc: Global, fault: VolumeFault) -> Option<String> {
     }
 }
 
-/// Creates a volume without files.
+/// Creates a volume `name` with `blocks` blocks and without files. The product is its image, or the refusal.
 pub(crate) fn new_volume(alloc: Global, name: &str, blocks: u16) -> Result<Made, AllocError>
     ensures made { IfOk result (λ made.
         product_of made ≡ made_new (blank_fault name.now blocks) name.now blocks) }
@@ -203,7 +209,8 @@ pub(crate) fn new_volume(alloc: Global, name: &str, blocks: u16) -> Result<Made,
     }
 }
 
-/// Returns the image as a volume. The first copy of the directory is repaired if only this copy is damaged.
+/// Returns `image` as a volume. If only the first copy of its directory is damaged, the second copy replaces it. Any
+/// other damaged image is refused.
 pub(crate) fn repair_volume(alloc: Global, image: Vec<u8>) -> Made
     ensures made { product_of result ≡ made_volume (repaired image.items) }
 {
@@ -216,7 +223,7 @@ pub(crate) fn repair_volume(alloc: Global, image: Vec<u8>) -> Made
     }
 }
 
-/// Returns the faults of an image, and its refusal if it is no volume.
+/// Returns a report on the faults of `image`, and the refusal if `image` is no volume.
 pub(crate) fn check_image(alloc: Global, image: Vec<u8>) -> Result<Made, AllocError>
     ensures made { IfOk result (λ made. product_of made ≡ made_check image.items) }
 {
@@ -232,7 +239,8 @@ pub(crate) fn check_image(alloc: Global, image: Vec<u8>) -> Result<Made, AllocEr
     Ok(Made::Judged(text.into_bytes(), refusal, told))
 }
 
-/// Returns the files of an image in a new volume, and the report about each file.
+/// Copies the files of `image` to a new volume. The product is the new volume and a report with a line for each entry.
+/// If `second` is true, the second copy of the directory is used.
 pub(crate) fn salvage_image(alloc: Global, image: &[u8], second: bool) -> Result<Made, AllocError>
     ensures made { IfOk result (λ made. product_of made ≡ made_salvage (salvaged image.now second)) }
 {

@@ -1,4 +1,5 @@
-//! Jobs that convert bytes to bytes, as functions of their input, and the refusals of an input.
+//! Jobs that convert bytes to bytes: each job is a function that maps its input to its product. Also the refusals of an
+//! input and their messages.
 #![tactic(auto)]
 
 mod assembly;

@@ -1,4 +1,4 @@
-//! The messages for refused inputs.
+//! The messages for refused inputs. A message states the reason and a hint: what the user can do.
 use crate::refusal::Refusal;
 use pm_codefile::CodeFault;
 use pm_filer::{FilerFault, SystemFault};
@@ -7,7 +7,7 @@ use pm_textfile::TextFault;
 use pm_volume::VolumeFault;
 use std::fmt;
 
-/// Returns the hint for an image that is no volume.
+/// Returns the hint for an image that is no volume because of `fault`.
 fn help_for(fault: VolumeFault) -> &'static str {
     match fault {
         VolumeFault::NotBlocks => {
@@ -29,7 +29,7 @@ fn help_for(fault: VolumeFault) -> &'static str {
     }
 }
 
-/// Returns the hint for a command that a volume refuses.
+/// Returns the hint for a command that a volume refuses because of `fault`.
 fn help_of_command(fault: VolumeFault) -> &'static str {
     match fault {
         VolumeFault::NoRoom =>
@@ -46,7 +46,7 @@ fn help_of_command(fault: VolumeFault) -> &'static str {
     }
 }
 
-/// Returns the hint for a fault in a text or a text file.
+/// Returns the hint for a text or a text file with `fault`.
 fn help_of_text(fault: TextFault) -> &'static str {
     match fault {
         TextFault::NoHeader => ", so it is not a text file; 'files get' writes its bytes unchanged",
@@ -56,7 +56,7 @@ fn help_of_text(fault: TextFault) -> &'static str {
     }
 }
 
-/// Returns the hint for a system segment that cannot be added.
+/// Returns the hint for a system segment that cannot be added because of `fault`.
 fn help_of_system(fault: SystemFault) -> &'static str {
     match fault {
         SystemFault::NoCode(_) => "; 'asm' of examples/system/system.text makes one",
@@ -89,7 +89,7 @@ impl fmt::Display for Unfiled {
     }
 }
 
-/// The message for a refusal.
+/// The message for a refusal: its reason and a hint.
 #[derive(Clone, Copy)]
 pub struct Reason(pub Refusal);
 

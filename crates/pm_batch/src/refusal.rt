@@ -14,24 +14,24 @@ use std::fmt;
 /// The reason why an input is refused.
 #[derive(Clone, Copy)]
 pub enum Refusal {
-    /// It is not pairs of hexadecimal digits and white space.
+    /// The input is not a list of pairs of hexadecimal digits with white space.
     Hex,
-    /// The machine does not start on it.
+    /// The machine does not start on the program.
     Boot(BootFault),
     /// The image is no volume, or no volume can be created.
     Volume(VolumeFault),
-    /// A command is refused.
+    /// The command on a volume is refused.
     Filer(FilerFault),
-    /// It is no code file.
+    /// The input is no code file.
     Code(CodeFault),
-    /// It is not a valid assembler source text, or one of its segments is too long.
+    /// The input is not a valid assembler source text, or one of its segments is too long.
     Asm(AsmFault),
     /// The system segment cannot be added.
     System(SystemFault),
 }
 
 impl Refusal {
-    /// Whether it means that memory is out, which is no refusal.
+    /// Returns whether the variant means out of memory. Out of memory is not reported as a refusal.
     pub fn is_want(self) -> bool
         ensures value { result ≡ is_want self }
     {
@@ -49,7 +49,8 @@ impl Refusal {
     }
 }
 
-/// The number of a fault of a volume, and the entry or the fault of the first copy that it names.
+/// The number of a fault of a volume. If the fault names an entry of the directory or the fault of the first copy, this
+/// number follows.
 #[derive(Clone, Copy)]
 struct VolumeNumber(VolumeFault);
 
@@ -65,7 +66,7 @@ impl fmt::Display for VolumeNumber {
     }
 }
 
-/// The number of a fault of a text, and the line or position that it names.
+/// The number of a fault of a text. If the fault names a line or a position, it follows.
 #[derive(Clone, Copy)]
 struct TextNumber(TextFault);
 
@@ -81,7 +82,7 @@ impl fmt::Display for TextNumber {
     }
 }
 
-/// The number of a fault of a code file, and the slot that it names.
+/// The number of a fault of a code file. If the fault names a slot, it follows.
 #[derive(Clone, Copy)]
 struct CodeNumber(CodeFault);
 
@@ -97,7 +98,7 @@ impl fmt::Display for CodeNumber {
     }
 }
 
-/// The number of a fault of an assembler source text, and the line or segment that it names.
+/// The number of a fault of an assembler source text. If the fault names a line or a segment, it follows.
 #[derive(Clone, Copy)]
 struct AsmNumber(AsmFault);
 
@@ -113,7 +114,7 @@ impl fmt::Display for AsmNumber {
     }
 }
 
-/// The number of a fault of a start, and the number of its execution error.
+/// The number of a fault of a start. If the fault is an execution error, the number of the error follows.
 #[derive(Clone, Copy)]
 struct BootNumber(BootFault);
 
@@ -132,7 +133,7 @@ impl fmt::Display for BootNumber {
     }
 }
 
-/// The number of a fault of the system segment, and the number of the fault within it.
+/// The number of a fault of the system segment. If the fault contains another fault, the number of that fault follows.
 #[derive(Clone, Copy)]
 struct SystemNumber(SystemFault);
 

@@ -1,4 +1,4 @@
--- The numbers are computed.
+-- The checker computes the numbers of the worked examples.
 use Rattle.std.proofs.Common.{refl}
 use Rattle.pm_c.specs.Worked.{WorkedAnswers, WorkedErrors, WorkedRefusals, WorkedStops}
 

@@ -1,5 +1,5 @@
--- The machine value of the parts of a box. What is owned of them determines it and can be built from a block and an
--- allocator.
+-- How a `Loose` is represented in the machine: a pointer and an allocator. If something owns a `Loose`, it owns a block
+-- and an allocator; and from a block and an allocator a `Loose` can be built.
 use Rattle.std.proofs.Common.{◌≡◌, ℕ, List, [], ◌∷◌, ◌++◌, refl, subst}
 use mathlib.Core.Bool.{true, ◌&&◌}
 use lib.Dec.{T}
@@ -26,7 +26,7 @@ use Rattle.std.specs.Box.Ownership.{box_owns}
 use Rattle.std.proofs.ResultValues.{and_tt}
 use Rattle.pm_c.specs.contracts.loose.Loose as loose
 
--- A struct of these two parts.
+-- The struct with the two fields `v` and `w`.
 abbrev pub both : Val → Val → Val
 both v w = vstruct (vcons v (vcons w vnil))
 
@@ -41,7 +41,8 @@ module _ (R Z : RattleType) (L : Laws Z) (g : Ghosts Z.Denot) where
   loose_good b o h fits = (and_tt (has_ty (layout Z) h) fits.0, (tt, (fits.1, tt)))
 
   module _ {M : Type 1} {𝓤 : Ura M} {𝓛 : Logic 𝓤} {K : Type 0} {Γ : List (Item 𝓤)} {G : Goal 𝓤 𝓛.H} where
-    -- What is owned of the parts is a block and an allocator, and each has one machine value.
+    -- If a goal follows from the ownership of a block and an allocator, then it follows from the ownership of a
+    -- `Loose`. Each of the two parts has one value in the machine.
     pub loose_out : K → (d : Loose.Denot) (vs : List Val)
         → ((b o : ℕ) (h : Val) → d.at ≡ block_ptr b o → vs ≡ both (vptr b o) h ∷ [] → Good (layout Z) h
         → Seq K 𝓛 (‵ (box_owns (g.dealloc_token d.alloc) R (block_ptr b o) d.value) ∷ ‵ (Z.own_val d.alloc (h ∷ [])) ∷ Γ) G)
@@ -55,7 +56,7 @@ module _ (R Z : RattleType) (L : Laws Z) (g : Ghosts Z.Denot) where
         (subst (λ (ws : List Val). vs ≡ vstruct (of_list (ptr_val d.at ∷ (ws ++ [])))
         ∷ []) ea (subst (λ (ps : List Val). vs ≡ vstruct (of_list (ps ++ (vss.1.0 ++ []))) ∷ []) ep ev))) fits)))))
 
-    -- A block and an allocator are the parts of a box.
+    -- From the ownership of a block and an allocator follows the ownership of a `Loose`.
     pub loose_in : K → (b o : ℕ) (h : Val) (a : Z.Denot) (x : R.Denot)
         → Step K 𝓛 (‵ (Loose.own_val (record { at = block_ptr b o; alloc = a; value = x }) (both (vptr b o) h ∷ []))
         ∷ Γ) G (‵ (box_owns (g.dealloc_token a) R (block_ptr b o) x) ∷ ‵ (Z.own_val a (h ∷ [])) ∷ Γ) G

@@ -1,4 +1,4 @@
--- Each answer has a sentence.
+-- Proofs that the library has a sentence for each status.
 use Rattle.std.proofs.Common.{◌≢◌, ◌+◌, refl}
 use Rattle.pm_words.specs.Errors.{number_of}
 use Rattle.pm_words.specs.declared.error.ExecError.{ExecError}

@@ -1,4 +1,4 @@
--- The laws of a session with a handle.
+-- Proofs of the laws about a session with a handle.
 use Rattle.std.proofs.Common.{◌≡◌, ℕ, List, [], ◌∷◌, ◌++◌, Bool, true, false, refl, sym}
 use Rattle.std.specs.Prelude.{if◌then◌else◌}
 use Rattle.pm_debug.specs.Session.{Session}

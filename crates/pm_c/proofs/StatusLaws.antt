@@ -1,4 +1,4 @@
--- The laws of the statuses, and of buffers.
+-- Proofs of the laws about the statuses and about buffers.
 use Rattle.std.proofs.Common.{arith, ◌≡◌, ℕ, [], ◌++◌, length, drop, nat_lt, true, false, refl, sym, ap, ◌∙◌, inl, inr}
 use Rattle.std.proofs.lemmas.Bool.{cases_Bool}
 use Rattle.std.proofs.lemmas.Bool.Decides.{nat_tests}

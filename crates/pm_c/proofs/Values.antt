@@ -1,4 +1,4 @@
--- The machine value of a handle. What is owned determines it and can be built from nothing.
+-- How a handle is represented in the machine: a struct with one pointer.
 use Rattle.std.proofs.Common.{◌≡◌, ℕ, zero, suc, List, [], ◌∷◌, ◌++◌, refl, ◌∙◌, lit<}
 use lib.Dec.{T}
 use seplogic.Ra.Ura.{Ura}
@@ -28,17 +28,17 @@ use Rattle.pm_c.specs.Owned.{owned}
 abbrev pub Good : Ty → Val → Type 0
 Good τ v = T (has_ty τ v) × WT v
 
--- The parameter at a position.
+-- Returns the parameter at the position `k` of a list.
 abbrev pub slot_at : {n : ℕ} → ℕ → List (Slot n) → Slot n
 slot_at k [] = plain (λ _. unit)
 slot_at zero (s ∷ ss) = s
 slot_at (suc k) (s ∷ ss) = slot_at k ss
 
--- A struct given only by its fields: what it owns does not depend on its name.
+-- A struct type with the fields `Rs` and without a name. What a struct owns does not depend on its name.
 abbrev pub plainly : List RattleType → RattleType
 plainly Rs = Struct (record { name = []; args = []; types = []; fields = Rs })
 
--- A handle of a pointer.
+-- The machine value of a handle with the pointer `p`.
 abbrev pub handle_val : Ptr → Val
 handle_val p = vstruct (vcons (ptr_val p) vnil)
 
@@ -55,11 +55,11 @@ pub handle_typed : (p : Ptr) → Good (ty_struct [] (tcons ty_ptr tnil)) (handle
 handle_typed (block_ptr b o) = (tt, (tt, tt))
 handle_typed null_ptr = (tt, (record { fits = lit< tt }, tt))
 
--- A value in a block of the heap.
+-- The pointer owns a block of the heap that contains a value.
 abbrev pub boxed : (R : RattleType) → Global → Ptr → R.Denot → Fml
 boxed R heap = box_owns (ghosts.dealloc_token heap) R
 
--- A pointer to a block that an allocator frees may be compared with null.
+-- A pointer to a block that an allocator can free may be compared with null.
 tested : {M : Type 1} {𝓤 : Ura M} (𝓛 : Logic 𝓤) (R : RattleType) (heap : Global) (p : Ptr) (x : R.Denot)
     → ent 𝓤 (sem 𝓛 (boxed R heap p x)) (guard 𝓤 (Testable p) (sem 𝓛 (boxed R heap p x)))
 tested {𝓤 = 𝓤} 𝓛 R heap p x =
@@ -68,7 +68,8 @@ tested {𝓤 = 𝓤} 𝓛 R heap p x =
     (dealloc_token-Testable 𝓛 heap τ p)) (guard_i 𝓤 (Testable p) (sem 𝓛 (boxed R heap p x)))
 
 module _ (R : RattleType) {M : Type 1} {𝓤 : Ura M} {𝓛 : Logic 𝓤} {K : Type 0} {Γ : List (Item 𝓤)} {G : Goal 𝓤 𝓛.H} where
-  -- A handle is empty and its pointer is null, or it has a value in a block.
+  -- If a goal follows for an empty handle, whose pointer is null, and for a handle with a value in a block, then it
+  -- follows for any handle.
   pub either_owned : K → (p : Ptr) (o : Option R.Denot) → (p ≡ null_ptr → o ≡ None → Seq K 𝓛 Γ G)
       → ((b n : ℕ) (heap : Global) (x : R.Denot) → p ≡ block_ptr b n → o ≡ Some x → Testable (block_ptr b n)
       → Seq K 𝓛 (‵ (boxed R heap (block_ptr b n) x) ∷ Γ) G)

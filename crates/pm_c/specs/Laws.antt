@@ -1,4 +1,4 @@
--- Laws of the statuses, of buffers and of sessions.
+-- Laws about the statuses, the buffers and the sessions.
 use Rattle.std.specs.Prelude.{◌≡◌, ◌≢◌, ◌↔◌, ℕ, ◌+◌, List, [], ◌∷◌, ◌++◌, length, None, IsOk}
 use Rattle.std.specs.Prelude.{is_some, false, true, codes, if◌then◌else◌}
 use Rattle.pm_volume.specs.Directory.{image_fault}
@@ -29,7 +29,7 @@ use Rattle.pm_c.specs.Changes.{fill_code, filled}
 use Rattle.pm_c.specs.Codes.{boot_code, image_code, on_unit_4, program_code, stop_code}
 use Rattle.pm_c.specs.declared.status.TheConstants.{DONE, NO_MACHINE, NO_MEMORY, TOO_SHORT}
 
--- A buffer that is too short is unchanged. A buffer of the length that is then requested gets exactly the bytes.
+-- If a buffer is too short, it is unchanged. A buffer `room` of the needed length then gets exactly the bytes.
 abbrev pub WantedLengthIsEnough : Type 0
 WantedLengthIsEnough =
     (bytes old room : List ℕ) → fill_code bytes old ≡ TOO_SHORT → length room ≡ length bytes →
@@ -48,16 +48,16 @@ MountIsTold =
     (unit : ℕ) (image : List ℕ) (devices : Devices) →
     image_code unit image devices ≡ DONE ↔ (image_fault image ≡ None) × IsOk (mounted unit image devices)
 
--- No answer of a machine has the status of a call that was not executed.
+-- The status of an executed step is never the status for out of memory or for an empty handle.
 abbrev pub AnswersAreApart : Type 0
 AnswersAreApart = (stop : Stop) → (stop_code stop ≢ NO_MEMORY) × (stop_code stop ≢ NO_MACHINE)
 
--- The number has a sentence.
+-- The library has a sentence for the number `status`.
 abbrev pub IsTold : ℕ → Type 0
 IsTold status = is_some (sentence status) ≡ true
 
--- Each answer of a machine, of a run of its debugger, of a start, of a unit, of a volume and of a breakpoint has a
--- sentence.
+-- The library has a sentence for each end of a step and of a run of the debugger. It also has a sentence for each fault
+-- of a start, a unit, a volume and a breakpoint.
 pub record AnswersAreTold : Type 0 where
   pub stops : (stop : Stop) → IsTold (stop_code stop)
   pub runs : (reason : BreakReason) → IsTold (go_code reason)
@@ -68,8 +68,9 @@ pub record AnswersAreTold : Type 0 where
   pub not_set : IsTold (500 + refusal_number NotSet)
   pub odd_address : IsTold (500 + refusal_number OddAddress)
 
--- A line and those after it are a session of the program: its answer, followed by the answers to the others in the
--- session that it leaves. Nothing follows `quit`. The answer to a line that is no command is `?`.
+-- The answers to a list of lines are the answer to the first line, followed by the answers to the other lines in the
+-- session after the first line. After `quit` no more lines are answered. The answer to a line that is no command is
+-- `?`.
 pub record LinesAreASession : Type 0 where
   pub answers : (line : List ℕ) (lines : List (List ℕ)) (d : Session) →
       answers (line ∷ lines) d
@@ -78,8 +79,8 @@ pub record LinesAreASession : Type 0 where
   pub quits : (s : State) → line_answer (codes "quit") (opened s) ≡ []
   pub takes_a_break : (s : State) → line_answer (codes "break 2 1 0") (opened s) ≡ codes "ok" ++ (10 ∷ [])
 
--- A call that sets a stop or executes a run leaves the same session as a line of the debugger, if the run passes over
--- no breakpoints.
+-- A call that sets or clears a breakpoint or a watched word, or executes a run, leaves the same session as the line of
+-- the debugger with the same command. For a run, the premise is that the run ignores no breakpoints.
 pub record CallsAreLines : Type 0 where
   pub sets : (s p o : ℕ) (d : Session) →
       with_breaks d (breaks_after true (code_place s p o) d.breaks) ≡ after_command (commands.Break s p o None) d

@@ -7,7 +7,8 @@ use Rattle.std.specs.declared.alloc.Global.{Global}
 use Rattle.std.specs.contracts.impls.GlobalAllocator.TheImpl.{ghosts}
 use Rattle.std.specs.Box.Ownership.{box_owns}
 
--- Without a value the pointer is null. A value is at the pointer, in a block that the allocator frees.
+-- A handle without a value has a null pointer and owns nothing. A handle with the value `x` has a pointer to a block
+-- that contains `x` and that the allocator can free.
 abbrev pub owned : (R : RattleType) → Ptr → Option R.Denot → Fml
 owned R at None = fex (at ≡ null_ptr) (λ _. ftrue)
 owned R at (Some x) = fex Global (λ heap. box_owns (ghosts.dealloc_token heap) R at x)

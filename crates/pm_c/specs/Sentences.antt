@@ -1,9 +1,9 @@
--- The sentences of the numbers that calls return, and of those in the messages of jobs.
+-- The sentences for the numbers that calls return, and for the numbers in the messages of jobs.
 use Rattle.std.specs.Prelude.{ℕ, List, [], ◌∷◌, ◌==◌, codes, Option, Some, None}
 use Rattle.std.specs.Map.{lookup}
 use Rattle.std.specs.Option.{option_or}
 
--- The sentences for calls, machines, starts and units.
+-- The numbers and sentences for calls, machines, starts and units.
 unfoldable pub call_sentences : List (ℕ × List ℕ)
 call_sentences =
     (0, codes "success; of a step and a run: the machine can continue") ∷
@@ -41,8 +41,8 @@ call_sentences =
     (302, codes "the unit has a disk already") ∷
     []
 
--- The sentences for volumes, for stops of a run of the debugger, and for assembler source texts, code files and text
--- files.
+-- The numbers and sentences for volumes, for the breakpoints of the debugger, and for assembler source texts, code
+-- files and text files.
 unfoldable pub file_sentences : List (ℕ × List ℕ)
 file_sentences =
     (401, codes "the length of the image is not a multiple of 512 bytes") ∷
@@ -84,7 +84,7 @@ file_sentence n = lookup (λ m. m == n) file_sentences
 unfoldable pub sentence : ℕ → Option (List ℕ)
 sentence n = option_or (lookup (λ m. m == n) call_sentences) (file_sentence n)
 
--- The sentence, which is empty for a number that no call returns.
+-- Returns the sentence if it exists, and an empty text otherwise.
 abbrev pub or_nothing : Option (List ℕ) → List ℕ
 or_nothing None = []
 or_nothing (Some text) = text

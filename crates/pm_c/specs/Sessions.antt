@@ -1,4 +1,4 @@
--- The effect of calls on a handle on the session of its debugger.
+-- How calls on a handle change the session of its debugger.
 use Rattle.std.specs.Prelude.{◌≡◌, ◌≢◌, ℕ, ◌+◌, Bool, List, [], Option, None, Some, Result, Ok, Err, if◌then◌else◌}
 use Rattle.std.specs.Prelude.{string_bytes}
 use Rattle.pm_words.specs.Errors.{number_of as error_number}
@@ -21,31 +21,33 @@ use Rattle.pm_session.specs.Sessions.{answer_line, is_quit}
 use Rattle.pm_c.specs.declared.held.Held.{Held}
 use Rattle.pm_c.specs.declared.status.TheConstants.{AT_BREAK, CHANGED, DONE, NO_MACHINE, NO_MEMORY}
 
--- The same as `Leads`, but if memory is out, the handle is empty.
+-- The effect of a call on a handle as in `Leads`, except that a handle with a machine can also become empty. Then the
+-- status is `NO_MEMORY`.
 abbrev pub LeadsOrEnds : ℕ → Option Held → Option Held → (Held → Held → Type 0) → Type 0
 LeadsOrEnds status None new P = (status ≡ NO_MACHINE) × (new ≡ None)
 LeadsOrEnds status (Some m) None P = status ≡ NO_MEMORY
 LeadsOrEnds status (Some m) (Some n) P = P m n
 
--- The answer of the program to a line. `quit` has no answer.
+-- Returns the answer to the line `line` in the session `d`. The answer to `quit` is empty.
 abbrev pub line_answer : List ℕ → Session → List ℕ
 line_answer line d = if is_quit (order_of line) then [] else answer_line (order_of line) d
 
--- A line is executed: the session is that after it, its answer is stored, and the ejected disk is unchanged.
+-- The command in `line` was executed: the session is the session after this command, the answer is stored, and the
+-- ejected disk is unchanged.
 pub record Commands (line : List ℕ) (status : ℕ) (m n : Held) : Type 0 where
   pub done : status ≡ DONE
   pub session : session_of n.debugger ≡ session_after (order_of line) (session_of m.debugger)
   pub answer : string_bytes n.answer ≡ line_answer line (session_of m.debugger)
   pub ejected : n.ejected ≡ m.ejected
 
--- ---- the stops of a run
+-- ---- breakpoints and watched words
 
--- The status of what is set or cleared: 500 and the number of the refusal.
+-- Returns the status of a call that sets or clears a breakpoint or a watched word: 500 plus the number of the refusal.
 abbrev pub set_code : {A : Type 0} → Result A DebugRefusal → ℕ
 set_code (Ok after) = DONE
 set_code (Err refusal) = 500 + number_of refusal
 
--- A breakpoint without a condition is set or cleared.
+-- Returns the breakpoints after a breakpoint without a condition is set (`on` is true) or cleared, or the refusal.
 abbrev pub breaks_after : Bool → CodePlace → List Breakpoint → Result (List Breakpoint) DebugRefusal
 breaks_after on place breaks =
     if on then with_break (breakpoint (Code place) None) breaks else without_break (Code place) breaks
@@ -53,13 +55,15 @@ breaks_after on place breaks =
 abbrev pub watches_after : Bool → ℕ → List ℕ → Result (List ℕ) DebugRefusal
 watches_after on address watches = if on then with_watch address watches else without_watch address watches
 
--- The breakpoints after the call. If it is refused, they are unchanged. The machine is unchanged in both cases.
+-- The debugger changes from `d` to `e`. Its breakpoints are those of `after`; if `after` is a refusal, they are
+-- unchanged. The machine is unchanged in both cases.
 pub record SetsBreaks (after : Result (List Breakpoint) DebugRefusal) (status : ℕ) (d e : Debugged) : Type 0 where
   pub says : status ≡ set_code after
   pub session : session_of e ≡ with_breaks (session_of d) after
   pub machine : e.machine ≡ d.machine
 
--- The same for the watched words. If one was set or cleared, the last run cannot be continued.
+-- The debugger changes from `d` to `e`. Its watched words are those of `after`; if `after` is a refusal, they are
+-- unchanged. If a word was added or removed, the last run cannot be continued.
 pub record SetsWatches (after : Result (List ℕ) DebugRefusal) (status : ℕ) (d e : Debugged) : Type 0 where
   pub says : status ≡ set_code after
   pub session : session_of e ≡ with_watches (session_of d) after
@@ -67,7 +71,8 @@ pub record SetsWatches (after : Result (List ℕ) DebugRefusal) (status : ℕ) (
 
 -- ---- runs up to a breakpoint or a changed word
 
--- The status for the reason of the end of such a run. It has no destination.
+-- Returns the status of a run of `pmach_go` that ended for this reason. `There` does not occur, because such a run has
+-- no destination.
 abbrev pub go_code : BreakReason → ℕ
 go_code reasons.Limit = 0
 go_code reasons.There = 0
@@ -77,7 +82,7 @@ go_code reasons.Break = AT_BREAK
 go_code (reasons.Changed address) = CHANGED
 go_code (reasons.Halted error) = 100 + error_number error
 
--- The address of the word that has changed, and otherwise the old value.
+-- Returns the address of the word that has changed. If the run ended for another reason, returns the old value.
 abbrev pub changed_at : BreakReason → ℕ → ℕ
 changed_at (reasons.Changed address) old = address
 changed_at reasons.Limit old = old
@@ -87,19 +92,20 @@ changed_at reasons.Ended old = old
 changed_at reasons.Break old = old
 changed_at (reasons.Halted error) old = old
 
--- The run of `go`, and its reported values.
+-- The values that the call reports, and the new session, are those of `run`.
 pub record GoesSo (run : Gone) (steps status was address : ℕ) (d e : Debugged) : Type 0 where
   pub counts : steps ≡ run.steps
   pub says : status ≡ go_code run.reason
   pub word : address ≡ changed_at run.reason was
   pub session : session_of e ≡ after_run (session_of d) Any run
 
--- The run stopped because memory was out, after the steps that succeeded. The rest of the last run is not specified.
+-- The run stopped because memory ran out, after the steps that succeeded. Only the machine and `left`, the rest of the
+-- last run, have changed. `left` is not specified.
 pub record GoesShort (limit : ℕ) (d e : Debugged) : Type 0 where
   pub gave_up : GaveUp (stops_after d.breaks d.watches nowhere d.machine.state) limit d.machine e.machine
   pub same : e ≡ record d { machine = e.machine; left = e.left }
 
--- A run of at most `limit` steps, or a part of it if memory is out.
+-- The call executes a run of at most `limit` steps. If memory runs out, only a part of the run is executed.
 pub record Goes (limit steps status was address : ℕ) (d e : Debugged) : Type 0 where
   pub went : status ≢ NO_MEMORY → GoesSo (gone d.breaks d.watches limit d.machine.state) steps status was address d e
   pub short : status ≡ NO_MEMORY → GoesShort limit d e

@@ -1,4 +1,4 @@
--- The numbers that programs in C see, computed. Each number of the header was worked out by hand.
+-- Worked examples of the numbers that C programs see. Each number of the header was worked out by hand.
 use Rattle.std.specs.Prelude.{◌≡◌, ℕ, List, Some, None, Result, Err}
 use Rattle.pm_words.specs.declared.error.ExecError.TheVariants.{InvalidIndex, NoSegment, NoProcedure, StackOverflow}
 use Rattle.pm_words.specs.declared.error.ExecError.TheVariants.{DivideByZero, InvalidMemory, SystemIo, UserIo}
@@ -43,7 +43,7 @@ pub record WorkedAnswers : Type 0 where
   pub failed : FAILED ≡ 3
   pub stopped : STOPPED ≡ 6
   pub version : VERSION ≡ 1
-  -- A word is written at an even address, and not at an odd one.
+  -- a word can be written at an even address, and not at an odd address
   pub even : poke_code 1024 ≡ 0
   pub odd : poke_code 1025 ≡ 10
   -- The statuses of whole jobs: success, refusal, an execution error, and the limit or the end of the input.
@@ -52,7 +52,7 @@ pub record WorkedAnswers : Type 0 where
   pub job_failed : exit_number exits.ExecutionError ≡ 3
   pub job_stopped : exit_number exits.Stopped ≡ 6
 
--- The statuses for the answers to a step and for the views of a machine.
+-- The statuses of a step, of a machine and of a run.
 pub record WorkedStops : Type 0 where
   pub went : stop_code stop.Went ≡ 0
   pub waiting : stop_code stop.Waiting ≡ 1
@@ -69,7 +69,7 @@ pub record WorkedStops : Type 0 where
   pub word_changed : go_code (reasons.Changed 1024) ≡ 16
   pub fails : go_code (reasons.Halted StackOverflow) ≡ 104
 
--- A start that is refused with an execution error: 100 and its number.
+-- The statuses of a start that is refused with an execution error: 100 plus the number of the error.
 pub record WorkedErrors : Type 0 where
   pub index : start_code (Err (boot.Exec InvalidIndex)) ≡ 101
   pub segment : start_code (Err (boot.Exec NoSegment)) ≡ 102
@@ -86,7 +86,8 @@ pub record WorkedErrors : Type 0 where
 abbrev breaks_code : Result (List Breakpoint) DebugRefusal → ℕ
 breaks_code = set_code
 
--- The other refusals: programs from 200 on, units from 300 on, volumes from 400 on, breakpoints from 500 on.
+-- The statuses of the other refusals. Programs have numbers from 200 on, units from 300 on, volumes from 400 on, and
+-- breakpoints from 500 on.
 pub record WorkedRefusals : Type 0 where
   pub no_file : start_code (Err boot.NoFile) ≡ 201
   pub not_code : start_code (Err boot.NotCode) ≡ 202

@@ -1,4 +1,4 @@
-//! A whole job: bytes in, bytes out.
+//! Executes a whole job: it maps the bytes of the input to the bytes of the answer.
 ghost use Rattle.std.specs.Prelude.{◌≡◌, ◌≢◌, ◌⊎◌, ◌++◌, IfOk, IfErr, OnOk, string_bytes, option_map, vec_items};
 ghost use Rattle.pm_tool.specs.Said.{IsSoundExit, job_said};
 ghost use Rattle.pm_tool.specs.Outcomes.{exit_number};
@@ -9,7 +9,8 @@ use crate::status::{DONE, NO_MEMORY, NO_TEXT, TOO_LONG};
 use pm_tool::{Exit, Job, Kept, Outcome, Reader, run};
 use std::alloc::{AllocError, Global};
 
-// Returns the exit status of a job, or the status of a call without an answer. The sink fails only if memory is out.
+// Returns the exit status of a job, or as an error the status of a call without an answer. A write to the sink fails
+// only if memory runs out.
 fn exit_code(exit: Exit) -> Result<u32, u32>
     ensures value { IfOk result (λ code. code ≡ exit_number exit) }
     ensures sound { OnOk result (IsSoundExit exit) }
@@ -23,7 +24,7 @@ fn exit_code(exit: Exit) -> Result<u32, u32>
     }
 }
 
-// Returns the image to be saved, if there is one, and otherwise what was written followed by the message.
+// Returns the image to be saved, if `outcome` has one. Otherwise returns the bytes `written`, followed by the message.
 fn answer_bytes(written: Vec<u8>, outcome: Outcome) -> Result<Vec<u8>, AllocError>
     ensures bytes { IfOk result (λ bytes. bytes.items ≡ or_told (option_map vec_items outcome.image)
         (written.items ++ string_bytes outcome.message)) }
@@ -39,7 +40,8 @@ fn answer_bytes(written: Vec<u8>, outcome: Outcome) -> Result<Vec<u8>, AllocErro
     }
 }
 
-// Executes a job. Returns its answer and its exit status, or the status of a call without an answer.
+// Executes `job` with the input `input`. Returns the answer and the exit status, or the status of a call without an
+// answer.
 fn done(alloc: Global, input: &[u8], job: Job) -> Result<(Vec<u8>, u32), u32>
     ensures code { IfOk result (λ a. a.1 ≡ exit_number (job_said job input.now).exit) }
     ensures answer { IfOk result (λ a. HasAnswer a.1) }
@@ -57,7 +59,7 @@ fn done(alloc: Global, input: &[u8], job: Job) -> Result<(Vec<u8>, u32), u32>
     }
 }
 
-/// Executes a job and copies its answer to a buffer.
+/// Executes `job` with the input `input` and copies the answer to `out`. Returns the status.
 pub(crate) fn answer(
     alloc: Global,
     input: &[u8],

@@ -1,11 +1,11 @@
-//! The buffers of the caller.
+//! Copies answers to the buffers of a C program.
 ghost use Rattle.std.specs.Prelude.{◌≡◌};
 ghost use Rattle.pm_c.specs.Changes.{Fills};
 
 use crate::status::{DONE, TOO_SHORT};
 
-/// Copies the bytes to the beginning of a buffer if all of them fit. Otherwise writes none and returns `TOO_SHORT`.
-/// `needed` is set to their number.
+/// Copies `bytes` to the beginning of `out` if all of them fit. Otherwise writes nothing and returns `TOO_SHORT`. In
+/// both cases `needed` is set to the number of `bytes`.
 pub(crate) fn give(bytes: &[u8], out: &mut [u8], needed: &mut usize) -> u32
     ensures fills { Fills bytes.now result out.old out.new needed.new }
 {

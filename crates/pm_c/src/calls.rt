@@ -1,5 +1,5 @@
-//! Tests of each call of the library: its status by the numbers of the header, and its answer. They are in this crate
-//! because no crate can depend on a static library.
+//! Tests of each call of the library. They compare the status with the number in the header, and check the answer. The
+//! tests are in this crate because no crate can depend on a static library.
 mod jobs;
 mod machines;
 mod refusals;
@@ -10,7 +10,7 @@ use crate::shows::Shown;
 use std::alloc::Global;
 use std::process::Abort;
 
-/// The size in bytes of the buffer that calls fill. It is above the length of each answer here.
+/// The size in bytes of the buffer for answers. No answer in these tests is longer.
 const ROOM: usize = 32_768;
 
 /// The result of a call: its status and the bytes of its answer.
@@ -20,8 +20,8 @@ struct Answer {
     bytes: Vec<u8>,
 }
 
-/// Executes a call that copies its answer to a buffer, which is given by its last two parameters. The test ends if
-/// memory is out, so no body handles an error at each call.
+/// Executes a call whose last two parameters are the buffer for its answer and the length of the answer. If memory runs
+/// out, the test ends, so the tests need no code for this error.
 macro_rules! answer {
     ($rt:expr, $alloc:expr, $call:ident $(, $given:expr)*) => {{
         let mut bytes = crate::calls::room($rt, $alloc);
@@ -34,21 +34,21 @@ macro_rules! answer {
 
 use answer;
 
-/// Creates a buffer.
+/// Creates a buffer of `ROOM` bytes.
 fn room(rt: &impl Abort, alloc: Global) -> Vec<u8> {
     let mut bytes = Vec::new(alloc);
     bytes.resize(ROOM, 0xA5).expect(rt, "memory");
     bytes
 }
 
-/// A position in the code before a call.
+/// A position in the code, used as the value before a call.
 const NOWHERE: Place = Place {
     segment: 0,
     procedure: 0,
     offset: 0,
 };
 
-/// Registers before a call.
+/// Values of all registers, used as the values before a call.
 const NOTHING: Shown = Shown {
     steps: 0,
     status: 0,
@@ -72,7 +72,7 @@ impl Answer {
         self.is(rt, status, text.as_bytes());
     }
 
-    /// Checks that the call succeeded and that its answer is these lines, each with its line feed.
+    /// Checks that the call succeeded and that its answer consists of `lines`, each with a line feed.
     fn lists(&self, rt: &impl Abort, lines: &[&str]) {
         assert_eq!(rt; self.status, 0);
         let mut rest = self.bytes.as_slice();

@@ -1,4 +1,4 @@
-//! The debugger of a program on a disk.
+//! A whole session of the debugger for a program on a disk, as one call.
 ghost use Rattle.std.specs.Prelude.{◌≡◌, ◌≢◌, ◌↔◌, [], None};
 ghost use Rattle.std.specs.Str.{IsUtf8};
 ghost use Rattle.pm_tool.specs.Disks.{booted};
@@ -12,14 +12,15 @@ use crate::volumes::{none, text_of};
 use pm_tool::Job;
 use std::alloc::Global;
 
-/// Copies the answers of a debugger to the lines of the input, which are its commands. The program is the code file
-/// `name` on the volume in `image`, which is the disk of unit 4. The session succeeds even if the machine does not.
+/// Executes the commands of the debugger in `input`, one in each line, and copies the answers to `out`. The program is
+/// the code file `name` on the volume in `image`, the disk of unit 4. The session succeeds even if the program ends
+/// with an error.
 ///
-/// Returns 0 if it succeeded. Otherwise:
+/// Returns 0 if the call succeeded. Otherwise it returns one of these statuses:
 ///
 /// - 2: the program does not start. The answer states the reason.
-/// - 12: the name is not UTF-8.
-/// - 4, 5 and 7 as for `pmach_assemble`.
+/// - 12: `name` is not UTF-8.
+/// - 4, 5 or 7, as for `pmach_assemble`.
 #[unsafe(no_mangle)]
 pub extern "C" fn pmach_debug(
     alloc: Global,

@@ -1,4 +1,4 @@
-//! The disks on the units of a machine.
+//! The calls that mount and eject the disks of a machine.
 ghost use Rattle.std.specs.Prelude.{◌≡◌, None, IfOk};
 ghost use Rattle.pm_c.specs.Changes.{ChangesMachine, Ejects, GivesImage, Leads, Looks, Mounts, Opens};
 
@@ -10,7 +10,7 @@ use pm_machine::Machine;
 use pm_volume::{Volume, VolumeFault};
 use std::alloc::{AllocError, Global};
 
-/// Returns the volume in a copy of an image, or its first fault.
+/// Copies `image` and opens the copy as a volume. The inner error is the first fault of an image that is no volume.
 pub(crate) fn volume_of(
     alloc: Global,
     image: &[u8],
@@ -38,13 +38,13 @@ fn mount(alloc: Global, machine: &mut Machine, unit: u8, image: &[u8]) -> u32
     }
 }
 
-/// Mounts a copy of an image on a disk unit. Returns 0 if it succeeded.
+/// Mounts a copy of `image` as the disk of unit `unit`. Returns 0 if the call succeeded.
 ///
 /// Otherwise nothing has changed. The statuses are checked in this order:
 ///
 /// - 8: the handle is empty.
 /// - 5: out of memory.
-/// - 400 and the number of the fault: the image is no volume.
+/// - 400 plus the number of the fault: the image is no volume.
 /// - 301: the unit is not a disk unit.
 /// - 302: the unit already has a disk.
 #[unsafe(no_mangle)]
@@ -72,8 +72,8 @@ fn eject(held: &mut Held, unit: u8) -> u32
     }
 }
 
-/// Ejects the disk of a unit. Returns 0 if it succeeded; `pmach_ejected` then returns its image until another disk is
-/// ejected.
+/// Ejects the disk of unit `unit`. Returns 0 if the call succeeded. Then `pmach_ejected` returns the image of this disk
+/// until another disk is ejected.
 ///
 /// Otherwise nothing has changed:
 ///
@@ -104,7 +104,7 @@ fn give_ejected(held: &Held, out: &mut [u8], needed: &mut usize) -> u32
     }
 }
 
-/// Copies the image of the disk that was ejected last. Returns 0 if it succeeded.
+/// Copies the image of the disk that was ejected last to `out`. Returns 0 if the call succeeded.
 ///
 /// Otherwise nothing is written to the buffer:
 ///

@@ -1,4 +1,4 @@
-//! The events of a machine, with one call for each.
+//! The events of a machine. An event is a call that can change the machine; each kind of event has one call.
 ghost use Rattle.std.specs.Prelude.{◌≡◌, ◌≢◌, None};
 ghost use Rattle.pm_machine.specs.Events.{Key, Poke, next};
 ghost use Rattle.pm_machine.specs.Runs.{GaveUp, never};
@@ -22,13 +22,13 @@ fn step_code(machine: &mut Machine) -> u32
     }
 }
 
-/// Executes one step. Returns one of these statuses:
+/// Executes one step of the machine. Returns one of these statuses:
 ///
 /// - 0: the step succeeded.
-/// - 1: the step waits for console bytes, and nothing has changed.
+/// - 1: the step waits for console bytes. Nothing has changed.
 /// - 2: the program has ended.
-/// - 100 and the number of an execution error, which stops the machine.
-/// - 5: out of memory, and nothing has changed.
+/// - 100 plus the number of an execution error, which stops the machine.
+/// - 5: out of memory. Nothing has changed.
 /// - 8: the handle is empty.
 #[unsafe(no_mangle)]
 pub extern "C" fn pmach_step(alloc: Global, handle: &mut Handle) -> u32
@@ -64,8 +64,8 @@ fn run_code(machine: &mut Machine, limit: u64, steps: &mut u64) -> u32
     }
 }
 
-/// Executes at most `limit` steps while each succeeds. Returns the status of the last step as `pmach_step`, which is 0
-/// at the limit. `steps` is set to the number of counted steps.
+/// Executes at most `limit` steps, as long as each step succeeds. Returns the status of the last step, as `pmach_step`
+/// does. The status is 0 if the limit is reached. Sets `steps` to the number of counted steps. Two other statuses:
 ///
 /// - 5: out of memory. The machine is in the state after the steps that succeeded, and `steps` is 0.
 /// - 8: the handle is empty. `steps` is unchanged.
@@ -86,7 +86,7 @@ pub extern "C" fn pmach_run(alloc: Global, handle: &mut Handle, limit: u64, step
     code
 }
 
-/// Appends a byte to the console input queue. Returns 0 if it succeeded.
+/// Appends `byte` to the console input queue of the machine. Returns 0 if the call succeeded.
 ///
 /// Otherwise nothing has changed:
 ///
@@ -112,7 +112,7 @@ pub extern "C" fn pmach_key(alloc: Global, handle: &mut Handle, byte: u8) -> u32
     code
 }
 
-/// Writes a word at an even address. Returns 0 if it succeeded.
+/// Writes `word` to memory at `address`, which must be even. Returns 0 if the call succeeded.
 ///
 /// Otherwise nothing has changed:
 ///
@@ -136,7 +136,7 @@ pub extern "C" fn pmach_poke(alloc: Global, handle: &mut Handle, address: u16, w
     code
 }
 
-/// Frees the machine of a handle, which is empty afterwards. An empty handle remains empty.
+/// Frees the machine of `handle`. The handle is empty afterwards. An empty handle remains empty.
 #[unsafe(no_mangle)]
 pub extern "C" fn pmach_free(alloc: Global, handle: &mut Handle)
     ensures empty { handle.new.held ≡ None }

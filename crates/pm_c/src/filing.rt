@@ -1,5 +1,5 @@
-//! The kind of a file, and the copy of a file of another volume. There is one call for the first file of a name and one
-//! for the file of a slot.
+//! The calls that set the kind of a file and copy a file from another volume. For both jobs, one call is for the first
+//! file with a name, and another call is for the file in a slot.
 ghost use Rattle.std.specs.Prelude.{◌≡◌, ◌<◌, ◌≤◌, ◌↔◌, []};
 ghost use Rattle.std.specs.Str.{IsUtf8};
 ghost use Rattle.pm_filer.specs.Filed.{Copy, CopySlot, Kind, KindSlot};
@@ -11,10 +11,10 @@ use crate::volumes::{command, none, text_of};
 use pm_filer::FileCommand;
 use std::alloc::Global;
 
-/// Sets the kind of the first file of a name. The answer is the new image.
+/// Sets the kind of the first file with the name `name` to `kind`. The answer is the new image. Additional statuses:
 ///
-/// - 14: the kind is above 15. This is checked first.
-/// - 12: the name is not UTF-8.
+/// - 14: `kind` is above 15. This is checked first.
+/// - 12: `name` is not UTF-8.
 #[unsafe(no_mangle)]
 pub extern "C" fn pmach_kind(
     alloc: Global,
@@ -45,10 +45,10 @@ pub extern "C" fn pmach_kind(
     }
 }
 
-/// Sets the kind of the file of a slot. A file of the same name in another slot is unchanged. The answer is the new
-/// image.
+/// Sets the kind of the file in slot `slot` to `kind`. A file with the same name in another slot is unchanged. The
+/// answer is the new image. An additional status:
 ///
-/// - 14: the kind is above 15.
+/// - 14: `kind` is above 15.
 #[unsafe(no_mangle)]
 pub extern "C" fn pmach_kind_slot(
     alloc: Global,
@@ -75,10 +75,10 @@ pub extern "C" fn pmach_kind_slot(
     )
 }
 
-/// Adds a copy of the first file of a name on the volume in `from`, with its kind and date. The answer is the new
-/// image.
+/// Adds a copy of a file to the volume: the first file with the name `name` on the volume in `from`, with its kind and
+/// date. The answer is the new image. An additional status:
 ///
-/// - 12: the name is not UTF-8.
+/// - 12: `name` is not UTF-8.
 #[unsafe(no_mangle)]
 pub extern "C" fn pmach_copy(
     alloc: Global,
@@ -100,10 +100,10 @@ pub extern "C" fn pmach_copy(
     }
 }
 
-/// Adds a copy of the file of a slot of the volume in `from`, with this name and with its kind and date. The answer is
-/// the new image.
+/// Adds a copy of a file to the volume: the file in slot `slot` of the volume in `from`, with its kind and date. The
+/// name of the copy is `name`. The answer is the new image. An additional status:
 ///
-/// - 12: the name is not UTF-8.
+/// - 12: `name` is not UTF-8.
 #[unsafe(no_mangle)]
 pub extern "C" fn pmach_copy_slot(
     alloc: Global,

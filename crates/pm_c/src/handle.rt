@@ -1,4 +1,4 @@
-//! The handle of a program in C: one pointer, which is null if there is no machine.
+//! The handle of a C program: one pointer, which is null if the handle has no machine.
 ghost use Rattle.std.specs.Prelude.{◌≡◌, Option, Some, None, option_map};
 ghost use Rattle.pm_c.specs.declared.held.Held.{Held};
 
@@ -8,8 +8,8 @@ use std::alloc::Global;
 use std::marker::Model;
 use std::mem;
 
-/// A machine of the caller, or none. In C it is a struct of one pointer. The caller sets it to null before the first
-/// call and must not change it afterwards.
+/// A machine that a C program owns, or no machine. In C it is a struct with one pointer. The program sets the pointer
+/// to null before the first call, and must not change it afterwards.
 #[repr(C)]
 #[derive(Drop)]
 pub struct Handle {
@@ -36,7 +36,7 @@ impl Handle {
         }
     }
 
-    // Returns the handle of a block.
+    // Returns the handle that owns the block `held`.
     fn of_loose(held: Loose<Held, Global>) -> Handle
         ensures value { result.held ≡ Some held.value }
     {
@@ -44,7 +44,7 @@ impl Handle {
         Handle { at: at as *mut u8 }
     }
 
-    // Returns the block of a handle, or `None` for an empty handle.
+    // Returns the block that the handle owns, or `None` if the handle is empty.
     fn into_loose(self, alloc: Global) -> Option<Loose<Held, Global>>
         ensures value { option_map (λ loose. loose.value) result ≡ self.held }
     {
@@ -59,14 +59,14 @@ impl Handle {
         }
     }
 
-    /// Returns the handle of a machine.
+    /// Returns the handle that owns the machine `held`.
     pub(crate) fn of(held: Box<Held>) -> Handle
         ensures value { result.held ≡ Some held.value }
     {
         Handle::of_loose(Loose::of(held))
     }
 
-    // Returns the machine of a handle, or `None` for an empty handle.
+    // Returns the machine that the handle owns, or `None` if the handle is empty.
     fn into_box(self, alloc: Global) -> Option<Box<Held>>
         ensures value { option_map (λ held. held.value) result ≡ self.held }
     {
@@ -77,7 +77,8 @@ impl Handle {
     }
 }
 
-/// Removes the machine from a handle, which is empty afterwards, and returns it. Returns `None` for an empty handle.
+/// Removes the machine from `handle` and returns it. The handle is empty afterwards. Returns `None` if the handle was
+/// empty.
 pub(crate) fn taken(alloc: Global, handle: &mut Handle) -> Option<Box<Held>>
     ensures value { option_map (λ held. held.value) result ≡ handle.old.held }
     ensures empty { handle.new.held ≡ None }

@@ -1,4 +1,4 @@
-//! The jobs on source texts and code, with one call for each.
+//! The jobs on source texts and code files, with one call for each job.
 ghost use Rattle.std.specs.Prelude.{if◌then◌else◌};
 ghost use Rattle.pm_jobs.specs.declared.selection.TheConstants.Selection.{ALL};
 ghost use Rattle.pm_tool.specs.Said.{job_said};
@@ -8,16 +8,17 @@ use crate::answers::answer;
 use pm_tool::{AsmOutput, DisOutput, Job, Selection};
 use std::alloc::Global;
 
-/// Copies the code file of an assembler source text, or with `list` its listing. Returns 0 if it succeeded. Returns 2
-/// if the text is refused; the answer then states the reason.
+/// Assembles the source text `text`. The answer, which is copied to `out`, is the listing if `list` is true, and
+/// otherwise the code file. Returns 0 if the call succeeded. Returns 2 if the text is refused; the answer then states
+/// the reason.
 ///
-/// These statuses apply to each call with an answer:
+/// Each call with an answer can also return these statuses:
 ///
-/// - 7: the buffer is too short. Nothing is written.
-/// - 4: the input is too long. There is no answer.
-/// - 5: out of memory. There is no answer.
+/// - 7: the buffer is too short. Nothing is written to it.
+/// - 4: the input is too long. The call has no answer.
+/// - 5: out of memory. The call has no answer.
 ///
-/// `needed` is set to the length of the answer in bytes, and to 0 if there is none.
+/// `needed` is set to the length of the answer in bytes, or to 0 if the call has no answer.
 #[unsafe(no_mangle)]
 pub extern "C" fn pmach_assemble(
     alloc: Global,
@@ -37,7 +38,7 @@ pub extern "C" fn pmach_assemble(
     answer(alloc, text, Job::Asm(what), out, needed)
 }
 
-/// Copies a line for each fault of an assembler source text. Returns 2, or 0 if there is no fault.
+/// Copies a line for each fault of the source text `text` to `out`. Returns 2 if the text has a fault, and 0 otherwise.
 #[unsafe(no_mangle)]
 pub extern "C" fn pmach_assemble_faults(
     alloc: Global,
@@ -50,8 +51,8 @@ pub extern "C" fn pmach_assemble_faults(
     answer(alloc, text, Job::Asm(AsmOutput::Faults), out, needed)
 }
 
-/// Copies a line `SSS PPP OOOOO NAME` for each procedure and label of an assembler source text. Returns 0 if it
-/// succeeded. Returns 2 if the text is refused; the answer then states the reason.
+/// Copies a line `SSS PPP OOOOO NAME` for each procedure and each label of the source text `text` to `out`. Returns 0
+/// if the call succeeded. Returns 2 if the text is refused; the answer then states the reason.
 #[unsafe(no_mangle)]
 pub extern "C" fn pmach_assemble_symbols(
     alloc: Global,
@@ -64,8 +65,8 @@ pub extern "C" fn pmach_assemble_symbols(
     answer(alloc, text, Job::Asm(AsmOutput::Symbols), out, needed)
 }
 
-/// Copies the source text of a code file. Returns 0 if it succeeded. Returns 2 if the bytes are no code file; the
-/// answer then states the reason.
+/// Copies the source text of the code file `file` to `out`. Returns 0 if the call succeeded. Returns 2 if `file` is no
+/// code file; the answer then states the reason.
 #[unsafe(no_mangle)]
 pub extern "C" fn pmach_disassemble(
     alloc: Global,
@@ -78,8 +79,8 @@ pub extern "C" fn pmach_disassemble(
     answer(alloc, file, Job::Dis(DisOutput::Text), out, needed)
 }
 
-/// Copies the source text of a code file with the names of the standard procedures and of the system's procedures. The
-/// statuses are those of `pmach_disassemble`.
+/// Copies the source text of the code file `file` to `out`, with the names of the standard procedures and of the
+/// system's procedures. The statuses are those of `pmach_disassemble`.
 #[unsafe(no_mangle)]
 pub extern "C" fn pmach_disassemble_names(
     alloc: Global,
@@ -92,7 +93,7 @@ pub extern "C" fn pmach_disassemble_names(
     answer(alloc, file, Job::Dis(DisOutput::Names), out, needed)
 }
 
-/// Copies the listing of a code file, each line with its offset and its bytes. The statuses are those of
+/// Copies the listing of the code file `file` to `out`. Each line has an offset and bytes. The statuses are those of
 /// `pmach_disassemble`.
 #[unsafe(no_mangle)]
 pub extern "C" fn pmach_disassemble_list(
@@ -106,7 +107,7 @@ pub extern "C" fn pmach_disassemble_list(
     answer(alloc, file, Job::Dis(DisOutput::Listing), out, needed)
 }
 
-/// Copies a code file as statements. The statuses are those of `pmach_disassemble`.
+/// Copies the text of the code file `file` as statements to `out`. The statuses are those of `pmach_disassemble`.
 #[unsafe(no_mangle)]
 pub extern "C" fn pmach_disassemble_statements(
     alloc: Global,
@@ -119,7 +120,8 @@ pub extern "C" fn pmach_disassemble_statements(
     answer(alloc, file, Job::Dis(DisOutput::Statements), out, needed)
 }
 
-/// Copies a code file as statements that are indented by their depth. The statuses are those of `pmach_disassemble`.
+/// Copies the text of the code file `file` as statements to `out`, each indented by its depth. The statuses are those
+/// of `pmach_disassemble`.
 #[unsafe(no_mangle)]
 pub extern "C" fn pmach_disassemble_indented(
     alloc: Global,
@@ -132,7 +134,8 @@ pub extern "C" fn pmach_disassemble_indented(
     answer(alloc, file, Job::Dis(DisOutput::Indented), out, needed)
 }
 
-/// Copies a code file as statements in blocks. The statuses are those of `pmach_disassemble`.
+/// Copies the text of the code file `file` as statements in blocks to `out`. The statuses are those of
+/// `pmach_disassemble`.
 #[unsafe(no_mangle)]
 pub extern "C" fn pmach_disassemble_blocks(
     alloc: Global,
@@ -145,14 +148,14 @@ pub extern "C" fn pmach_disassemble_blocks(
     answer(alloc, file, Job::Dis(DisOutput::Blocks), out, needed)
 }
 
-/// Copies the trace of at most `limit` steps of bare code, which the text has as pairs of hexadecimal digits. Returns
-/// one of these statuses:
+/// Copies the trace of at most `limit` steps of a program to `out`. The program is bare code, and `text` has its bytes
+/// as pairs of hexadecimal digits. Returns one of these statuses:
 ///
 /// - 0: the program has ended.
 /// - 2: the text is refused. The answer states the reason.
 /// - 3: an execution error stopped the program.
 /// - 6: the limit is reached, or the program waits for console bytes.
-/// - 4, 5 and 7 as for `pmach_assemble`.
+/// - 4, 5 or 7, as for `pmach_assemble`.
 #[unsafe(no_mangle)]
 pub extern "C" fn pmach_raw(
     alloc: Global,

@@ -1,5 +1,5 @@
-//! The calls of programs in C: whole jobs, and machines with handles. Each export repeats the guarantees of the calls
-//! below it. There is no global state, and no argument is stored.
+//! The functions that C programs call: whole jobs, and machines with handles. The contract of each function repeats the
+//! guarantees of the functions that it calls. The library has no global state and stores no argument.
 #![tactic(auto)]
 
 mod answers;

@@ -1,4 +1,5 @@
-//! The next step of a machine, in the form of the program's lines. These calls change nothing.
+//! The next step of a machine and its position, in the form in which the program writes them. These calls do not change
+//! the machine.
 ghost use Rattle.std.specs.Prelude.{◌≡◌, None, IfOk, OnErr, string_bytes};
 ghost use Rattle.pm_disasm.specs.Text.{line_text};
 ghost use Rattle.pm_machine.specs.CodePlaces.{place_in_code};
@@ -12,8 +13,7 @@ use crate::volumes::none;
 use pm_machine::{Machine, place_in_code};
 use std::alloc::{AllocError, Global};
 
-/// A position in the code: the numbers of a segment and a procedure, and the offset in bytes from the entry of the
-/// procedure.
+/// A position in the code. `offset` is the number of bytes from the entry of the procedure.
 #[repr(C)]
 #[derive(Drop)]
 pub struct Place {
@@ -22,7 +22,7 @@ pub struct Place {
     pub offset: u16,
 }
 
-// Copies a text to a buffer, or returns that memory is out.
+// Copies `text` to `out`, or returns the status for out of memory.
 fn tell(text: Result<String, AllocError>, out: &mut [u8], needed: &mut usize) -> u32
     ensures told { IfOk text (λ text. Tells (string_bytes text) result out.old out.new needed.new) }
     ensures none { OnErr text ((result ≡ NO_MEMORY) × (out.new ≡ out.old) × (needed.new ≡ 0)) }
@@ -33,7 +33,8 @@ fn tell(text: Result<String, AllocError>, out: &mut [u8], needed: &mut usize) ->
     }
 }
 
-/// Copies the line of a trace for the next step of the machine, without a line feed. Returns 0 if it succeeded.
+/// Copies the trace line for the next step of the machine to `out`, without a line feed. Returns 0 if the call
+/// succeeded.
 ///
 /// Otherwise nothing is written to the buffer:
 ///
@@ -63,8 +64,8 @@ pub extern "C" fn pmach_line(
     code
 }
 
-/// Copies the text of the instruction at an address of the memory, or `.BYTE` and the byte if there is none. The
-/// statuses are those of `pmach_line`.
+/// Copies the text of the instruction at `address` in memory to `out`. If no instruction begins there, the text is
+/// `.BYTE` and the byte. The statuses are those of `pmach_line`.
 #[unsafe(no_mangle)]
 pub extern "C" fn pmach_instruction(
     alloc: Global,
@@ -102,12 +103,12 @@ fn locate(machine: &Machine, place: &mut Place) -> u32
     }
 }
 
-/// Sets `place` to the position of the machine in the code. Returns 0 if it succeeded.
+/// Sets `place` to the position of the machine in the code. Returns 0 if the call succeeded.
 ///
 /// Otherwise `place` is unchanged:
 ///
 /// - 8: the handle is empty.
-/// - 13: SEG or JTAB is odd, so there is no position.
+/// - 13: SEG or JTAB is odd, so the machine has no position.
 #[unsafe(no_mangle)]
 pub extern "C" fn pmach_place(alloc: Global, handle: &mut Handle, place: &mut Place) -> u32
     ensures looks { Leads result handle.old.held handle.new.held (Looks (λ m.

@@ -1,11 +1,11 @@
-//! The two parts of a box: its pointer and its allocator.
+//! The two parts of a box: a pointer and an allocator.
 ghost use Rattle.std.specs.Prelude.{◌≡◌};
 ghost use Rattle.std.specs.Box.Ownership.{box_owns};
 
 use std::alloc::Allocator;
 use std::marker::Model;
 
-/// A pointer that owns one value of the heap, and the allocator that frees it.
+/// A pointer that owns one value on the heap, and the allocator that frees the memory of this value.
 pub(crate) struct Loose<T, A: Allocator> {
     pub(crate) at: *mut T,
     pub(crate) alloc: A,
@@ -17,7 +17,7 @@ impl<T, A: Allocator> Model for Loose<T, A> {
 }
 
 impl<T: Drop, A: Allocator> Loose<T, A> {
-    /// Returns the parts of a box.
+    /// Splits a box into its pointer and its allocator.
     pub(crate) fn of(value: Box<T, A>) -> Loose<T, A>
         ensures value { result.value ≡ value.value }
     {
@@ -25,7 +25,7 @@ impl<T: Drop, A: Allocator> Loose<T, A> {
         Loose { at, alloc }
     }
 
-    /// Returns the box of these parts.
+    /// Builds the box from its pointer and its allocator.
     pub(crate) fn into_box(self) -> Box<T, A>
         ensures value { result.value ≡ self.value }
     {

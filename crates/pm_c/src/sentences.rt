@@ -1,4 +1,4 @@
-//! The sentences for the numbers that calls return.
+//! The sentences that explain the numbers which calls return.
 ghost use Rattle.std.specs.Prelude.{◌≡◌, option_map};
 ghost use Rattle.pm_c.specs.Changes.{Fills};
 ghost use Rattle.pm_c.specs.Sentences.{file_sentence, or_nothing, sentence};
@@ -7,7 +7,7 @@ ghost use Rattle.pm_c.specs.declared.status.TheConstants.{VERSION};
 use crate::buffer::give;
 use crate::status::VERSION;
 
-/// Returns the sentence of a number from 401 on.
+/// Returns the sentence for `status`, if it is a known number from 401 on.
 #[tactic(auto, unfolding(crate::specs::Sentences::file_sentence, crate::specs::Sentences::file_sentences))]
 fn file_sentence(status: u32) -> Option<&'static str>
     ensures sentence { option_map (λ text. text.now) result ≡ file_sentence status }
@@ -50,7 +50,7 @@ fn file_sentence(status: u32) -> Option<&'static str>
     }
 }
 
-/// Returns the sentence of a number.
+/// Returns the sentence for `status`, if it is a known number.
 #[tactic(auto, unfolding(crate::specs::Sentences::sentence, crate::specs::Sentences::call_sentences))]
 fn sentence(status: u32) -> Option<&'static str>
     ensures sentence { option_map (λ text. text.now) result ≡ sentence status }
@@ -93,10 +93,11 @@ fn sentence(status: u32) -> Option<&'static str>
     }
 }
 
-/// Copies the sentence of a status, or of a number in the message of a job. It is the sentence that the program prints
-/// on a terminal, without the line, entry or slot and without the hint. The sentence of an unknown number is empty.
+/// Copies the sentence for `status` to `out`. The number is a status of a call, or a number in the message of a job.
+/// The sentence is the one that the program prints on a terminal, without the line, entry or slot and without the hint.
+/// The sentence for an unknown number is empty.
 ///
-/// Returns 0 if it succeeded, or 7 if the buffer is too short; nothing is written then.
+/// Returns 0 if the call succeeded. Returns 7 if the buffer is too short; then nothing is written.
 #[unsafe(no_mangle)]
 pub extern "C" fn pmach_sentence(status: u32, out: &mut [u8], needed: &mut usize) -> u32
     ensures gives { Fills (or_nothing (sentence status)) result out.old out.new needed.new }
@@ -105,7 +106,7 @@ pub extern "C" fn pmach_sentence(status: u32, out: &mut [u8], needed: &mut usize
     give(text.as_bytes(), out, needed)
 }
 
-/// Returns the version of the library: 100 times its first number plus its second number.
+/// Returns the version of the library: 100 times its first number plus its second number. For version 0.1 it is 1.
 #[unsafe(no_mangle)]
 pub extern "C" fn pmach_version() -> u32
     ensures version { result ≡ VERSION }

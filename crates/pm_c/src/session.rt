@@ -1,5 +1,5 @@
-//! A session of the debugger on the machine of a handle: a line in, its answer out. Other calls set the stops of a run,
-//! or execute a run.
+//! A session of the debugger on the machine of a handle. A call executes the command of one line and stores its answer.
+//! Other calls set breakpoints and watched words, or execute a run.
 ghost use Rattle.std.specs.Prelude.{◌≡◌, None, OnOk, string_bytes};
 ghost use Rattle.pm_machine.specs.CodePlaces.{code_place};
 ghost use Rattle.pm_c.specs.Changes.{ChangesDebugger, Fills, Leads, Looks};
@@ -14,7 +14,7 @@ use pm_debug::{BreakReason, DebugRefusal, Debugger};
 use pm_session::answer;
 use std::alloc::{AllocError, Global};
 
-// Executes the command of a line and stores the answer.
+// Executes the command in `line` with the debugger of `held`, and stores the answer in `held`.
 fn do_line(alloc: Global, held: &mut Held, line: &[u8]) -> Result<(), AllocError>
     ensures answers { OnOk result (Commands line.now DONE held.old held.new) }
 {
@@ -25,12 +25,12 @@ fn do_line(alloc: Global, held: &mut Held, line: &[u8]) -> Result<(), AllocError
     Ok(())
 }
 
-/// Executes the command of a line of the debugger, which is given without its line feed. Returns 0 if it succeeded;
-/// `pmach_answer` then returns the answer until the next line is executed. The answer to `quit` is empty, and `quit`
-/// does not change the session.
+/// Executes the command in `line`, which is a line of the debugger without its line feed. Returns 0 if the call
+/// succeeded. Then `pmach_answer` returns the answer until the next line is executed. The answer to `quit` is empty,
+/// and `quit` does not change the session.
 ///
 /// - 8: the handle is empty.
-/// - 5: out of memory. The state of the machine is not known then, so it is freed, and the handle is empty.
+/// - 5: out of memory. The state of the machine would be unknown. So the machine is freed, and the handle is empty.
 #[unsafe(no_mangle)]
 pub extern "C" fn pmach_command(alloc: Global, handle: &mut Handle, line: &[u8]) -> u32
     ensures answers { LeadsOrEnds result handle.old.held handle.new.held (Commands line.now result) }
@@ -48,8 +48,8 @@ pub extern "C" fn pmach_command(alloc: Global, handle: &mut Handle, line: &[u8])
     }
 }
 
-/// Copies the answer to the last line as the program writes it, with its line feed. After `console on`, the line of the
-/// console bytes precedes it. Returns 0 if it succeeded.
+/// Copies the answer to the last line to `out`, as the program writes it, with its line feed. After the command
+/// `console on`, the answer begins with the line of the console bytes. Returns 0 if the call succeeded.
 ///
 /// Otherwise nothing is written to the buffer:
 ///
@@ -74,7 +74,7 @@ pub extern "C" fn pmach_answer(
     code
 }
 
-// Returns the status of a breakpoint or a watched word that is set or cleared.
+// Returns the status of a call that sets or clears a breakpoint or a watched word.
 fn set_code(outcome: Result<(), DebugRefusal>) -> u32
     ensures value { result ≡ set_code outcome }
 {
@@ -84,15 +84,15 @@ fn set_code(outcome: Result<(), DebugRefusal>) -> u32
     }
 }
 
-/// Sets a breakpoint without a condition, or clears it if `on` is false. The position is the number of a segment, the
-/// number of a procedure, and the offset in bytes from the entry of the procedure. `go N` and the other runs of the
-/// session stop there. Returns 0 if it succeeded.
+/// Sets a breakpoint without a condition if `on` is true, and clears it if `on` is false. The position is the number of
+/// a segment, the number of a procedure, and the offset in bytes from the entry of the procedure. All runs of the
+/// session, such as the command `go N`, stop at the breakpoint. Returns 0 if the call succeeded.
 ///
 /// Otherwise nothing has changed:
 ///
 /// - 8: the handle is empty.
-/// - 501: 64 breakpoints are set already.
-/// - 502: the breakpoint is not set.
+/// - 501: 64 breakpoints are already set.
+/// - 502: `on` is false and no such breakpoint is set.
 #[unsafe(no_mangle)]
 pub extern "C" fn pmach_break(
     alloc: Global,
@@ -118,14 +118,14 @@ pub extern "C" fn pmach_break(
     set_code(outcome)
 }
 
-/// Watches the word at an even address, or stops watching it if `on` is false. A run of the session stops if the word
-/// has changed. Returns 0 if it succeeded.
+/// Watches the word at `address` if `on` is true, and stops watching it if `on` is false. The address must be even. A
+/// run of the session stops if a watched word has changed. Returns 0 if the call succeeded.
 ///
 /// Otherwise nothing has changed:
 ///
 /// - 8: the handle is empty.
 /// - 503: the address is odd and `on` is true.
-/// - 501: 64 words are watched already.
+/// - 501: 64 words are already watched.
 /// - 502: the word is not watched and `on` is false.
 #[unsafe(no_mangle)]
 pub extern "C" fn pmach_watch(alloc: Global, handle: &mut Handle, address: u16, on: bool) -> u32
@@ -166,13 +166,14 @@ fn go_code(debugger: &mut Debugger, limit: u64, steps: &mut u64, address: &mut u
     }
 }
 
-/// Executes at most `limit` steps, as `go` of a session without `ignore`. `steps` is set to the number of counted
-/// steps. Returns one of these statuses:
+/// Executes at most `limit` steps, as the command `go` of a session does without `ignore`. Sets `steps` to the number
+/// of counted steps. Returns one of these statuses:
 ///
 /// - 0: the limit is reached.
-/// - 1, 2, and 100 and the number of an execution error, as for `pmach_step`.
+/// - 1, 2, or 100 plus the number of an execution error, as for `pmach_step`.
 /// - 15: a breakpoint stopped the run.
-/// - 16: a watched word has changed. `address` is set to its address. It is unchanged in all other cases.
+/// - 16: a watched word has changed. `address` is set to the address of this word. With any other status, `address` is
+///   unchanged.
 /// - 5: out of memory. The machine is in the state after the steps that succeeded, and `steps` is 0.
 /// - 8: the handle is empty. `steps` is unchanged.
 #[unsafe(no_mangle)]

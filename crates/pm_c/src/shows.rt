@@ -1,4 +1,4 @@
-//! The views of a machine. These calls change nothing.
+//! Reads the state of a machine: registers, memory, and output. These calls do not change the machine.
 ghost use Rattle.std.specs.Prelude.{◌≡◌, drop, None};
 ghost use Rattle.pm_words.specs.Words.{word_read};
 ghost use Rattle.pm_c.specs.Changes.{Fills, Leads, Looks, Reads, shown_of};
@@ -9,14 +9,14 @@ use crate::status::{DONE, NO_MACHINE, ODD_ADDRESS, status_code};
 use pm_machine::Machine;
 use std::alloc::Global;
 
-/// The registers of a machine, the number of its steps, and its status.
+/// The registers of a machine, the number of its counted steps, and its status.
 #[repr(C)]
 #[derive(Drop)]
 pub struct Shown {
     /// The number of steps that succeeded or ended the program, at most 18,446,744,073,709,551,615.
     pub steps: u64,
-    /// 0 if the machine continues, 2 if the program has ended, or 100 and the number of the execution error that
-    /// stopped it.
+    /// The status of the machine: 0 if it can continue, 2 if the program has ended, or 100 plus the number of the
+    /// execution error that stopped it.
     pub status: u32,
     pub ipc: u16,
     pub sp: u16,
@@ -46,7 +46,8 @@ fn show(machine: &Machine, shown: &mut Shown)
     };
 }
 
-/// Sets `shown` to the registers. Returns 0, or 8 if the handle is empty; `shown` is unchanged then.
+/// Sets `shown` to the registers, the number of steps and the status of the machine. Returns 0 if the call succeeded.
+/// Returns 8 if the handle is empty; then `shown` is unchanged.
 #[unsafe(no_mangle)]
 pub extern "C" fn pmach_registers(alloc: Global, handle: &mut Handle, shown: &mut Shown) -> u32
     ensures looks { Leads result handle.old.held handle.new.held (Looks (λ m. (result ≡ DONE) ×
@@ -73,7 +74,7 @@ fn read(machine: &Machine, address: u16, word: &mut u16) -> u32
     }
 }
 
-/// Sets `word` to the word at an even address. Returns 0 if it succeeded.
+/// Sets `word` to the word of memory at `address`, which must be even. Returns 0 if the call succeeded.
 ///
 /// Otherwise `word` is unchanged:
 ///
@@ -98,7 +99,7 @@ pub extern "C" fn pmach_word(
     code
 }
 
-/// Returns the bytes after the first `from`.
+/// Returns `bytes` without the first `from` bytes. The result is empty if `bytes` is shorter.
 fn behind(bytes: &[u8], from: usize) -> &[u8]
     ensures bytes { result.now ≡ drop from bytes.now }
 {
@@ -109,7 +110,8 @@ fn behind(bytes: &[u8], from: usize) -> &[u8]
     }
 }
 
-/// Copies all bytes that were written to the console, except the first `from`. Returns 0 if it succeeded.
+/// Copies all bytes that were written to the console, except the first `from` bytes, to `out`. Returns 0 if the call
+/// succeeded.
 ///
 /// Otherwise nothing is written to the buffer:
 ///
@@ -139,8 +141,8 @@ pub extern "C" fn pmach_console(
     code
 }
 
-/// Copies all bytes that were written to the printer, except the first `from`. The statuses are those of
-/// `pmach_console`.
+/// Copies all bytes that were written to the printer, except the first `from` bytes, to `out`. The statuses are those
+/// of `pmach_console`.
 #[unsafe(no_mangle)]
 pub extern "C" fn pmach_printer(
     alloc: Global,

@@ -1,5 +1,6 @@
-//! The jobs on the file of a slot, with one call for each, like those on the first file of a name. Slots count from 1,
-//! in the order of the lines of the list. A call returns 2 if the slot has no file; the answer then states the reason.
+//! The jobs on the file in a slot of the directory, with one call for each job. They do the same as the jobs on the
+//! first file with a name. Slots are counted from 1, in the order of the lines of the list. A call returns 2 if the
+//! slot has no file; the answer then states the reason.
 ghost use Rattle.std.specs.Prelude.{◌≡◌, ◌↔◌, []};
 ghost use Rattle.std.specs.Str.{IsUtf8};
 ghost use Rattle.pm_filer.specs.Filed.{ChangeSlot, GetSlot, GetTextSlot, RemoveSlot};
@@ -11,7 +12,7 @@ use crate::volumes::{command, none, text_of};
 use pm_filer::FileCommand;
 use std::alloc::Global;
 
-/// Copies the bytes of the file of a slot.
+/// Copies the bytes of the file in slot `slot` to `out`.
 #[unsafe(no_mangle)]
 pub extern "C" fn pmach_get_slot(
     alloc: Global,
@@ -25,7 +26,7 @@ pub extern "C" fn pmach_get_slot(
     command(alloc, image, &[], FileCommand::GetSlot(slot), out, needed)
 }
 
-/// Copies the text of the file of a slot, which must be a text file.
+/// Copies the text of the file in slot `slot` to `out`. The file must be a text file.
 #[unsafe(no_mangle)]
 pub extern "C" fn pmach_get_text_slot(
     alloc: Global,
@@ -46,7 +47,8 @@ pub extern "C" fn pmach_get_text_slot(
     )
 }
 
-/// Removes the file of a slot. A file of the same name in another slot is unchanged. The answer is the new image.
+/// Removes the file in slot `slot`. A file with the same name in another slot is unchanged. The answer is the new
+/// image.
 #[unsafe(no_mangle)]
 pub extern "C" fn pmach_remove_slot(
     alloc: Global,
@@ -67,10 +69,10 @@ pub extern "C" fn pmach_remove_slot(
     )
 }
 
-/// Changes the name of the file of a slot. A file of the same old name in another slot is unchanged. The answer is the
-/// new image.
+/// Changes the name of the file in slot `slot` to `new`. A file with the old name in another slot is unchanged. The
+/// answer is the new image. An additional status:
 ///
-/// - 12: the new name is not UTF-8.
+/// - 12: `new` is not UTF-8.
 #[unsafe(no_mangle)]
 pub extern "C" fn pmach_change_slot(
     alloc: Global,

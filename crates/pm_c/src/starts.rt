@@ -1,4 +1,4 @@
-//! The start of a machine.
+//! The calls that create a machine in a handle.
 ghost use Rattle.std.specs.Prelude.{◌≡◌, ◌≢◌, ◌↔◌, Ok, Some, None, is_some, true};
 ghost use Rattle.std.specs.Str.{IsUtf8};
 ghost use Rattle.pm_machine.specs.Start.{raw_start};
@@ -28,7 +28,7 @@ fn is_full(alloc: Global, handle: &mut Handle) -> bool
     }
 }
 
-// Stores a machine in an empty handle.
+// Stores `machine` in the empty `handle` and returns a status.
 fn put(alloc: Global, handle: &mut Handle, machine: Machine) -> u32
     requires empty { handle.old.held ≡ None }
     ensures put { result ≢ NO_MEMORY → (result ≡ DONE) × Holds handle.new.held (Ok machine.state) }
@@ -48,11 +48,12 @@ fn put(alloc: Global, handle: &mut Handle, machine: Machine) -> u32
     }
 }
 
-/// Creates a machine at its start on bare code in an empty handle. Returns 0 if it succeeded.
+/// Creates a machine at the start of bare code and stores it in `handle`, which must be empty. Returns 0 if the call
+/// succeeded.
 ///
 /// Otherwise the handle is unchanged:
 ///
-/// - 9: the handle has a machine.
+/// - 9: the handle already has a machine.
 /// - 203: the code has more than 60,000 bytes.
 /// - 5: out of memory.
 #[unsafe(no_mangle)]
@@ -71,18 +72,19 @@ pub extern "C" fn pmach_new(alloc: Global, handle: &mut Handle, code: &[u8]) -> 
     }
 }
 
-/// Creates a machine at the start of a program in an empty handle. The program is the code file `name` on the volume in
-/// `image`, which is the disk of unit 4. No other disk is mounted, and the clock is `clock`. Returns 0 if it succeeded.
+/// Creates a machine at the start of a program and stores it in `handle`, which must be empty. The program is the code
+/// file `name` on the volume in `image`, the disk of unit 4. No other disk is mounted. The clock of the machine is
+/// `clock`. Returns 0 if the call succeeded.
 ///
 /// Otherwise the handle is unchanged. The statuses are checked in this order:
 ///
-/// - 9: the handle has a machine.
-/// - 12: the name is not UTF-8.
-/// - 400 and the number of the fault: the image is no volume.
-/// - 200 and the number of the fault: the program does not start.
-/// - 100 and the number of the error: the first call of the program fails.
+/// - 9: the handle already has a machine.
+/// - 12: `name` is not UTF-8.
+/// - 400 plus the number of the fault: the image is no volume.
+/// - 200 plus the number of the fault: the program does not start.
+/// - 100 plus the number of the error: the first call of the program fails.
 ///
-/// The status is 5 if memory is out.
+/// The status is 5 if memory runs out.
 #[unsafe(no_mangle)]
 pub extern "C" fn pmach_boot(
     alloc: Global,

@@ -1,4 +1,4 @@
-//! The statuses of calls on a handle.
+//! The statuses that calls of the library return.
 ghost use Rattle.std.specs.Prelude.{◌≡◌, ◌≢◌, ◌+◌};
 ghost use Rattle.pm_c.specs.Codes.{boot_code, status_code, stop_code};
 ghost use Rattle.pm_volume.specs.Faults.{number_of};
@@ -6,10 +6,10 @@ ghost use Rattle.pm_volume.specs.Faults.{number_of};
 use pm_machine::{BootFault, Status, Stop};
 use pm_volume::VolumeFault;
 
-/// The version 0.1 of the library, which is that of the program.
+/// The version 0.1 of the library, as the number 1. The library has the same version as the program.
 pub const VERSION: u32 = 1;
 
-/// The call succeeded. For a step and a run: the machine can continue.
+/// The call succeeded. After a step or a run, the machine can continue.
 pub const DONE: u32 = 0;
 
 /// The machine waits for console bytes.
@@ -30,7 +30,7 @@ pub const STOPPED: u32 = 6;
 /// The input of a job is too long.
 pub const TOO_LONG: u32 = 4;
 
-/// Memory is out. Nothing has changed, except as the call states.
+/// Out of memory. Nothing has changed, unless the call states something else.
 pub const NO_MEMORY: u32 = 5;
 
 /// The buffer is too short, and nothing was written to it.
@@ -39,7 +39,7 @@ pub const TOO_SHORT: u32 = 7;
 /// The handle is empty.
 pub const NO_MACHINE: u32 = 8;
 
-/// The handle has a machine already.
+/// The handle already has a machine.
 pub const HAS_MACHINE: u32 = 9;
 
 /// The address is odd.
@@ -51,10 +51,10 @@ pub const NO_DISK: u32 = 11;
 /// A name is not UTF-8.
 pub const NO_TEXT: u32 = 12;
 
-/// The machine has no position in the code.
+/// The machine has no position in the code, because SEG or JTAB is odd.
 pub const NO_PLACE: u32 = 13;
 
-/// The kind is above 15.
+/// The kind of a file is above 15.
 pub const NO_KIND: u32 = 14;
 
 /// A breakpoint stopped a run.
@@ -63,7 +63,7 @@ pub const AT_BREAK: u32 = 15;
 /// A watched word has changed.
 pub const CHANGED: u32 = 16;
 
-/// Returns the status for an answer of a machine.
+/// Returns the status of a step that ended with `stop`.
 pub(crate) fn stop_code(stop: Stop) -> u32
     ensures value { result ≡ stop_code stop }
     ensures other { result ≢ NO_MEMORY }
@@ -76,7 +76,7 @@ pub(crate) fn stop_code(stop: Stop) -> u32
     }
 }
 
-/// Returns the status for the status of a machine.
+/// Returns the number that calls return for the status of a machine.
 pub(crate) fn status_code(status: Status) -> u32
     ensures value { result ≡ status_code status }
 {
@@ -87,7 +87,7 @@ pub(crate) fn status_code(status: Status) -> u32
     }
 }
 
-/// Returns the status of a machine that does not start.
+/// Returns the status of a start that is refused because of `fault`.
 pub(crate) fn boot_code(fault: BootFault) -> u32
     ensures value { result ≡ boot_code fault }
     ensures fault { result ≢ DONE }
@@ -101,7 +101,7 @@ pub(crate) fn boot_code(fault: BootFault) -> u32
     }
 }
 
-/// Returns the status of an image that is no volume.
+/// Returns the status of a call that is refused because the image is no volume.
 pub(crate) fn volume_code(fault: VolumeFault) -> u32
     ensures value { result ≡ 400 + number_of fault }
 {

@@ -1,6 +1,7 @@
-//! The jobs on volumes, with one call for each. An image is only read. The answer of a change is the new image.
+//! The jobs on volumes, with one call for each job. A call does not change the image that it is given. If a job changes
+//! the volume, the answer is the new image.
 //!
-//! Each call with a name returns 12 if the name is not UTF-8.
+//! Each call with a parameter `name` returns 12 if the name is not UTF-8.
 ghost use Rattle.std.specs.Prelude.{◌≡◌, ◌≢◌, ◌<◌, ◌≤◌, ◌⊎◌, ◌↔◌, [], IfOk, IfErr, OnOk, string_bytes};
 ghost use Rattle.std.specs.Str.{IsUtf8};
 ghost use Rattle.pm_volume.specs.Headers.{blank_fault};
@@ -15,7 +16,7 @@ use pm_filer::FileCommand;
 use pm_tool::Job;
 use std::alloc::Global;
 
-/// Returns the text of a name, or the status of a call without an answer.
+/// Converts `name` to a string. The error is the status of a call without an answer.
 pub(crate) fn text_of(alloc: Global, name: &[u8]) -> Result<String, u32>
     ensures text { IfOk result (λ text. string_bytes text ≡ name.now) }
     ensures none { IfErr result (λ code. (code ≡ NO_MEMORY) ⊎ (code ≡ NO_TEXT)) }
@@ -31,7 +32,7 @@ pub(crate) fn text_of(alloc: Global, name: &[u8]) -> Result<String, u32>
     }
 }
 
-/// Sets `needed` to 0 and returns the status of a call without an answer.
+/// Sets `needed` to 0 and returns `code`, the status of a call without an answer.
 pub(crate) fn none(code: u32, needed: &mut usize) -> u32
     ensures code { result ≡ code }
     ensures needed { needed.new ≡ 0 }
@@ -40,7 +41,8 @@ pub(crate) fn none(code: u32, needed: &mut usize) -> u32
     code
 }
 
-/// Executes a command on the volume of an image.
+/// Executes `command` on the volume in `image` and copies the answer to `out`. `input` is the input of the job. Returns
+/// the status.
 pub(crate) fn command(
     alloc: Global,
     image: &[u8],
@@ -59,7 +61,7 @@ pub(crate) fn command(
     }
 }
 
-/// Copies the list of the files, in the form of the program's `list`.
+/// Copies the list of the files of the volume to `out`, in the form of the command `list` of the program.
 #[unsafe(no_mangle)]
 pub extern "C" fn pmach_list(alloc: Global, image: &[u8], out: &mut [u8], needed: &mut usize) -> u32
     ensures answers { Answers (said_files image.now ListFiles []) result out.old out.new needed.new }
@@ -67,7 +69,7 @@ pub extern "C" fn pmach_list(alloc: Global, image: &[u8], out: &mut [u8], needed
     command(alloc, image, &[], FileCommand::List, out, needed)
 }
 
-/// Copies the bytes of the first file of a name.
+/// Copies the bytes of the first file with the name `name` to `out`.
 #[unsafe(no_mangle)]
 pub extern "C" fn pmach_get(
     alloc: Global,
@@ -85,7 +87,7 @@ pub extern "C" fn pmach_get(
     }
 }
 
-/// Copies the text of the first file of a name, which must be a text file.
+/// Copies the text of the first file with the name `name` to `out`. The file must be a text file.
 #[unsafe(no_mangle)]
 pub extern "C" fn pmach_get_text(
     alloc: Global,
@@ -103,8 +105,8 @@ pub extern "C" fn pmach_get_text(
     }
 }
 
-/// Adds a file with this name, kind and bytes, and with the last date of the volume. Returns 14 if the kind is above
-/// 15; this is checked first.
+/// Adds a file with the name `name`, the kind `kind` and these bytes. Its date is the last date of the volume. Returns
+/// 14 if the kind is above 15; this is checked first.
 #[unsafe(no_mangle)]
 pub extern "C" fn pmach_put(
     alloc: Global,
@@ -132,7 +134,7 @@ pub extern "C" fn pmach_put(
     }
 }
 
-/// Adds a text file with this name and text, and with the last date of the volume.
+/// Adds a text file with the name `name` and the text `text`. Its date is the last date of the volume.
 #[unsafe(no_mangle)]
 pub extern "C" fn pmach_put_text(
     alloc: Global,
@@ -155,7 +157,7 @@ pub extern "C" fn pmach_put_text(
     }
 }
 
-/// Removes the first file of a name.
+/// Removes the first file with the name `name`.
 #[unsafe(no_mangle)]
 pub extern "C" fn pmach_remove(
     alloc: Global,
@@ -173,7 +175,7 @@ pub extern "C" fn pmach_remove(
     }
 }
 
-/// Changes the name of the first file of a name.
+/// Changes the name of the first file with the name `name` to `new`.
 #[unsafe(no_mangle)]
 pub extern "C" fn pmach_change(
     alloc: Global,
@@ -203,7 +205,7 @@ pub extern "C" fn pmach_change(
     }
 }
 
-/// Moves the files together. Bad blocks are unchanged.
+/// Moves the files of the volume together. Bad blocks remain unchanged.
 #[unsafe(no_mangle)]
 pub extern "C" fn pmach_krunch(
     alloc: Global,
@@ -216,7 +218,7 @@ pub extern "C" fn pmach_krunch(
     command(alloc, image, &[], FileCommand::Krunch, out, needed)
 }
 
-/// Sets the last date of the volume: year 0 to 127, month 1 to 12, day 1 to 31.
+/// Sets the last date of the volume. The year is 0 to 127, the month 1 to 12, and the day 1 to 31.
 #[unsafe(no_mangle)]
 pub extern "C" fn pmach_date(
     alloc: Global,
@@ -234,7 +236,7 @@ pub extern "C" fn pmach_date(
     command(alloc, image, &[], date, out, needed)
 }
 
-/// Removes all files and sets the name of the volume.
+/// Removes all files and sets the name of the volume to `name`.
 #[unsafe(no_mangle)]
 pub extern "C" fn pmach_zero(
     alloc: Global,
@@ -252,7 +254,7 @@ pub extern "C" fn pmach_zero(
     }
 }
 
-/// Adds a second copy of the directory.
+/// Adds a second copy of the directory to the volume.
 #[unsafe(no_mangle)]
 pub extern "C" fn pmach_duplicate(
     alloc: Global,
@@ -265,7 +267,7 @@ pub extern "C" fn pmach_duplicate(
     command(alloc, image, &[], FileCommand::Duplicate, out, needed)
 }
 
-/// Removes the second copy of the directory.
+/// Removes the second copy of the directory from the volume.
 #[unsafe(no_mangle)]
 pub extern "C" fn pmach_single(
     alloc: Global,
@@ -278,7 +280,8 @@ pub extern "C" fn pmach_single(
     command(alloc, image, &[], FileCommand::Single, out, needed)
 }
 
-/// Copies the image of a new volume with this name and this number of blocks of 512 bytes, without files.
+/// Copies the image of a new volume to `out`. The volume has the name `name`, `blocks` blocks of 512 bytes, and no
+/// files.
 #[unsafe(no_mangle)]
 pub extern "C" fn pmach_volume(
     alloc: Global,
@@ -297,8 +300,8 @@ pub extern "C" fn pmach_volume(
     }
 }
 
-/// Copies an image of which only the first copy of the directory is damaged, with the good second copy instead of it.
-/// An image that is a volume is copied unchanged.
+/// Repairs an image of which only the first copy of the directory is damaged: the valid second copy replaces the first.
+/// The answer is the new image. An image that is a volume is copied unchanged.
 #[unsafe(no_mangle)]
 pub extern "C" fn pmach_repair(
     alloc: Global,
@@ -314,7 +317,7 @@ pub extern "C" fn pmach_repair(
     }
 }
 
-/// Copies the faults of an image, which can have any bytes.
+/// Copies a report on the faults of `image` to `out`. The image can have any bytes.
 #[unsafe(no_mangle)]
 pub extern "C" fn pmach_check(
     alloc: Global,
@@ -330,8 +333,9 @@ pub extern "C" fn pmach_check(
     }
 }
 
-/// Copies a new volume with files of an image. These are the files whose directory entries are valid by themselves, in
-/// the first copy of the directory or, with `second`, in the second copy.
+/// Copies files of `image` to a new volume. A file is copied if its directory entry is valid by itself. The entries are
+/// read from the second copy of the directory if `second` is true, and otherwise from the first copy. The answer is the
+/// new image.
 #[unsafe(no_mangle)]
 pub extern "C" fn pmach_salvage(
     alloc: Global,

@@ -1,7 +1,7 @@
-//! The numbers of the header, computed. The function does nothing.
+//! Worked examples of the numbers in the C header, which the checker computes. The function does nothing.
 ghost use Rattle.pm_c.specs.Worked.{WorkedAnswers, WorkedErrors, WorkedRefusals, WorkedStops};
 
-/// These numbers are computed:
+/// The definitions have the worked-out values for these numbers:
 ///
 /// - the statuses of calls and of whole jobs,
 /// - the statuses of a step, a run and the state of a machine,

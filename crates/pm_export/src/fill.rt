@@ -1,4 +1,4 @@
-//! The files of a volume, written to a folder.
+//! Writes the files of a volume to a folder of the host.
 ghost use Rattle.std.specs.Prelude.{◌≡◌, ◌++◌, ◌∷◌, [], IfOk, OnErr, OnOk, codes, map, string_bytes};
 ghost use Rattle.pm_export.specs.Exported.{Adds, AddsOne, AddsSome, FillsFolder, IsBrokenOff, names_of};
 ghost use Rattle.pm_files.specs.Folders.{IsAt};
@@ -9,19 +9,19 @@ use pm_folder::{Ends, FolderFile, Wanted, first_line, folder_of};
 use pm_volume::Volume;
 use std::alloc::Global;
 
-/// The name of the list of the files in a folder.
+/// The name of the file in the folder that lists the other files.
 const LIST: &str = "LIST";
 
-/// A file of a folder that could not be written.
+/// A file that could not be written to the folder.
 #[derive(Drop)]
 pub struct Unwritten {
-    /// The file's name in the folder.
+    /// The name of the file in the folder.
     pub host: String,
-    /// Why it could not be written.
+    /// The fault for which the file could not be written.
     pub fault: DiskFault,
 }
 
-/// Appends a file that could not be written.
+/// Appends the file `host`, which could not be written because of `fault`, to `unwritten`.
 fn push_unwritten(
     alloc: Global,
     unwritten: &mut Vec<Unwritten>,
@@ -37,7 +37,8 @@ fn push_unwritten(
     }
 }
 
-/// Adds files to a folder. Appends the lines of those that were added to `list`, and the others to `unwritten`.
+/// Adds `files` to `folder`. For each file that was added, its line is appended to `list`. Each other file is appended
+/// to `unwritten`.
 #[tactic(auto, using(crate::proofs::AddedFiles::adds_none))]
 fn add_files<F: Folder>(
     alloc: Global,
@@ -64,7 +65,7 @@ fn add_files<F: Folder>(
     }
 }
 
-/// Adds the list to a folder, or appends it to `unwritten`.
+/// Adds the file LIST with the contents `list` to `folder`. If it could not be written, it is appended to `unwritten`.
 fn add_list<F: Folder>(
     alloc: Global,
     folder: &mut F,
@@ -82,16 +83,17 @@ fn add_list<F: Folder>(
     }
 }
 
-/// Creates a folder, and writes the files of a volume to it, and then the list of those that were written. Returns
-/// those that could not be written, in order. Each file is written whole, or does not exist.
+/// Creates a folder at `path` and writes the files of `volume` to it. Then writes a list of the files that were
+/// written. Returns the files that could not be written, in their order. Each file is either written as a whole or does
+/// not exist.
 ///
-/// With `text`, files of kind text that have a header are written as plain text with these line ends. Memory for the
-/// files is requested before the folder is created.
+/// If `text` is given, files of kind text that have a header are written as plain text with these line ends. The memory
+/// for the files is requested before the folder is created.
 ///
 /// # Errors
 ///
-/// - `NoMemory`: the folder, if it was created, has some of the files.
-/// - The fault of creating the folder. There is no new folder then, or an empty one.
+/// - `NoMemory`. If the folder was already created, it has some of the files.
+/// - The folder cannot be created: the fault of this call. Then no new folder exists, or it is empty.
 #[tactic(auto, using(crate::proofs::AddedFiles::adds_none, crate::proofs::AddedFiles::adds_some))]
 pub fn export<F: Folder>(
     alloc: Global,

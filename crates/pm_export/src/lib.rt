@@ -1,4 +1,4 @@
-//! The files of a volume, written to a folder that is created for them.
+//! Writes the files of a volume to a new folder of the host.
 #![tactic(auto)]
 
 mod fill;

@@ -4,8 +4,8 @@ use Rattle.pm_jobs.specs.declared.fault.Fault.TheVariants as faults
 use Rattle.pm_files.specs.declared.fault.DiskFault.{DiskFault}
 use Rattle.pm_files.specs.declared.fault.DiskFault.TheVariants as disk
 
--- A file that another program has locked counts as a file that cannot be read. A file that was replaced counts as a
--- file that cannot be written. So does a file whose temporary path cannot be cleared.
+-- Returns the fault that a job reports for a fault of a file. If another program has locked the file, it is a read
+-- fault. If the file was replaced or its temporary path cannot be cleared, it is a write fault.
 abbrev pub fault_of : DiskFault → Fault
 fault_of (disk.Read kind) = faults.Read
 fault_of disk.TooLong = faults.Read

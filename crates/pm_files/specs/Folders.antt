@@ -1,16 +1,17 @@
--- The contents of the files of a folder, if they are known.
+-- The contents of the files of a folder, by their names. `None` means that the contents are not known.
 use Rattle.std.specs.Prelude.{◌≡◌, ◌≢◌, ◌⊎◌, ◌<◌, ℕ, List, ⊤, Option, None, Some, length}
 use Rattle.pm_files.specs.Held.{Files}
 use Rattle.pm_files.specs.declared.fault.DiskFault.{DiskFault}
 use Rattle.pm_files.specs.declared.fault.DiskFault.TheVariants.{NoMemory}
 use Rattle.pm_files.specs.declared.image.TheConstants.{IMAGE_LIMIT}
 
--- The folder has no file.
+-- The folder has no files, if its contents are known.
 abbrev pub IsEmptyFolder : Files → Type 0
 IsEmptyFolder None = ⊤
 IsEmptyFolder (Some files) = (name : List ℕ) → files name ≡ None
 
--- A file that did not exist contains `bytes`, and each other file what it contained.
+-- The file `name`, which did not exist, was created with the contents `bytes`. All other files are unchanged. Nothing
+-- is stated if the old contents are not known.
 abbrev pub AddsFile : Files → Files → List ℕ → List ℕ → Type 0
 AddsFile None new name bytes = ⊤
 AddsFile (Some files) None name bytes = ⊥

@@ -1,4 +1,4 @@
-//! Why a file could not be read or written.
+//! The faults for which a file cannot be read or written.
 ghost use Rattle.std.specs.Prelude.{◌≡◌};
 ghost use Rattle.pm_files.specs.Faults.{fault_of};
 
@@ -7,7 +7,7 @@ use std::alloc::AllocError;
 use std::io;
 use std::io::ErrorKind;
 
-/// Why an image, or the printer's bytes, could not be read or written.
+/// The fault for which an image or the file of the printed bytes could not be read or written.
 #[derive(Clone, Copy)]
 pub enum DiskFault {
     /// The file cannot be read.
@@ -18,16 +18,17 @@ pub enum DiskFault {
     Busy,
     /// The file cannot be written.
     Write(ErrorKind),
-    /// The path names another file, or none, since the file was prepared for writing.
+    /// Since the file was prepared for writing, another program has moved or replaced the file at the path.
     Replaced,
-    /// The path of the temporary file exists, and the file at it cannot be removed.
+    /// A file exists at the path of the temporary file, and it cannot be removed.
     InTheWay,
     /// The program is out of memory.
     NoMemory,
 }
 
 impl DiskFault {
-    /// Returns the fault of a failed read: `NoMemory` if the system was out of memory, and `Read` otherwise.
+    /// Returns the fault for a failed read with `error`: `NoMemory` if the system was out of memory, and `Read`
+    /// otherwise.
     pub(crate) fn of_read(error: io::Error) -> DiskFault {
         match error.kind() {
             ErrorKind::OutOfMemory => DiskFault::NoMemory,
@@ -35,12 +36,12 @@ impl DiskFault {
         }
     }
 
-    /// Returns the fault of a failed write: `Write`, for any error.
+    /// Returns the fault for a failed write: `Write`, for any `error`.
     pub(crate) fn of_write(error: io::Error) -> DiskFault {
         DiskFault::Write(error.kind())
     }
 
-    /// Returns the fault that a job reports for this one: `read fault`, `write fault` or `no memory`.
+    /// Returns the fault that a job reports for this fault: a read fault, a write fault, or out of memory.
     pub fn fault(self) -> Fault
         ensures value { result ≡ fault_of self }
     {
@@ -51,7 +52,7 @@ impl DiskFault {
         }
     }
 
-    /// Returns the reason as English text for a message.
+    /// Returns the reason for this fault, as English text for a message.
     pub fn reason(self) -> &'static str {
         match self {
             DiskFault::Read(kind) | DiskFault::Write(kind) => words(kind),
@@ -65,7 +66,7 @@ impl DiskFault {
     }
 }
 
-/// Returns the English text of an error of the system.
+/// Returns the English text for an error of the operating system.
 fn words(kind: ErrorKind) -> &'static str {
     match kind {
         ErrorKind::NotFound => "no such file or folder",

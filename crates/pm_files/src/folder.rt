@@ -1,4 +1,4 @@
-//! A folder that is created or opened once, and its files.
+//! A folder that is created or opened once, and the files in it.
 ghost use Rattle.std.specs.Prelude.{◌≡◌, ℕ, List, Option, None, IfErr, IfOk, OnErr, OnOk};
 ghost use Rattle.pm_files.specs.Folders.{AddsFile, IsAt, IsEmptyFolder, MayFail};
 ghost use Rattle.pm_files.specs.Held.{HoldsFile};
@@ -14,34 +14,35 @@ use std::fs::{File, OpenOptions};
 use std::io::ErrorKind;
 use std::rt::Files;
 
-/// A folder, and its files by their names.
+/// A folder of the host, whose files are read and written by their names.
 ///
-/// Until `create` or `open` returns `Ok`, the folder has no file and takes none.
+/// Until `create` or `open` returns `Ok`, the folder has no files, and no file can be added.
 pub trait Folder {
-    /// What each file of the folder contains, where that is known.
+    /// The contents of each file of the folder, by its name, if they are known.
     ghost files: { Self → Option (List ℕ → Option (List ℕ)) };
 
     /// The path at which the folder was created or opened, where that is known.
     ghost at: { Self → Option (List ℕ) };
 
-    /// Creates the folder. Nothing may exist at the path. The parent folder must exist.
+    /// Creates the folder at `path`. Nothing may exist at `path`. The parent folder must exist.
     fn create(&mut self, path: &str) -> Result<(), DiskFault>
         ensures empty { OnOk result (IsEmptyFolder (files self.new)) }
         ensures at { OnOk result (IsAt (at self.new) path.now) }
         ensures unchanged { OnErr result (files self.new ≡ files self.old) };
 
-    /// Opens a folder that exists.
+    /// Opens the folder at `path`, which must exist.
     fn open(&mut self, path: &str) -> Result<(), DiskFault>
         ensures at { OnOk result (IsAt (at self.new) path.now) };
 
-    /// Creates a file in the folder. No file is replaced and no link is followed. After an error, no file has been
-    /// created.
+    /// Creates a file with the name `name` and the contents `bytes` in the folder. The call replaces no file and
+    /// follows no link. If it returns an error, no file was created.
     fn add(&mut self, name: &str, bytes: &[u8]) -> Result<(), DiskFault>
         ensures adds { OnOk result (AddsFile (files self.old) (files self.new) name.now bytes.now) }
         ensures at { at self.new ≡ at self.old }
         ensures unchanged { OnErr result (files self.new ≡ files self.old) };
 
-    /// Returns the contents of a regular file of the folder, of at most `IMAGE_LIMIT` bytes. No link is followed.
+    /// Returns the contents of the regular file `name` of the folder, which has at most `IMAGE_LIMIT` bytes. The call
+    /// follows no link.
     fn read(&mut self, alloc: Global, name: &str) -> Result<Vec<u8>, DiskFault>
         ensures value { IfOk result (λ bytes. HoldsFile (files self.old) name.now bytes.items) }
         ensures fault { IfErr result (λ fault. MayFail (files self.old) name.now fault) }
@@ -49,25 +50,26 @@ pub trait Folder {
         ensures unchanged { files self.new ≡ files self.old };
 }
 
-/// A folder that is held open, and the path that leads through it.
+/// An open folder, and a path that leads to it by its descriptor.
 #[derive(Drop)]
 struct Opened<F> {
-    /// The folder. While it is open, its number leads to it, even if it is moved or replaced.
+    /// The open folder. As long as it is open, its descriptor leads to the same folder, even if the folder is moved or
+    /// replaced.
     folder: F,
-    /// What the folder is.
+    /// The data of the folder in the file system.
     node: Node,
-    /// The path of the folder by its number.
+    /// The path of the folder by its descriptor.
     path: String,
 }
 
-/// A folder of a system. Nothing is known of what its files contain, because other programs can change them.
+/// A folder of the operating system. Its contents are not known to contracts, because other programs can change them.
 #[derive(Drop)]
 pub struct HostFolder<'a, R: Host> {
     rt: &'a R,
     opened: Option<Opened<R::File>>,
 }
 
-/// Returns the path of a file of a folder.
+/// Returns the path of the file `name` in the folder with the path `folder`.
 ///
 /// # Errors
 ///
@@ -83,12 +85,12 @@ fn joined(alloc: Global, folder: &str, name: &str) -> Result<String, DiskFault> 
     }
 }
 
-/// Returns the folder at a path, opened. `Replaced` if a link or another file is at the path by then, or if the system
-/// has no paths by number.
+/// Opens the folder at `path`. Returns the error `Replaced` if a link or another file is at `path` after the opening,
+/// or if the system has no paths by descriptor.
 fn open_folder<R: Host + AllocGlobal>(rt: &R, path: &str) -> Result<Opened<R::File>, DiskFault> {
-    // With a slash at its end, a path would lead through a link.
+    // If the path ended with a slash, the system would follow a link at the path.
     let path = path.trim_end_matches('/');
-    // A pipe at this path would block; with a full stop after it, it is refused.
+    // The opening of a pipe would wait for another program. With `/.` after the path, the system refuses a pipe.
     let inside = joined(rt.alloc(), path, ".")?;
     let folder = File::open(rt, inside.as_str()).map_err(DiskFault::of_read)?;
     let node = rt.node(&folder).map_err(DiskFault::of_read)?;
@@ -102,8 +104,9 @@ fn open_folder<R: Host + AllocGlobal>(rt: &R, path: &str) -> Result<Opened<R::Fi
     }
 }
 
-/// Creates a file of a folder, with its contents. `Replaced` if the file has another owner than the folder: then the
-/// folder is another user's, who put it in the place of the new one. The file is removed after an error.
+/// Creates the file `path` in `folder`, with the contents `bytes`. Returns the error `Replaced` if the file has another
+/// owner than the folder. In this case another user has put a folder in the place of the created folder. If an error is
+/// returned, the file is removed.
 fn add_file<R: Host>(rt: &R, folder: Node, path: &str, bytes: &[u8]) -> Result<(), DiskFault> {
     let mut file = rt.make(path, ORDINARY).map_err(DiskFault::of_write)?;
     let done = match rt.node(&file) {
@@ -119,8 +122,8 @@ fn add_file<R: Host>(rt: &R, folder: Node, path: &str, bytes: &[u8]) -> Result<(
     done
 }
 
-/// Opens a regular file to read it, without waiting. A pipe that is put at its path is not waited for if the file may
-/// be written.
+/// Opens a regular file for reading. The function first tries to open the file for reading and writing. In this mode,
+/// the opening does not wait if a pipe was put at the path.
 fn open_file<R: Files>(rt: &R, path: &str) -> Result<R::File, DiskFault> {
     match OpenOptions::new().read(true).write(true).open(rt, path) {
         Ok(file) => Ok(file),
@@ -128,7 +131,7 @@ fn open_file<R: Files>(rt: &R, path: &str) -> Result<R::File, DiskFault> {
     }
 }
 
-/// Returns the regular file at a path, opened. `Replaced` if another file is at the path by then.
+/// Opens the regular file at `path`. Returns the error `Replaced` if another file is at `path` after the opening.
 fn regular<R: Host>(rt: &R, path: &str) -> Result<R::File, DiskFault> {
     let there = rt.node_at(path, false).map_err(DiskFault::of_read)?;
     let node: Node = match there {
@@ -146,7 +149,7 @@ fn regular<R: Host>(rt: &R, path: &str) -> Result<R::File, DiskFault> {
 }
 
 impl<'a, R: Host + AllocGlobal> HostFolder<'a, R> {
-    /// A folder of the system that is neither created nor opened yet.
+    /// Returns a folder of the system that is not yet created or opened.
     pub fn new(rt: &'a R) -> HostFolder<'a, R> {
         HostFolder { rt, opened: None }
     }

@@ -1,4 +1,4 @@
-//! The calls of the operating system that the program needs in addition to those of `Files`.
+//! The calls of the operating system that the program needs in addition to those of the trait `Files`.
 ghost use Rattle.std.specs.Prelude.{◌≡◌};
 ghost use Rattle.pm_files.specs.Nodes.{is_file, is_one_file, is_replaced};
 
@@ -9,7 +9,7 @@ use std::os::fd::AsRawFd;
 use std::os::unix::fs::{MetadataExt, OpenOptionsExt, fchown};
 use std::rt::Files;
 
-/// A standard stream.
+/// A standard stream of the process.
 #[derive(Clone, Copy)]
 pub enum Stream {
     Input,
@@ -28,41 +28,42 @@ pub enum Kind {
     Other,
 }
 
-/// The data of a file in the file system. They do not depend on its name.
+/// The data that the file system has for a file. The data do not depend on the name of the file.
 #[derive(Clone, Copy)]
 pub struct Node {
     /// The number of the device that contains the file.
     pub device: u64,
-    /// The number of the file on that device. No two files have the same device and number.
+    /// The number of the file on its device. No two files have the same device and number.
     pub number: u64,
     /// The kind of the file.
     pub kind: Kind,
-    /// The number of its names (hard links).
+    /// The number of names (hard links) of the file.
     pub names: u64,
     /// The number of the user who owns the file.
     pub owner: u32,
-    /// The number of its group.
+    /// The number of the group that owns the file.
     pub group: u32,
-    /// The permissions: the twelve low bits of the mode.
+    /// The permissions of the file: the twelve low bits of its mode.
     pub mode: u32,
 }
 
 impl Node {
-    /// Whether both are the same file: device and number are equal.
+    /// Returns whether `self` and `other` are the same file: their device and their number are equal.
     pub fn is(self, other: Node) -> bool
         ensures same { result ≡ is_one_file self other }
     {
         self.device == other.device && self.number == other.number
     }
 
-    /// Whether it is a regular file.
+    /// Returns whether the node is a regular file.
     pub fn is_file(self) -> bool
         ensures file { result ≡ is_file self.kind }
     {
         matches!(self.kind, Kind::File)
     }
 
-    /// Whether writing this file replaces it with a new file. That is so for a regular file with one name.
+    /// Returns whether the program writes this file by replacing it with a new file. This is true for a regular file
+    /// with one name.
     pub fn is_replaced(self) -> bool
         ensures replaced { result ≡ is_replaced self }
     {
@@ -70,33 +71,34 @@ impl Node {
     }
 }
 
-/// The calls that `Files` does not have. Tests use a runtime in memory instead, as for `Files`.
+/// The calls that the trait `Files` does not have. Tests use a runtime in memory instead of the operating system.
 pub trait Host: Files {
-    /// Locks an open file, without waiting. Returns `false` if the file is locked through another open of it. A system
-    /// without such locks returns `true`.
+    /// Locks the open file `file` without waiting. Returns `false` if the same file is open elsewhere and locked there.
+    /// A system without such locks returns `true`.
     fn try_lock(&self, file: &Self::File) -> io::Result<bool>;
 
-    /// Returns the data of an open file.
+    /// Returns the data of the open file `file`.
     fn node(&self, file: &Self::File) -> io::Result<Node>;
 
-    /// Returns the data of the file at `path`, or `None` if there is no file. If `follows`, a symbolic link at the end
-    /// of `path` is followed. Otherwise, the data are those of the link.
+    /// Returns the data of the file at `path`, or `None` if no file exists there. If `follows` is true, a symbolic link
+    /// at the end of `path` is followed. Otherwise the data are those of the link.
     fn node_at(&self, path: &str, follows: bool) -> io::Result<Option<Node>>;
 
-    /// Creates a file and opens it for reading and writing. Fails if anything has the name `path` already, also if that
-    /// is a symbolic link. From the start, the file has at most the permissions `mode`.
+    /// Creates a file at `path` and opens it for reading and writing. The call fails if anything exists at `path`, even
+    /// a symbolic link. The file never has more permissions than `mode`.
     fn make(&self, path: &str, mode: u32) -> io::Result<Self::File>;
 
-    /// Changes the owner and the group of an open file.
+    /// Changes the owner and the group of the open file `file`.
     fn set_owner(&self, file: &Self::File, owner: u32, group: u32) -> io::Result<()>;
 
-    /// Returns the descriptor of an open file.
+    /// Returns the descriptor of the open file `file`.
     fn number(&self, file: &Self::File) -> i32;
 
-    /// Whether two paths name the same file, with symbolic links followed. `false` if one of them names no file.
+    /// Returns whether the paths `one` and `other` name the same file, after symbolic links are followed. Returns
+    /// `false` if one of them names no file.
     fn is_same(&self, one: &str, other: &str) -> bool;
 
-    /// Whether a standard stream is a terminal.
+    /// Returns whether the standard stream `stream` is a terminal.
     fn is_terminal(&self, stream: Stream) -> bool;
 }
 

@@ -1,4 +1,4 @@
-//! Reading an image.
+//! Reads the file of an image.
 use crate::fault::DiskFault;
 use std::alloc::Global;
 use std::fs::File;
@@ -6,10 +6,10 @@ use std::io;
 use std::io::{ErrorKind, Read};
 use std::rt::Files;
 
-/// The maximal length of an image, in bytes.
+/// The maximum length of an image, in bytes.
 pub const IMAGE_LIMIT: usize = 33_554_432;
 
-/// Returns the fault of a failed call on an open file. `NotFound` becomes `Other`, since an open file exists.
+/// Returns the fault for a failed call on an open file. `NotFound` becomes `Other`, because a file that is open exists.
 pub(crate) fn fault_of_open(error: io::Error) -> DiskFault {
     match DiskFault::of_read(error) {
         DiskFault::Read(ErrorKind::NotFound) => DiskFault::Read(ErrorKind::Other),
@@ -17,12 +17,12 @@ pub(crate) fn fault_of_open(error: io::Error) -> DiskFault {
     }
 }
 
-/// Reads an open file from its current position to the end.
+/// Reads the open file `file` from its current position to its end.
 ///
 /// # Errors
 ///
-/// - A failed read: as `fault_of_open` states.
-/// - More than `IMAGE_LIMIT` bytes: `TooLong`.
+/// - A read fails: the fault that `fault_of_open` returns.
+/// - The file has more than `IMAGE_LIMIT` bytes after this position: `TooLong`.
 /// - Out of memory: `NoMemory`.
 pub(crate) fn read_file<F: Read>(alloc: Global, file: &mut F) -> Result<Vec<u8>, DiskFault> {
     let mut image = Vec::new(alloc);
@@ -40,15 +40,15 @@ pub(crate) fn read_file<F: Read>(alloc: Global, file: &mut F) -> Result<Vec<u8>,
     Err(DiskFault::TooLong)
 }
 
-/// Reads the image file at `path` without a lock.
+/// Reads the file at `path` without a lock.
 ///
-/// If another program replaces the file meanwhile, the result is the old file or the new one, never a mixture. If
-/// another program writes into the file meanwhile, the result can be a mixture, and no error reports it.
+/// If another program replaces the file during the read, the result is the old file or the new file, never a mixture.
+/// If another program writes into the file during the read, the result can be a mixture, and no error is returned.
 ///
 /// # Errors
 ///
 /// - The file cannot be opened: `Read`, or `NoMemory`.
-/// - The file cannot be read: as `read_file` states. `TooLong` if it has more than `IMAGE_LIMIT` bytes.
+/// - The file cannot be read: an error of `read_file`, for example `TooLong`.
 pub(crate) fn read_image<R: Files>(
     rt: &R,
     alloc: Global,

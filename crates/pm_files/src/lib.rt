@@ -1,4 +1,4 @@
-//! Image files: each is read whole, locked while it is in use, and replaced whole.
+//! Files of images. Each file is read as a whole, locked while it is used, and replaced as a whole.
 #![tactic(auto)]
 
 mod closed;

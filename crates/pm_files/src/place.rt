@@ -1,4 +1,4 @@
-//! A file that will be written: its paths and its lock.
+//! A file that is prepared for writing: its paths and its lock.
 use crate::fault::DiskFault;
 use crate::host::{Host, Kind, Node};
 use crate::image::{fault_of_open, read_file};
@@ -8,26 +8,28 @@ use std::io::{ErrorKind, Seek, SeekFrom};
 use std::rt::Files;
 use std::{fs, io};
 
-/// The maximal number of attempts to open and lock a file. An attempt fails if the file is replaced before it is
-/// locked.
+/// The maximum number of attempts to open and lock a file. An attempt fails if another program replaces the file before
+/// it is locked.
 const OPENINGS: u8 = 100;
 
-/// The maximal number of paths that are checked while symbolic links are followed.
+/// The maximum number of paths that are checked while symbolic links are followed.
 const LINKS: u8 = 40;
 
-/// A file that is locked until this value is dropped.
+/// An open file that is locked until this value is dropped.
 #[derive(Drop)]
 pub(crate) struct Held<F> {
     pub(crate) file: F,
-    /// Whether it is open for reading.
+    /// Whether the file is open for reading.
     reads: bool,
-    /// The path that opens this file again, even if its names have changed. `None` if the system has no such paths.
+    /// The path by which this file can be opened again, even if its names have changed. `None` if the system has no
+    /// such paths.
     again: Option<String>,
 }
 
 /// A location for a new file: a directory, and the paths of two names in it.
 ///
-/// The paths lead through the open directory. So they stay in it, even if directories or links on the way change.
+/// The paths lead through the open directory. So they name files in this directory, even if another program changes a
+/// directory or a link above it.
 #[derive(Drop)]
 pub(crate) struct Spot<F> {
     /// The directory. It is open as long as this value exists.
@@ -36,21 +38,22 @@ pub(crate) struct Spot<F> {
     pub(crate) path: String,
     /// The path of the temporary file.
     pub(crate) beside: String,
-    /// The path of the temporary file for error messages (without `/proc/self/fd`).
+    /// The path of the temporary file as error messages show it, without `/proc/self/fd`.
     pub(crate) told: String,
 }
 
-/// A path to which bytes will be written. All memory for writing is allocated when this value is made.
+/// A path whose file will be written. All memory for writing is allocated when this value is created.
 #[derive(Drop)]
 pub(crate) struct WritePath<F> {
-    /// The path as given.
+    /// The path as the user gave it.
     pub(crate) name: String,
-    /// The file to which the path led when this value was made, or `None`. An error if the path could not be read.
+    /// The file at the path when this value was created, or `None` if no file existed. An error if the path could not
+    /// be read.
     pub(crate) was: Result<Option<Node>, ErrorKind>,
-    /// The location of the file after all links. `None` if no temporary file can be created, for example if the
-    /// directory cannot be opened: the file can only be written in place then.
+    /// The location of the file after all links are followed. `None` if no temporary file can be created, for example
+    /// because the directory cannot be opened. Then the file can only be written in place.
     pub(crate) spot: Option<Spot<F>>,
-    /// The file, if it is locked.
+    /// The open file, if it is locked.
     pub(crate) held: Option<Held<F>>,
 }
 
@@ -63,8 +66,8 @@ pub(crate) fn folder_of(path: &str) -> &str {
     }
 }
 
-/// Returns the path to which the symbolic link at `path` leads. `link` is the text of the link. A relative `link` is
-/// appended to the directory part of `path`.
+/// Returns the path to which the symbolic link at `path` leads. `link` is the text of the link. If `link` is relative,
+/// it is appended to the directory part of `path`.
 fn led_to(alloc: Global, path: &str, link: &str) -> Result<String, DiskFault> {
     match path.rsplit_once('/') {
         Some((folder, _)) if !link.starts_with('/') => {
@@ -77,7 +80,7 @@ fn led_to(alloc: Global, path: &str, link: &str) -> Result<String, DiskFault> {
     }
 }
 
-/// Returns the path to which the symbolic link at `path` leads. `None` if the link cannot be read.
+/// Returns the path to which the symbolic link at `path` leads, or `None` if the link cannot be read.
 fn link_at<R: Host + AllocGlobal>(rt: &R, path: &str) -> Result<Option<String>, DiskFault> {
     match fs::read_link(rt, path) {
         Ok(link) => {
@@ -89,8 +92,8 @@ fn link_at<R: Host + AllocGlobal>(rt: &R, path: &str) -> Result<Option<String>, 
     }
 }
 
-/// Returns the path after the symbolic links at the end of `name`, even if its directory has no absolute path. `None`
-/// if a link cannot be read, or if there are more than 39 links.
+/// Returns the path after all symbolic links at the end of `name` are followed. The function also works if the
+/// directory has no absolute path. Returns `None` if a link cannot be read, or if more than 39 links follow each other.
 fn followed<R: Host + AllocGlobal>(rt: &R, name: &str) -> Result<Option<String>, DiskFault> {
     let mut path = String::from_str(rt.alloc(), name)?;
     for _ in 0..LINKS {
@@ -105,7 +108,7 @@ fn followed<R: Host + AllocGlobal>(rt: &R, name: &str) -> Result<Option<String>,
     Ok(None)
 }
 
-/// Returns the path of `name` after all symbolic links. `None` if it cannot be found.
+/// Returns the path of `name` after all symbolic links are followed, or `None` if this path cannot be found.
 fn resolved<R: Host + AllocGlobal>(rt: &R, name: &str) -> Result<Option<String>, DiskFault> {
     match fs::canonicalize(rt, name) {
         Ok(path) => {
@@ -117,8 +120,8 @@ fn resolved<R: Host + AllocGlobal>(rt: &R, name: &str) -> Result<Option<String>,
     }
 }
 
-/// Returns the path of an open file by its descriptor. It leads to the file, even if the names of the file have
-/// changed. `None` if the system has no such paths.
+/// Returns a path of the open file `file` by its descriptor. The path leads to the file even if the names of the file
+/// have changed. Returns `None` if the system has no such paths.
 pub(crate) fn by_number<R: Host + AllocGlobal>(
     rt: &R,
     file: &R::File,
@@ -133,7 +136,8 @@ pub(crate) fn by_number<R: Host + AllocGlobal>(
     }
 }
 
-/// Returns the path of a file through its open directory. Returns `path` unchanged if the system has no such paths.
+/// Returns the path of the file `path` through its open directory `folder`. Returns `path` itself if the system has no
+/// such paths.
 fn through<R: Host + AllocGlobal>(
     rt: &R,
     folder: &R::File,
@@ -160,8 +164,8 @@ fn beside_of(alloc: Global, path: &str) -> Result<String, DiskFault> {
     }
 }
 
-/// Returns the path of the temporary file for `name`, after all links. `None` if the path after the links cannot be
-/// found.
+/// Returns the path of the temporary file for `name`, after all links are followed. Returns `None` if the path after
+/// the links cannot be found.
 pub(crate) fn new_path<R: Host + AllocGlobal>(
     rt: &R,
     name: &str,
@@ -172,7 +176,7 @@ pub(crate) fn new_path<R: Host + AllocGlobal>(
     }
 }
 
-/// Whether an open file has no name at its location, for example a file of `/proc` that was removed.
+/// Returns whether the file `was` exists but has no name at `path`, for example a file of `/proc` that was removed.
 fn is_nameless<R: Host>(rt: &R, was: Result<Option<Node>, ErrorKind>, path: &str) -> bool {
     match was {
         Ok(Some(_)) => matches!(rt.node_at(path, false), Ok(None)),
@@ -180,8 +184,8 @@ fn is_nameless<R: Host>(rt: &R, was: Result<Option<Node>, ErrorKind>, path: &str
     }
 }
 
-/// Opens the directory of `path`, and makes the paths that lead through it. `None` if the directory cannot be opened,
-/// or if the file has no name in it.
+/// Opens the directory of `path`, and creates the paths that lead through it. Returns `None` if the directory cannot be
+/// opened, or if the file `was` has no name in this directory.
 fn spot_of<R: Host + AllocGlobal>(
     rt: &R,
     path: &str,
@@ -204,8 +208,8 @@ fn spot_of<R: Host + AllocGlobal>(
     }))
 }
 
-/// Opens a file that will be locked: for reading, or for writing if reading is not permitted. Returns the file, and
-/// whether it is open for reading.
+/// Opens the file at `path`, which will be locked: for reading, or for writing if reading is not permitted. Returns the
+/// file, and whether it is open for reading.
 fn opened<R: Files>(rt: &R, path: &str) -> io::Result<(R::File, bool)> {
     match File::open(rt, path) {
         Ok(file) => Ok((file, true)),
@@ -216,12 +220,13 @@ fn opened<R: Files>(rt: &R, path: &str) -> io::Result<(R::File, bool)> {
     }
 }
 
-/// Opens and locks the file at `path`. `None` if it may be neither read nor written.
+/// Opens and locks the file at `path`. Returns `None` if the program is permitted neither to read nor to write the
+/// file.
 ///
 /// # Errors
 ///
 /// - The file cannot be opened for another reason, or the lock fails: `Read`, or `NoMemory`.
-/// - Another program has locked it: `Busy`.
+/// - Another program has locked the file: `Busy`.
 fn locked<R: Host + AllocGlobal>(rt: &R, path: &str) -> Result<Option<Held<R::File>>, DiskFault> {
     let (file, reads) = match opened(rt, path) {
         Ok(opened) => opened,
@@ -236,19 +241,20 @@ fn locked<R: Host + AllocGlobal>(rt: &R, path: &str) -> Result<Option<Held<R::Fi
     }
 }
 
-/// Whether `path` names the file `node`. If `follows`, a symbolic link at the end of `path` is followed.
+/// Returns whether `path` names the file `node`. If `follows` is true, a symbolic link at the end of `path` is
+/// followed.
 fn names<R: Host>(rt: &R, path: &str, follows: bool, node: Node) -> Result<bool, DiskFault> {
     let named = rt.node_at(path, follows).map_err(DiskFault::of_read)?;
     Ok(named.is_some_and(|named| named.is(node)))
 }
 
 impl<F: Seek + std::io::Read> Held<F> {
-    /// Reads the whole file, from its start.
+    /// Reads the whole file from its start.
     ///
     /// # Errors
     ///
-    /// - It is not open for reading: `Read(PermissionDenied)`.
-    /// - It cannot be read: as `read_file` states.
+    /// - The file is not open for reading: `Read(PermissionDenied)`.
+    /// - The file cannot be read: an error of `read_file`.
     pub(crate) fn read(&mut self, alloc: Global) -> Result<Vec<u8>, DiskFault> {
         if !self.reads {
             return Err(DiskFault::Read(ErrorKind::PermissionDenied));
@@ -259,8 +265,8 @@ impl<F: Seek + std::io::Read> Held<F> {
 }
 
 impl<F> WritePath<F> {
-    /// Prepares writing to the path `name`. The only error is `NoMemory`. Any other problem is reported when the file
-    /// is written.
+    /// Prepares writing to the path `name`. The only error is `NoMemory`. Any other fault is reported when the file is
+    /// written.
     pub(crate) fn new<R: Host<File = F> + AllocGlobal>(
         rt: &R,
         name: &str,
@@ -280,7 +286,7 @@ impl<F> WritePath<F> {
         })
     }
 
-    /// Returns the path by which the file is opened. It leads through the directory if that is open.
+    /// Returns the path by which the file is opened. If the directory is open, the path leads through it.
     fn found(&self) -> &str {
         match &self.spot {
             Some(spot) => spot.path.as_str(),
@@ -288,7 +294,8 @@ impl<F> WritePath<F> {
         }
     }
 
-    /// Returns the path by which the file is opened for writing. A locked file is not searched by its name again.
+    /// Returns the path by which the file is opened for writing. If the file is locked and the system has paths by
+    /// descriptor, it is opened by such a path and not by its name.
     pub(crate) fn opening(&self) -> &str {
         match &self.held {
             Some(
@@ -301,7 +308,8 @@ impl<F> WritePath<F> {
         }
     }
 
-    /// Whether `file` is the prepared file `was`, and the given name and the path after all links still lead to it.
+    /// Returns whether `file` is the prepared file `was`, and the given name and the path after all links still name
+    /// this file.
     fn leads_to<R: Host<File = F>>(&self, rt: &R, was: Node, file: &F) -> Result<bool, DiskFault> {
         let node = rt.node(file).map_err(DiskFault::of_read)?;
         if !node.is(was) || !names(rt, self.name.as_str(), true, node)? {
@@ -313,14 +321,15 @@ impl<F> WritePath<F> {
         }
     }
 
-    /// Prepares writing to the path `name`, and locks its file until the result is dropped. Only a regular file is
-    /// locked. A file that may be neither read nor written is not locked: reading or writing it reports why.
+    /// Prepares writing to the path `name`, and locks the file until the result is dropped. Only a regular file is
+    /// locked. A file that the program is permitted neither to read nor to write is not locked. The fault is then
+    /// reported when the file is read or written.
     ///
     /// # Errors
     ///
     /// - Another program has locked the file: `Busy`.
-    /// - The file was replaced in each of `OPENINGS` attempts: `Busy`.
-    /// - The file cannot be opened: as `locked` states.
+    /// - Another program replaced the file in each of `OPENINGS` attempts: `Busy`.
+    /// - The file cannot be opened: an error of `locked`.
     pub(crate) fn holding<R: Host<File = F> + AllocGlobal>(
         rt: &R,
         name: &str,

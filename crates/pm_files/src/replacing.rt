@@ -1,4 +1,4 @@
-//! Writing a whole file.
+//! Writes a file as a whole.
 ghost use Rattle.std.specs.Prelude.{◌≡◌};
 ghost use Rattle.pm_files.specs.Nodes.{claim_of, first_mode, is_still};
 
@@ -13,17 +13,18 @@ use std::{fs, io};
 /// The mode of a new file until it gets the mode of the file that it replaces.
 const PRIVATE: u32 = 0o600;
 
-/// The mode of a new file that replaces none. The system removes the bits of the umask from it.
+/// The mode of a new file that replaces no file. The system removes the bits of the umask from this mode.
 pub(crate) const ORDINARY: u32 = 0o666;
 
-/// The bit in the mode of a directory that prevents users from removing files of others.
+/// The bit in the mode of a directory that prevents users from removing the files of other users.
 const STICKY: u32 = 0o1000;
 
-/// The maximal number of attempts to create a temporary file. Each failed attempt removes the file at its path.
+/// The maximum number of attempts to create a temporary file. Each failed attempt removes the file at the temporary
+/// path.
 const CLEARINGS: u8 = 100;
 
-/// Appends `bytes` to a file of `len` bytes, and writes them to the disk. If that fails, it cuts the file to its old
-/// length.
+/// Appends `bytes` to `file`, which has `len` bytes, and writes them to the disk. If the write fails, the file is cut
+/// to its old length.
 fn append<F: Write + Seek + OpenFile>(file: &mut F, len: u64, bytes: &[u8]) -> io::Result<()> {
     if bytes.is_empty() {
         return Ok(());
@@ -38,10 +39,10 @@ fn append<F: Write + Seek + OpenFile>(file: &mut F, len: u64, bytes: &[u8]) -> i
     }
 }
 
-/// Replaces the content of an open regular file of `len` bytes with `bytes`.
+/// Replaces the content of `file`, an open regular file of `len` bytes, with `bytes`.
 ///
-/// It first appends the bytes after the old end, so that a full disk leaves the file unchanged. It shortens the file
-/// only after all bytes are written.
+/// The function first appends the bytes that exceed the old length, so that a full disk leaves the file unchanged. It
+/// shortens the file only after all bytes are written.
 fn overwrite_file<F: Write + Seek + OpenFile>(
     file: &mut F,
     len: u64,
@@ -59,7 +60,7 @@ fn overwrite_file<F: Write + Seek + OpenFile>(
     file.sync_all()
 }
 
-/// Writes `bytes` over the content of an open file. A file that is not regular keeps its length.
+/// Writes `bytes` over the content of the open file `file`. A file that is not regular does not change its length.
 fn overwrite<F: Write + Seek + OpenFile>(file: &mut F, bytes: &[u8]) -> io::Result<()> {
     let old = file.metadata()?;
     if old.is_file() {
@@ -69,8 +70,8 @@ fn overwrite<F: Write + Seek + OpenFile>(file: &mut F, bytes: &[u8]) -> io::Resu
     }
 }
 
-/// Whether a write error means that this file cannot be replaced by a new file: the directory accepts no new name, or
-/// the file itself cannot be replaced.
+/// Returns whether a write error of this kind means that the file cannot be replaced by a new file. The directory does
+/// not accept a new name, or the file itself cannot be replaced.
 fn is_denied(kind: ErrorKind) -> bool {
     matches!(
         kind,
@@ -82,17 +83,17 @@ fn is_denied(kind: ErrorKind) -> bool {
     )
 }
 
-/// The result of an attempt to replace the file at a path with a new file.
+/// The result of an attempt to replace the file at a path with a new file, if the attempt returned no error.
 #[derive(Clone, Copy)]
 enum Came {
-    /// The new file is at the path.
+    /// The new file is at the path. The old file was replaced.
     Stands,
     /// The directory does not accept the new file, or the new file cannot get the owner and the mode of the old one.
     /// The old file is unchanged.
     Unfit,
 }
 
-/// Returns `Unfit` for a fault after which the file can still be written in place. Returns any other fault as an error.
+/// Returns `Unfit` if the file can still be written in place after `fault`. Otherwise returns `fault` as an error.
 fn unless_denied(fault: DiskFault) -> Result<Came, DiskFault> {
     match fault {
         DiskFault::Write(kind) if is_denied(kind) => Ok(Came::Unfit),
@@ -100,7 +101,7 @@ fn unless_denied(fault: DiskFault) -> Result<Came, DiskFault> {
     }
 }
 
-/// Whether the mode of a directory prevents users from removing files of others.
+/// Returns whether the mode of the directory `folder` prevents users from removing the files of other users.
 fn is_sticky<R: Host>(rt: &R, folder: &R::File) -> bool {
     match rt.node(folder) {
         Ok(folder) => folder.mode & STICKY != 0,
@@ -108,12 +109,12 @@ fn is_sticky<R: Host>(rt: &R, folder: &R::File) -> bool {
     }
 }
 
-/// Removes the file at the temporary path, if there is one.
+/// Removes the file at the temporary path of `spot`, if such a file exists.
 ///
 /// # Errors
 ///
 /// - The directory does not permit the removal, and it has no sticky bit: `Write`.
-/// - The removal fails for another reason: `InTheWay`.
+/// - The file cannot be removed for another reason: `InTheWay`.
 fn clear<R: Host>(rt: &R, spot: &Spot<R::File>) -> Result<(), DiskFault> {
     match fs::remove_file(rt, spot.beside.as_str()) {
         Ok(()) => Ok(()),
@@ -127,14 +128,14 @@ fn clear<R: Host>(rt: &R, spot: &Spot<R::File>) -> Result<(), DiskFault> {
     }
 }
 
-/// Creates and locks the temporary file that will replace another one. Its name belongs to this program only: a file
-/// that has this name is removed, never opened and never followed.
+/// Creates and locks the temporary file that will replace another file. Only this program uses the name of a temporary
+/// file. So an existing file with this name is removed, and it is never opened or followed.
 ///
 /// # Errors
 ///
 /// - The file cannot be created or locked: `Write`.
-/// - The file at its path cannot be removed: as `clear` states.
-/// - A file exists at its path again after each of `CLEARINGS` removals: `InTheWay`.
+/// - A file at the temporary path cannot be removed: an error of `clear`.
+/// - A file exists again at the temporary path after each of `CLEARINGS` removals: `InTheWay`.
 fn make_beside<R: Host>(rt: &R, spot: &Spot<R::File>, mode: u32) -> Result<R::File, DiskFault> {
     for _ in 0..CLEARINGS {
         match rt.make(spot.beside.as_str(), mode) {
@@ -151,7 +152,7 @@ fn make_beside<R: Host>(rt: &R, spot: &Spot<R::File>, mode: u32) -> Result<R::Fi
     Err(DiskFault::InTheWay)
 }
 
-/// Gives a new file the owner, the group and the mode of the old one, if there is one.
+/// Gives the new file `file` the owner, the group and the mode of the file `old`. If `old` is None, nothing is changed.
 fn dress<R: Host>(rt: &R, file: &R::File, old: Option<Node>) -> io::Result<()> {
     let Some(old) = old else {
         return Ok(());
@@ -163,13 +164,13 @@ fn dress<R: Host>(rt: &R, file: &R::File, old: Option<Node>) -> io::Result<()> {
     file.set_permissions(Permissions::from_mode(old.mode))
 }
 
-/// Writes the bytes of a new file to the disk.
+/// Writes `bytes` to the new file `file`, and waits until they are on the disk.
 pub(crate) fn fill<F: Write + OpenFile>(file: &mut F, bytes: &[u8]) -> io::Result<()> {
     file.write_all(bytes)?;
     file.sync_all()
 }
 
-/// Returns the mode with which a new file is created.
+/// Returns the mode with which the new file is created. `old` is the file that it replaces, if it replaces one.
 fn first_mode(old: Option<Node>) -> u32
     ensures mode { result ≡ first_mode old }
 {
@@ -179,7 +180,8 @@ fn first_mode(old: Option<Node>) -> u32
     }
 }
 
-/// Whether a name still names the same file, or still names none: `old` is its file before, and `now` its file now.
+/// Returns whether a name that named the file `old` and now names the file `now` still names the same file. If both are
+/// None, the name still names no file.
 fn is_still(old: Option<Node>, now: Option<Node>) -> bool
     ensures still { result ≡ is_still old now }
 {
@@ -192,8 +194,8 @@ fn is_still(old: Option<Node>, now: Option<Node>) -> bool
     }
 }
 
-/// Returns `Replaced` if `path` names another file than `old`, or if only one of both exists. `Write` if the system
-/// cannot read the file at the path.
+/// Returns the error `Replaced` if `path` no longer names the file `old`. If `old` is None, `path` must still name no
+/// file. Returns the error `Write` if the system cannot read the path.
 fn expect<R: Host>(rt: &R, path: &str, follows: bool, old: Option<Node>) -> Result<(), DiskFault> {
     let now = rt.node_at(path, follows).map_err(DiskFault::of_write)?;
     if is_still(old, now) {
@@ -203,7 +205,7 @@ fn expect<R: Host>(rt: &R, path: &str, follows: bool, old: Option<Node>) -> Resu
     }
 }
 
-/// Returns `Replaced` if the given name, or the path after its links, no longer leads to the old file.
+/// Returns the error `Replaced` if the given name, or the path after its links, no longer leads to the file `old`.
 fn expect_old<R: Host>(
     rt: &R,
     place: &WritePath<R::File>,
@@ -216,7 +218,7 @@ fn expect_old<R: Host>(
     }
 }
 
-/// Whether `file` is at `path`. Returns `unseen` if the system cannot read the path.
+/// Returns whether the file `file` is at `path`. Returns `unseen` if the system cannot read the path.
 fn stands<R: Host>(rt: &R, path: &str, file: Node, unseen: bool) -> bool {
     match rt.node_at(path, false) {
         Ok(Some(now)) => now.is(file),
@@ -225,7 +227,7 @@ fn stands<R: Host>(rt: &R, path: &str, file: Node, unseen: bool) -> bool {
     }
 }
 
-/// Renames the temporary file to the path that it replaces, if both paths still name the expected files.
+/// Renames the temporary file `new` to the path of the file `old`, if both paths still name these files.
 fn move_over<R: Host>(
     rt: &R,
     place: &WritePath<R::File>,
@@ -238,7 +240,7 @@ fn move_over<R: Host>(
     fs::rename(rt, spot.beside.as_str(), spot.path.as_str()).map_err(DiskFault::of_write)
 }
 
-/// Renames the temporary file to the path that it replaces, and checks that it is at that path afterwards.
+/// Renames the temporary file `file` to the path of the file `old`, and checks that it is at this path afterwards.
 fn take_place<R: Host>(
     rt: &R,
     place: &WritePath<R::File>,
@@ -251,13 +253,13 @@ fn take_place<R: Host>(
     match move_over(rt, place, spot, new, old) {
         Ok(()) if stands(rt, path, new, true) => Ok(()),
         Ok(()) => Err(DiskFault::Replaced),
-        // Another program that created the same file may have moved this one.
+        // If another program created the same file, it may have renamed the file to this path.
         Err(_) if stands(rt, path, new, false) => Ok(()),
         Err(fault) => Err(fault),
     }
 }
 
-/// Removes a file that this program created, if `path` still names it.
+/// Removes the file `file`, which this program created, if `path` still names it.
 pub(crate) fn remove_own<R: Host>(rt: &R, path: &str, file: &R::File) {
     if let (Ok(own), Ok(Some(now))) = (rt.node(file), rt.node_at(path, false)) {
         if now.is(own) {
@@ -266,10 +268,10 @@ pub(crate) fn remove_own<R: Host>(rt: &R, path: &str, file: &R::File) {
     }
 }
 
-/// Writes `bytes` to the temporary file, and replaces the file at the path with it. Returns `Unfit` if the new file
-/// cannot get the owner and the mode of the old one, or if the directory denies the renaming.
+/// Writes `bytes` to the temporary file `file`, and replaces the file `old` with it. Returns `Unfit` if the new file
+/// cannot get the owner and the mode of `old`, or if the directory does not permit the renaming.
 ///
-/// A failed write of the bytes is an error: writing in place would fail too.
+/// If the bytes cannot be written, an error is returned: writing in place would fail too.
 fn put_made<R: Host>(
     rt: &R,
     place: &WritePath<R::File>,
@@ -288,7 +290,7 @@ fn put_made<R: Host>(
     }
 }
 
-/// Replaces the file at the path with a new file that contains `bytes`. If that fails, the old file is unchanged.
+/// Replaces the file `old` with a new file that contains `bytes`. If the replacement fails, the old file is unchanged.
 fn put_beside<R: Host>(
     rt: &R,
     place: &WritePath<R::File>,
@@ -302,7 +304,7 @@ fn put_beside<R: Host>(
     };
     let came = put_made(rt, place, spot, &mut file, old, bytes);
     match came {
-        // Write the names in the directory to the disk, if the system can do so.
+        // This call writes the names in the directory to the disk, if the system can do so.
         Ok(Came::Stands) => {
             let _ = spot.folder.sync_all();
         }
@@ -311,7 +313,7 @@ fn put_beside<R: Host>(
     came
 }
 
-/// Creates a file with `bytes` at its own path, without a temporary file.
+/// Creates a file with the contents `bytes` at `path`, without a temporary file.
 fn make_there<R: Host>(rt: &R, path: &str, bytes: &[u8]) -> Result<(), DiskFault> {
     let mut file = rt.make(path, ORDINARY).map_err(DiskFault::of_write)?;
     let done = fill(&mut file, bytes);
@@ -321,7 +323,8 @@ fn make_there<R: Host>(rt: &R, path: &str, bytes: &[u8]) -> Result<(), DiskFault
     done.map_err(DiskFault::of_write)
 }
 
-/// Writes a file that did not exist when `place` was made. A file that exists at the path by now is never opened.
+/// Writes `bytes` to a file that did not exist when `place` was created. If a file exists at the path now, it is never
+/// opened.
 fn write_new<R: Host>(rt: &R, place: &WritePath<R::File>, bytes: &[u8]) -> Result<(), DiskFault> {
     let Some(spot) = &place.spot else {
         return make_there(rt, place.name.as_str(), bytes);
@@ -332,16 +335,16 @@ fn write_new<R: Host>(rt: &R, place: &WritePath<R::File>, bytes: &[u8]) -> Resul
     }
 }
 
-/// The relation of this program to a file that it has opened for writing.
+/// How a file that was opened for writing is related to the file that the program prepared.
 #[derive(Clone, Copy)]
 enum Claimed {
-    /// The program has locked this file.
+    /// It is the prepared file, which the program has locked.
     Held,
-    /// The program prepared another file.
+    /// It is another file than the prepared file.
     Other,
-    /// The program prepared this file, which can be locked.
+    /// It is the prepared file, which is not locked but can be locked.
     Free,
-    /// The program prepared this file, which is a device, a pipe or a socket.
+    /// It is the prepared file, which is a device, a pipe or a socket.
     Shared,
 }
 
@@ -359,13 +362,13 @@ fn claim_of(was: Node, holds: bool, opened: Node) -> Claimed
     }
 }
 
-/// Returns `Ok` if this program may write a file: it has locked the file, it can lock it now, or the file is not
-/// regular.
+/// Returns `Ok` if this program may write the file `file`: it has locked the file before, or it locks the file now, or
+/// the file is not regular. `was` is the prepared file, and `opened` is the data of `file`.
 ///
 /// # Errors
 ///
-/// - The program prepared another file: `Replaced`.
-/// - The lock fails: `Write`. The kind is `WouldBlock` if another program has locked the file.
+/// - The file is not the prepared file: `Replaced`.
+/// - The lock fails: `Write`. The kind of the error is `WouldBlock` if another program has locked the file.
 fn claim<R: Host>(
     rt: &R,
     place: &WritePath<R::File>,
@@ -381,8 +384,8 @@ fn claim<R: Host>(
     }
 }
 
-/// Writes `bytes` over the content of a file that cannot be replaced by a new one. `Replaced` if its path no longer
-/// names it; the file is unchanged then.
+/// Writes `bytes` over the content of the file `file`, which cannot be replaced by a new file. Returns the error
+/// `Replaced` if the path no longer names this file. Then the file is unchanged.
 fn write_over<R: Host>(
     rt: &R,
     place: &WritePath<R::File>,
@@ -394,8 +397,8 @@ fn write_over<R: Host>(
     overwrite(&mut file, bytes).map_err(DiskFault::of_write)
 }
 
-/// Returns the data of the prepared file. If the file is locked, they are read again: some systems give a file another
-/// number when it is opened for writing.
+/// Returns the data of the prepared file `was`. If the file is locked, the data are read again: some systems give a
+/// file another number when it is opened for writing.
 fn known<R: Host>(rt: &R, place: &WritePath<R::File>, was: Node) -> Result<Node, DiskFault> {
     match &place.held {
         Some(held) => rt.node(&held.file).map_err(DiskFault::of_write),
@@ -403,8 +406,8 @@ fn known<R: Host>(rt: &R, place: &WritePath<R::File>, was: Node) -> Result<Node,
     }
 }
 
-/// Writes a file that existed when `place` was made. It is opened only if each of its names still leads to it;
-/// `Replaced` otherwise.
+/// Writes `bytes` to a file that existed when `place` was created. The file is opened only if each of its paths still
+/// leads to it. Otherwise the error is `Replaced`.
 fn write_old<R: Host>(
     rt: &R,
     place: &WritePath<R::File>,
@@ -428,23 +431,24 @@ fn write_old<R: Host>(
     }
 }
 
-/// Replaces the content of a file with `bytes`.
+/// Replaces the content of the file of `place` with `bytes`.
 ///
-/// At each moment the file has its old bytes or the new ones. But the bytes are written in place, over the old ones, in
-/// three cases:
+/// At each moment, the file has either its old bytes or the new bytes. In three cases this is not guaranteed, because
+/// the new bytes are written in place, over the old bytes:
 ///
 /// - the file is not regular;
 /// - it has several names;
-/// - its directory does not accept a new file like it.
+/// - its directory does not accept a new file with the same owner and mode.
 ///
-/// If writing in place fails half way, the file is a mixture. No memory is allocated.
+/// If writing in place fails after some bytes, the file is a mixture of old and new bytes. The call allocates no
+/// memory.
 ///
-/// A file that did not exist when `place` was made is created.
+/// A file that did not exist when `place` was created is created now.
 ///
 /// # Errors
 ///
-/// - The path could not be read when `place` was made: `Write`.
-/// - The path names another file by now, or none: `Replaced`. That file is not opened.
+/// - The path could not be read when `place` was created: `Write`.
+/// - The path now names another file, or no file: `Replaced`. The other file is not opened.
 /// - The file cannot be written: `Write` or `InTheWay`.
 pub(crate) fn replace<R: Host>(
     rt: &R,

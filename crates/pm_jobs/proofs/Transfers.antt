@@ -1,4 +1,4 @@
--- The effect of several reads and writes on known bytes.
+-- The effect of several reads or writes, one after the other, on the bytes of a stream.
 use Rattle.std.proofs.Common.{◌≡◌, ◌≤◌, ℕ, List, [], ◌++◌, Option, Bool, false, length, take, drop, inl, inr, refl, sym, ap, ◌∙◌, append_assoc, append-nil}
 use Rattle.std.proofs.Common.{arith}
 use Rattle.std.proofs.lemmas.List.{take-append-drop}
@@ -9,7 +9,7 @@ use Rattle.pm_jobs.specs.declared.fault.Fault.TheVariants as faults
 use Rattle.pm_jobs.specs.declared.source.TheConstants.{INPUT_LIMIT}
 use Rattle.pm_jobs.specs.Streams.{AppendsFront, IsCause, IsFront}
 
--- `rest` is still to be written, and the bytes before it were written
+-- Of `bytes`, everything before `rest` was written, and `rest` is still to be written.
 pub record Written (old new : Option (List ℕ)) (bytes rest : List ℕ) : Type 0 where
   pub done : List ℕ
   pub appends : Appends old new done
@@ -42,7 +42,8 @@ front_after a b c f = (f.0, ap (λ t. a ++ t) f.1 ∙ sym (append_assoc a b f.0)
 
 -- ---- causes
 
--- the reason why a job was aborted that read nothing
+-- If `fault` is the cause for a job that read nothing, then `fault` is also the cause for a job that read `read`,
+-- provided that `read` is not longer than the limit.
 pub cause_longer : (fault : Fault) (sink_failed : Bool) (read : List ℕ) → length read ≤ INPUT_LIMIT → IsCause fault false sink_failed [] →
     IsCause fault false sink_failed read
 cause_longer faults.Read sink_failed read few c = elim c.1 [ inl bad ↦ cc | inr bad ↦ absurd (omega arith) ]

@@ -7,16 +7,16 @@ use std::alloc::AllocError;
 /// The reason why a job is aborted.
 #[derive(Clone, Copy)]
 pub enum Fault {
-    /// A read returned an error, or the input is too long.
+    /// A read returned an error, or the input has more than `INPUT_LIMIT` bytes.
     Read,
     /// A write returned an error or wrote no byte.
     Write,
-    /// Memory was refused.
+    /// The host has no more memory for the job.
     NoMemory,
 }
 
 impl Fault {
-    /// Returns the message: `read fault`, `write fault` or `no memory`.
+    /// Returns the message for this fault: `read fault`, `write fault` or `no memory`.
     pub fn text(self) -> &'static str
         ensures value { result.now ≡ fault_text self }
     {

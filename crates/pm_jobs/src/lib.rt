@@ -1,7 +1,7 @@
 //! The options of jobs and their streams.
 //!
-//! The options select the lines of a trace, the images that a run saves, and the output of `asm` and `dis`. The streams
-//! are the input and the output of a job, with the reasons why it may be aborted.
+//! The options select the lines of a trace, the images that a run saves, and the output of `asm` and `dis`. A job reads
+//! its input from a `Source` and writes its output to a `Sink`. `Fault` is the reason why a job is aborted.
 #![tactic(auto)]
 
 mod fault;

@@ -1,10 +1,10 @@
-//! The input of a job that reads no input.
+//! The source for a job that reads no input.
 ghost use Rattle.std.specs.Prelude.{[], false, Some};
 
 use crate::source::Source;
 use std::io;
 
-/// A source without any bytes.
+/// A source without any bytes: each read returns 0.
 #[derive(Drop)]
 pub struct Nothing;
 

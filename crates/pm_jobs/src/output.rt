@@ -1,31 +1,31 @@
 //! The outputs of the jobs on source texts and on code files.
 
-/// The output of `asm` for a source text.
+/// The output that `asm` writes for a source text.
 #[derive(Clone, Copy)]
 pub enum AsmOutput {
     /// The code file of the program.
     File,
     /// The listing of the program.
     Listing,
-    /// A line for each fault.
+    /// One line for each fault of the source text.
     Faults,
-    /// A line for each procedure and each label.
+    /// One line for each procedure and each label of the program.
     Symbols,
 }
 
-/// The output of `dis` for a code file.
+/// The output that `dis` writes for a code file.
 #[derive(Clone, Copy)]
 pub enum DisOutput {
     /// The source text.
     Text,
-    /// The source text with the names of procedures.
+    /// The source text, with the names of procedures.
     Names,
-    /// The listing, with the bytes and offsets of the file.
+    /// The listing, with the bytes of the code file and their offsets.
     Listing,
     /// The code as statements.
     Statements,
-    /// The code as statements, indented by their depth.
+    /// The code as statements, each indented by its depth of nesting.
     Indented,
-    /// The code as statements in blocks.
+    /// The code as statements that are grouped into blocks.
     Blocks,
 }

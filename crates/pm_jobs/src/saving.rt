@@ -2,7 +2,7 @@
 ghost use Rattle.std.specs.Prelude.{◌≡◌};
 ghost use Rattle.pm_jobs.specs.Savings.{has_first, has_others};
 
-/// The images that are saved after a run.
+/// A choice of the images that are saved after a run.
 #[derive(Clone, Copy)]
 pub enum Saving {
     /// No image.
@@ -16,14 +16,14 @@ pub enum Saving {
 }
 
 impl Saving {
-    /// Whether the image on unit 4 is saved.
+    /// Returns whether the image on unit 4 is saved.
     pub fn has_first(self) -> bool
         ensures value { result ≡ has_first self }
     {
         matches!(self, Saving::First | Saving::All)
     }
 
-    /// Whether the images on the other units are saved.
+    /// Returns whether the images on the other units are saved.
     pub fn has_others(self) -> bool
         ensures value { result ≡ has_others self }
     {

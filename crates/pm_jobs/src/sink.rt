@@ -1,4 +1,4 @@
-//! The output of a job.
+//! The output of a job: the trait `Sink`, and the function that writes to a sink.
 ghost use Rattle.std.specs.Prelude.{◌≡◌, ⊤, Bool, Option, false, ◌||◌, List, ℕ, is_err, OnOk, IfErr};
 ghost use Rattle.std.specs.Io.{WritesAtMost};
 ghost use Rattle.std.specs.Io.KnownBytes.{WriteAppends, Appends};
@@ -9,30 +9,31 @@ use std::io;
 
 /// The output stream of a job.
 pub trait Sink {
-    /// The bytes that were written, if they are known, and whether a write has returned an error or has written no
-    /// byte.
+    /// The state of the sink: the bytes that were written, if they are known, and whether a write has failed. A write
+    /// fails if it returns an error or writes no byte.
     ghost seen: { Self → Outgoing };
 
-    /// Writes some of the first bytes of `buf` and returns their number. If it returns an error, nothing was written.
+    /// Writes a prefix of `buf` and returns the number of bytes written. If the call returns an error, it wrote
+    /// nothing.
     fn write(&mut self, buf: &[u8]) -> io::Result<usize>
         ensures bound { WritesAtMost result buf.now }
         ensures bytes { WriteAppends (seen self.old).contents (seen self.new).contents result buf.now }
         ensures failed { (seen self.new).failed ≡ ((seen self.old).failed || took_nothing result) };
 
-    /// Whether a write has returned an error or has written no byte.
+    /// Returns whether a write has returned an error or has written no byte.
     fn failed(&self) -> bool
         ensures value { result ≡ (seen self.now).failed };
 }
 
-/// A writer, with the effect of one call of it. Every `io::Write` is one.
+/// A writer whose contract describes the effect of a single call. Every `io::Write` is an `Output`.
 pub trait Output {
-    /// The bytes that were written, if they are known.
+    /// The bytes that the writer has accepted, if they are known.
     ghost taken: { Self → Option (List ℕ) };
 
-    /// One call changes the first state to the second.
+    /// The relation between the state of the writer before one call of `write_once` and the state after it.
     ghost one_write: { Self → Self → Type 0 };
 
-    /// Writes by one call. Returns the number of bytes that were written.
+    /// Calls the writer once with `buf`. Returns the number of bytes of `buf` that were written.
     fn write_once(&mut self, buf: &[u8]) -> io::Result<usize>
         ensures bound { WritesAtMost result buf.now }
         ensures bytes { WriteAppends (taken self.old) (taken self.new) result buf.now }
@@ -49,7 +50,7 @@ impl<W: io::Write> Output for W {
     }
 }
 
-/// A sink over any writer.
+/// A sink that writes to any `Output` and records whether a write has failed.
 #[derive(Drop)]
 pub struct Writer<W> {
     inner: W,
@@ -57,7 +58,7 @@ pub struct Writer<W> {
 }
 
 impl<W: Output> Writer<W> {
-    /// Creates a sink that writes to `inner`. It has not failed.
+    /// Creates a sink that writes to `inner`. The new sink has not failed.
     pub fn new(inner: W) -> Writer<W>
         ensures contents { (⟦<Writer<W> as Sink>⟧.seen result).contents ≡ W.taken inner }
         ensures failed { (⟦<Writer<W> as Sink>⟧.seen result).failed ≡ false }
@@ -88,11 +89,11 @@ impl<W: Output> Sink for Writer<W> {
     }
 }
 
-/// Writes all of `bytes`, with as many writes as needed. The sink must not have failed before.
+/// Writes all of `bytes` to `sink`, with as many writes as needed. The sink must not have failed before.
 ///
 /// # Errors
 ///
-/// `Write`: a write returned an error or wrote no byte. A prefix of the bytes was written.
+/// `Write`: a write returned an error or wrote no byte. Then only a prefix of `bytes` was written.
 pub fn write_all<W: Sink>(sink: &mut W, bytes: &[u8]) -> Result<(), Fault>
     requires well { (W.seen sink.old).failed ≡ false }
     ensures all { OnOk result (Appends (W.seen sink.old).contents (W.seen sink.new).contents bytes.now) }

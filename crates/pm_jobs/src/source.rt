@@ -1,4 +1,4 @@
-//! The input of a job.
+//! The input of a job: the trait `Source`, and the functions that read from a source.
 ghost use Rattle.std.specs.Prelude.{◌≡◌, ⊤, Bool, Option, false, ◌||◌, List, ℕ, is_err, OnOk, OnErr, IfErr, IfOk};
 ghost use Rattle.std.specs.Io.{ReadsAtMost};
 ghost use Rattle.std.specs.Io.KnownBytes.{ReadConsumes, Consumes, Keeps};
@@ -11,32 +11,32 @@ use std::io;
 
 /// The input stream of a job.
 pub trait Source {
-    /// The remaining bytes, if they are known; whether a read has returned an error; and the number of bytes that were
-    /// read.
+    /// The state of the source: the remaining bytes, if they are known; whether a read has returned an error; and the
+    /// number of bytes that were read.
     ghost seen: { Self → Incoming };
 
-    /// Reads some bytes into the start of `buf` and returns their number. It is 0 only at the end or if `buf` is empty.
-    /// If it returns an error, nothing was read.
+    /// Reads bytes into the start of `buf` and returns their number. The number is 0 only if no bytes remain or `buf`
+    /// is empty. If the call returns an error, it read nothing.
     fn read(&mut self, buf: &mut [u8]) -> io::Result<usize>
         ensures bound { ReadsAtMost result buf.new }
         ensures bytes { ReadConsumes (seen self.old).remaining (seen self.new).remaining result buf.new }
         ensures failed { (seen self.new).failed ≡ ((seen self.old).failed || is_err result) }
         ensures counts { Counts (seen self.old).given (seen self.new).given result };
 
-    /// Whether a read has returned an error.
+    /// Returns whether a read has returned an error.
     fn failed(&self) -> bool
         ensures value { result ≡ (seen self.now).failed };
 }
 
-/// A reader, with the effect of one call of it. Every `io::Read` is one.
+/// A reader whose contract describes the effect of a single call. Every `io::Read` is an `Input`.
 pub trait Input {
-    /// The remaining bytes, if they are known.
+    /// The bytes that the reader can still deliver, if they are known.
     ghost coming: { Self → Option (List ℕ) };
 
-    /// One call changes the first state to the second.
+    /// The relation between the state of the reader before one call of `read_once` and the state after it.
     ghost one_read: { Self → Self → Type 0 };
 
-    /// Reads by one call. Returns the number of bytes that were read.
+    /// Calls the reader once. Returns the number of bytes that were read into the start of `buf`.
     fn read_once(&mut self, buf: &mut [u8]) -> io::Result<usize>
         ensures bound { ReadsAtMost result buf.new }
         ensures bytes { ReadConsumes (coming self.old) (coming self.new) result buf.new }
@@ -53,7 +53,7 @@ impl<R: io::Read> Input for R {
     }
 }
 
-/// A source over any reader.
+/// A source that reads from any `Input`, counts its bytes, and records whether a read has failed.
 #[derive(Drop)]
 pub struct Reader<R> {
     inner: R,
@@ -62,7 +62,7 @@ pub struct Reader<R> {
 }
 
 impl<R: Input> Reader<R> {
-    /// Creates a source that reads from `inner`. It has not failed and has read no bytes.
+    /// Creates a source that reads from `inner`. The new source has not failed and has read no bytes.
     pub fn new(inner: R) -> Reader<R>
         ensures remaining { (⟦<Reader<R> as Source>⟧.seen result).remaining ≡ R.coming inner }
         ensures failed { (⟦<Reader<R> as Source>⟧.seen result).failed ≡ false }
@@ -100,16 +100,16 @@ impl<R: Input> Source for Reader<R> {
     }
 }
 
-/// The maximum number of input bytes of a job. One more byte is a read fault.
+/// The maximum number of input bytes of a job. A job that reads one more byte ends with a read fault.
 pub const INPUT_LIMIT: usize = 16_777_216;
 
-/// Reads all remaining bytes. The source must not have failed before.
+/// Reads and returns all remaining bytes of `source`. The source must not have failed before.
 ///
 /// # Errors
 ///
-/// The bytes that were already read are lost:
-/// - `Read`: a read returned an error, or there are more than `INPUT_LIMIT` bytes.
-/// - `NoMemory`: memory was refused.
+/// If an error is returned, the bytes that were already read are lost.
+/// - `Read`: a read returned an error, or more than `INPUT_LIMIT` bytes were read.
+/// - `NoMemory`: the host has no more memory.
 pub fn read_all<R: Source>(alloc: Global, source: &mut R) -> Result<Vec<u8>, Fault>
     requires well { (R.seen source.old).failed ≡ false }
     ensures all { IfOk result (λ input.
@@ -137,8 +137,8 @@ pub fn read_all<R: Source>(alloc: Global, source: &mut R) -> Result<Vec<u8>, Fau
     Ok(input)
 }
 
-// Reads one byte, or returns None at the end. The source must not have failed before. Fails with `Read` if the read
-// returns an error. Then no byte was read.
+// Reads one byte of `source`, or returns None if no bytes remain. The source must not have failed before. If the read
+// returns an error, the function fails with `Read` and no byte was read.
 fn read_byte<R: Source>(source: &mut R) -> Result<Option<u8>, Fault>
     requires well { (R.seen source.old).failed ≡ false }
     ensures byte { IfOk result (λ byte. ReadsByte (R.seen source.old).remaining (R.seen source.new).remaining byte) }
@@ -155,14 +155,14 @@ fn read_byte<R: Source>(source: &mut R) -> Result<Option<u8>, Fault>
     }
 }
 
-/// Reads one byte of an input and adds 1 to `taken`, the number of bytes that were read before. At the end it returns
-/// None and leaves `taken` unchanged. The source must not have failed before.
+/// Reads one byte of `source` and adds 1 to `taken`, the number of bytes that were read before. If no bytes remain, the
+/// function returns None and leaves `taken` unchanged. The source must not have failed before.
 ///
 /// # Errors
 ///
-/// `Read`, in one of two cases. `taken` is unchanged:
+/// `Read`, in one of two cases. `taken` is unchanged in both cases:
 /// - The read returned an error. No byte was read.
-/// - `taken` was already `INPUT_LIMIT`. One more byte was read and is lost.
+/// - `taken` was already at least `INPUT_LIMIT`. One more byte was read and is lost.
 pub fn next_byte<R: Source>(source: &mut R, taken: &mut usize) -> Result<Option<u8>, Fault>
     requires well { (R.seen source.old).failed ≡ false }
     ensures byte { IfOk result (λ byte.

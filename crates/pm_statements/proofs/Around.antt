@@ -1,4 +1,4 @@
--- The open spans are those that count and contain the offset.
+-- The ends of the open spans are the ends of the counted spans that contain the offset.
 use Rattle.std.proofs.Common.{◌≡◌, ◌≤◌, ◌<◌, ℕ, zero, suc, ◌+◌, Bool, true, false, List, [], ◌∷◌, ◌++◌, length, replicate}
 use Rattle.std.proofs.Common.{Option, None, Some, refl, sym, ap, ◌∙◌, arith, subst}
 use Rattle.std.specs.Prelude.{not, ◌||◌, ◌&&◌, nat_le, nat_lt, if◌then◌else◌}
@@ -9,17 +9,17 @@ use Rattle.pm_statements.specs.Spans.{DepthsAreSpans, JumpSpan, around, counted,
 
 -- ---- lists of ends
 
--- The ends after an offset.
+-- Returns the ends that are greater than `x`.
 abbrev only : ℕ → List ℕ → List ℕ
 only x [] = []
 only x (e ∷ es) = if nat_lt x e then e ∷ only x es else only x es
 
--- No end is lower.
+-- Each end of the list is at least `e`.
 abbrev Below : ℕ → List ℕ → Type 0
 Below e [] = Unit {0}
 Below e (x ∷ xs) = (e ≤ x) × Below e xs
 
--- Each end is at most the next one.
+-- The ends of the list are in ascending order.
 abbrev Rising : List ℕ → Type 0
 Rising [] = Unit {0}
 Rising (e ∷ es) = Below e es × Rising es
@@ -90,7 +90,8 @@ only_ends at next (s ∷ ss) h b = by (nat_lt at s.behind) (nat_lt next s.behind
     by false true e f more = absurd (grind (arith, nat_tests, e, f, h))
     by false false e f more = rw here (rw there (rw e (rw f more)))
 
--- The spans that are open at a later offset.
+-- If all spans `ss` have begun at `at` and their ends ascend, then `open_at` computes which of them still contain the
+-- later offset `next`.
 open_later : (at next : ℕ) (ss : List JumpSpan) → at ≤ next → Begun at ss → Rising (ends_at at ss)
     → open_at next (ends_at at ss) ≡ ends_at next ss
 open_later at next ss h b r = open_only next (ends_at at ss) r ∙ only_ends at next ss h b
@@ -135,11 +136,12 @@ within_high at end (e ∷ es) r = ap (λ c. nat_lt at end && c) (by (nat_le end 
     by true h = sym (all_below end e es (grind (arith, nat_tests, h)) r.0)
     by false h = refl
 
--- Adds a span if it counts.
+-- Adds the span from `at` to `end` to `ss`, if this span counts.
 abbrev counted_one : ℕ → ℕ → List JumpSpan → List JumpSpan
 counted_one at end ss = if counts (record { begin = at; behind = end }) ss then record { begin = at; behind = end } ∷ ss else ss
 
--- The properties of the counted spans at an offset.
+-- The list `es` has the ends of those spans of `ss` that contain `at`. The spans of `ss` have begun at `at`, and the
+-- ends ascend.
 record AreOpen (at : ℕ) (es : List ℕ) (ss : List JumpSpan) : Type 0 where
   same : es ≡ ends_at at ss
   begun : Begun at ss
@@ -186,7 +188,7 @@ open_one at end es ss o = by (nat_lt at end) (all_high end (ends_at at ss)) refl
     by true false e f = with false (rw e (rw f refl)) o
     by false b e f = with false (rw e refl) o
 
--- Adds the span that begins at an offset, if there is one.
+-- Adds the span from `at` to its end to `ss`, if an end is given and the span counts.
 abbrev counted_if : ℕ → Option ℕ → List JumpSpan → List JumpSpan
 counted_if at None ss = ss
 counted_if at (Some end) ss = counted_one at end ss

@@ -1,4 +1,4 @@
--- Texts that differ in spaces.
+-- Two texts of the same statements differ only in spaces.
 use Rattle.std.proofs.Common.{◌≡◌, ◌++◌, ◌∷◌, [], ℕ, zero, suc, Bool, true, false, List, if◌then◌else◌, ap, refl, sym, ◌∙◌}
 use Rattle.std.specs.Prelude.{not, ◌==◌, ◌&&◌, reverse}
 use Rattle.std.proofs.lemmas.List.Elements.{filter-append}

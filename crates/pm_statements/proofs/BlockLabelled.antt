@@ -1,4 +1,4 @@
--- The labels of statements in blocks, one after another.
+-- The labels of statements in blocks are marked item by item and line by line.
 use Rattle.std.proofs.Common.{◌≡◌, ◌≤◌, ℕ, Bool, false, List, [], ◌∷◌, ◌++◌, append_assoc, drop, length, map, refl, sym, ap, ◌∙◌}
 use Rattle.std.specs.Prelude.{◌||◌}
 use Rattle.std.proofs.lemmas.List.{drop_all}
@@ -16,7 +16,7 @@ use Rattle.pm_statements.specs.Marks.{AreMarked, Marks, has}
 use Rattle.pm_statements.specs.Texts.{place_lines}
 use Rattle.pm_statements.proofs.Marked.{among_joined, or_assoc, or_false}
 
--- Additional offsets, the first of which are marked.
+-- If the offsets `first` were marked, then marking `others` gives the same set as marking `first ++ others` before.
 more_places : (first others : List ℕ) (p : ℕ) (new old : Bool) → new ≡ (old || is_among first p)
     → (new || is_among others p) ≡ (old || is_among (first ++ others) p)
 more_places first others p new old e =
@@ -24,7 +24,8 @@ more_places first others p new old e =
     ∙ or_assoc old (is_among first p) (is_among others p)
     ∙ ap (λ b. old || b) (sym (among_joined first others p))
 
--- One more item.
+-- If the offsets of `item` were marked, then marking those of `items` gives the same set as marking those of `item ∷
+-- items`.
 pub table_step : (item : Item ℕ) (items : List (Item ℕ)) (p : ℕ) (new old : Bool) → new ≡ (old || is_among (case_places item) p)
     → (new || is_among (table_places items) p) ≡ (old || is_among (table_places (item ∷ items)) p)
 table_step item items p new old e = more_places (case_places item) (table_places items) p new old e
@@ -34,7 +35,8 @@ pub tables_done : {A : Type 0} → (f : A → Item ℕ) (items : List A) (i p : 
 tables_done f items i p now whole high e =
     sym (or_false now) ∙ sym (ap (λ l. now || is_among (table_places (map f l)) p) (drop_all i items high)) ∙ e
 
--- One more line.
+-- If the offsets of the line `x` were marked, then marking those of `xs` gives the same set as marking those of `x ∷
+-- xs`.
 pub line_step : (x : Line) (xs now : List Line) (ls rest : List Left) (p : ℕ) (new old : Bool) → now ≡ x ∷ xs
     → new ≡ (old || is_among (first_places x.word ls) p) → rest ≡ drop (statements_at x.word) ls
     → (new || is_among (line_places xs rest) p) ≡ (old || is_among (line_places now ls) p)
@@ -49,12 +51,12 @@ pub lines_done : (xs : List Line) (ls : List Left) (p : ℕ) (now whole : Bool) 
 unfolding line_places
 lines_done xs ls p now whole a e = sym (or_false now) ∙ sym (ap (λ l. now || is_among (line_places l ls) p) a) ∙ e
 
--- Labels do not change whether a statement is a call.
+-- If labels are added to or removed from statements, the line of a call remains the line of a call.
 pub calls_labelled : (labelled : ℕ → Bool) (w : Word) (ls : List Left) → calls_at w ls ≡ calls_at w (map (relabelled labelled) ls)
 calls_labelled labelled w [] = refl
 calls_labelled labelled w (l ∷ ls) = refl
 
--- The marks determine the labels.
+-- If `marks` has exactly the offsets `used`, then both give the statements the same labels.
 pub labels_known : (marks : Marks) (used : List ℕ) (ls : List Left) → AreMarked marks used
     → map (relabelled (has marks)) ls ≡ map (relabelled (is_among used)) ls
 labels_known marks used [] h = refl
@@ -67,7 +69,8 @@ labels_known marks used (l ∷ ls) h =
     } ∷ map (relabelled (has marks)) ls) (h l.place.offset)
     ∙ ap (λ x. relabelled (is_among used) l ∷ x) (labels_known marks used ls h)
 
--- The lines of blocks, followed by those of the end of the code.
+-- If the lines of the blocks are appended to a text, and then the lines for the end of the code, then `blocks_text` is
+-- appended.
 pub text_known : (q : Procedure) (xs : List Line) (ls : List Left) (ss : List Shown) (marks : Marks) (end : ℕ) (old middle new : List ℕ)
     → AreMarked marks (shown_places q xs ls) → end ≡ code_end q
     → middle ≡ old ++ block_lines 0 false xs (map (relabelled (has marks)) ls) ss

@@ -1,4 +1,4 @@
--- Code ranges and lines of blocks, one after another.
+-- Code ranges and lines of blocks are appended one after another.
 use Rattle.std.proofs.Common.{◌≡◌, ℕ, ◌-◌, Bool, List, [], ◌∷◌, ◌++◌, append_assoc, drop, refl, sym, ap, ◌∙◌}
 use Rattle.std.proofs.lemmas.List.{append-nil}
 use Rattle.pm_trees.specs.declared.line.Line.{Line}
@@ -10,7 +10,8 @@ use Rattle.pm_trees.specs.declared.left.Left.{Left}
 use Rattle.pm_statements.specs.BlockLines.{block_line, block_lines, calls_at, statements_at}
 use Rattle.pm_statements.specs.Leading.{leads_by, next_place, stretches}
 
--- One more statement.
+-- If the code range of the statement `l` is appended to `list`, then the ranges of the other statements `ls` complete
+-- the list of all ranges.
 pub stretches_step : (start : ℕ) (entries : List ℕ) (end behind : ℕ) (to : Leads) (l : Left) (s : Shown) (ls now : List Left) (ss texts : List Shown)
     (list new : List Statement) → now ≡ l ∷ ls → texts ≡ s ∷ ss → behind ≡ next_place end ls → to ≡ leads_by start entries l.role s.form
     → new ≡ list ++ record { at = l.place.offset - start; behind = behind - start; leads = to } ∷ []
@@ -35,7 +36,7 @@ pub stretches_done : (start : ℕ) (entries : List ℕ) (end : ℕ) (ls : List L
 unfolding stretches
 stretches_done start entries end ls ss e = ap (λ x. stretches start entries end x ss) e
 
--- One more line.
+-- If the line `x` is appended to the text `out`, then the other lines `xs` complete the text of all lines.
 pub block_step : (depth next : ℕ) (calls behind : Bool) (x : Line) (xs now : List Line) (ls rest : List Left) (ss texts : List Shown) (out new : List ℕ)
     → now ≡ x ∷ xs → new ≡ out ++ block_line (depth_at x.word depth) calls x.word ls ss → next ≡ depth_behind x.word depth
     → behind ≡ calls_at x.word ls → rest ≡ drop (statements_at x.word) ls → texts ≡ drop (statements_at x.word) ss

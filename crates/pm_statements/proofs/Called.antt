@@ -1,4 +1,4 @@
--- What returns leave, item by item.
+-- The number of words that the returns of a procedure leave, computed item by item.
 use Rattle.std.proofs.Common.{◌≡◌, ◌<◌, ◌∙◌, ℕ, Bool, true, false, List, [], ◌∷◌, Option, Some, None, refl, sym, ap}
 use Rattle.std.proofs.lemmas.Bool.{agree_below_at, true≢false}
 use Rattle.pm_families.specs.declared.families.Kind.{Kind}

@@ -1,4 +1,4 @@
--- The statements are computed.
+-- The checker computes the results of the worked examples.
 use Rattle.std.proofs.Common.{refl}
 use Rattle.pm_opcode.specs.Operations.{operation_of}
 use Rattle.pm_opcode.specs.Table.{form_of, groups, implied, shape_of}

@@ -1,4 +1,4 @@
--- Lists that are built piece by piece, like the text of a file.
+-- Lists that are built piece by piece, such as the text of a file. In each lemma, `whole` is the complete list.
 use Rattle.std.proofs.Common.{◌≡◌, ◌<◌, ◌+◌, ◌-◌, ◌++◌, ◌∷◌, [], ◌∙◌, ℕ, suc, List, ap, append_assoc, arith, refl, sym, subst}
 use Rattle.std.proofs.Common.{Option, Some, IfSome}
 use Rattle.pm_codefile.specs.Dictionary.{segment_in}
@@ -14,7 +14,7 @@ use Rattle.pm_trees.specs.Parts.{Known}
 use Rattle.pm_trees.specs.declared.items.Layout.{Layout}
 use Rattle.pm_trees.specs.declared.part.Callee.{Callee}
 
--- A list of pieces, with the next one appended.
+-- If piece `n` is appended to `before`, then `after` and the pieces from `n + 1` on are the complete list.
 next : {A : Type 0} (all : ℕ → ℕ → List A) (piece : ℕ → List A) → ((n k : ℕ) → all n (suc k) ≡ piece n ++ all (n + 1) k)
     → (n done count : ℕ) (after before whole : List A) → done < count → after ≡ before ++ piece n
     → before ++ all n (count - done) ≡ whole → after ++ all (n + 1) (count - (done + 1)) ≡ whole
@@ -27,7 +27,8 @@ next all piece step n done count after before whole h t i =
     ∙ ap (λ k. before ++ all n k) (sym more)
     ∙ i
 
--- One more procedure of a segment.
+-- If the sizes of the next procedure are appended, then the sizes of the remaining procedures of the segment complete
+-- the list.
 pub next_callee : (segment : List ℕ) (done : ℕ) (after before whole : List (Option Callee)) (callee : Option Callee) → done < 255
     → callee_in segment (attributes_in segment (done + 1)) ≡ callee → after ≡ before ++ callee ∷ []
     → before ++ callees_from segment (done + 1) (255 - done) ≡ whole
@@ -36,21 +37,23 @@ next_callee segment done after before whole callee h e t i =
     next (callees_from segment) (λ n. callee_in segment (attributes_in segment n) ∷ []) (λ n k. refl) (done + 1) done 255
     after before whole h (t ∙ ap (λ c. before ++ c ∷ []) (sym e)) i
 
--- One more procedure of the operating system.
+-- If the sizes of the next procedure of the operating system are appended, then the sizes of the remaining procedures
+-- complete the list.
 pub next_system : (done : ℕ) (after before whole : List (Option Callee)) → done < 255
     → after ≡ before ++ system_callee (done + 1) ∷ [] → before ++ system_from (done + 1) (255 - done) ≡ whole
     → after ++ system_from (done + 1 + 1) (255 - (done + 1)) ≡ whole
 next_system done after before whole h t i =
     next system_from (λ n. system_callee n ∷ []) (λ n k. refl) (done + 1) done 255 after before whole h t i
 
--- The sizes for one more slot.
+-- If the sizes for slot `n` are appended, then the sizes for the remaining slots complete the list.
 pub next_slot : (file : List ℕ) (n : ℕ) (after before whole : List (Option Callee)) → n < 16
     → after ≡ before ++ slot_callees n (segment_in file n) → before ++ slots_callees file n (16 - n) ≡ whole
     → after ++ slots_callees file (n + 1) (16 - (n + 1)) ≡ whole
 next_slot file n after before whole h t i =
     next (slots_callees file) (λ n. slot_callees n (segment_in file n)) (λ n k. refl) n n 16 after before whole h t i
 
--- The text of one more procedure number, and the offsets of the attribute tables that were shown after it.
+-- If the text of the next procedure number is appended and its attribute table is recorded in `noted`, then the text of
+-- the remaining numbers completes the text.
 pub next_table : (k : Known) (segment shown noted : List ℕ) (done count : ℕ) (after before whole text : List ℕ) → done < count
     → noted ≡ with_table shown (attributes_in segment (done + 1))
     → numbered_text k segment shown (done + 1) (attributes_in segment (done + 1)) ≡ text → after ≡ before ++ text
@@ -67,27 +70,27 @@ next_table k segment shown noted done count after before whole text h s e t i =
     ∙ ap (λ m. before ++ tables_text k segment shown (done + 1) m) (sym more)
     ∙ i
 
--- The text of one more slot.
+-- If the text of slot `n` is appended, then the text of the remaining slots completes the text.
 pub next_text : (callees : List (Option Callee)) (layout : Layout) (file : List ℕ) (n : ℕ) (after before whole : List ℕ) → n < 16
     → after ≡ before ++ slot_text callees layout n (segment_in file n) → before ++ slots_text callees layout file n (16 - n) ≡ whole
     → after ++ slots_text callees layout file (n + 1) (16 - (n + 1)) ≡ whole
 next_text callees layout file n after before whole h t i =
     next (slots_text callees layout file) (λ n. slot_text callees layout n (segment_in file n)) (λ n k. refl) n n 16 after before whole h t i
 
--- A property of an option's value holds for the value.
+-- If an option is `Some x` and its value has the property `P`, then `x` has the property `P`.
 pub given : {A : Type 0} (P : A → Type 0) (o : Option A) (x : A) → o ≡ Some x → IfSome o P → P x
 given P o x e h = let g : IfSome (Some x) P = subst (λ k. IfSome k P) e h in g
 
--- Three pieces of text are appended.
+-- If `a`, `b` and `c` are appended one after the other, then `(a ++ b) ++ c` is appended.
 pub three_pieces : (t0 t1 t2 t3 a b c : List ℕ) → t1 ≡ t0 ++ a → t2 ≡ t1 ++ b → t3 ≡ t2 ++ c → t3 ≡ t0 ++ ((a ++ b) ++ c)
 three_pieces t0 t1 t2 t3 a b c e f g =
     g ∙ ap (λ t. t ++ c) (f ∙ ap (λ t. t ++ b) e ∙ append_assoc t0 a b) ∙ append_assoc t0 (a ++ b) c
 
--- Two pieces of text are appended.
+-- If `a` and `b` are appended one after the other, then `a ++ b` is appended.
 pub two_pieces : (t0 t1 t2 a b : List ℕ) → t1 ≡ t0 ++ a → t2 ≡ t1 ++ b → t2 ≡ t0 ++ (a ++ b)
 two_pieces t0 t1 t2 a b e f = f ∙ ap (λ t. t ++ b) e ∙ append_assoc t0 a b
 
--- One more entry of a jump table.
+-- If the line of the next entry is appended, then the lines of the remaining entries complete the text.
 pub entries_step : (k place : ℕ) (places all out new whole : List ℕ) → all ≡ place ∷ places
     → new ≡ out ++ (10 ∷ 94 ∷ (decimal k ++ (32 ∷ label_text place)))
     → out ++ entry_lines k all ≡ whole → new ++ entry_lines (k + 1) places ≡ whole
@@ -100,7 +103,7 @@ entries_step k place places all out new whole e n i =
 pub entries_done : (k : ℕ) (all out whole : List ℕ) → all ≡ [] → out ++ entry_lines k all ≡ whole → out ≡ whole
 entries_done k all out whole e i = sym (ap (λ l. out ++ entry_lines k l) e ∙ append-nil out) ∙ i
 
--- One more item that has the property.
+-- If all items of `xs` and the item `x` have the property `P`, then all items of `xs ++ x ∷ []` have it.
 pub all_behind : {A : Type 0} (P : A → Type 0) (xs : List A) (x : A) → AllByRecursion P xs → P x → AllByRecursion P (xs ++ x ∷ [])
 all_behind P [] x h p = (p, tt)
 all_behind P (y ∷ xs) x h p = (h.0, all_behind P xs x h.1 p)

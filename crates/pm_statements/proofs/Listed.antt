@@ -1,4 +1,4 @@
--- The lines of statements, one after another.
+-- The lines of statements are appended one after another.
 use Rattle.std.proofs.Common.{◌≡◌, ◌<◌, ◌≤◌, ℕ, suc, Bool, List, [], ◌∷◌, ◌++◌, ◌+◌, ◌-◌, arith, drop, length, refl, sym, ap, ◌∙◌, append_assoc}
 use Rattle.std.specs.Prelude.{codes, min}
 use Rattle.std.proofs.lemmas.List.{append-nil, drop_all}
@@ -27,7 +27,7 @@ lines_step d b ls more ss rest l s before e f =
     append_assoc before (line (at_place d l.place.offset) b l s) (lines d (is_call l) more rest)
     ∙ sym (ap (λ x. before ++ lines d b x ss) e ∙ ap (λ x. before ++ lines d b (l ∷ more) x) f)
 
--- One more part.
+-- If the part of the next item is appended, then the parts of the remaining items complete the list.
 pub parts_step : (k : Known) (used : List ℕ) (exit at next : ℕ) (item : Item ℕ) (items all : List (Item ℕ)) (part : Part) (front more : List Part)
     → all ≡ item ∷ items → part ≡ part_of k item (place_at used exit at) → next ≡ at + size at item → more ≡ front ++ part ∷ []
     → more ++ parts k used exit next items ≡ front ++ parts k used exit at all
@@ -42,14 +42,15 @@ pub parts_done : (k : Known) (used : List ℕ) (exit at : ℕ) (items : List (It
     → front ++ parts k used exit at items ≡ front
 parts_done k used exit at items front e = ap (λ is. front ++ parts k used exit at is) e ∙ append-nil front
 
--- The spaces of the maximum depth, and of lower depths.
+-- If the depth is at least 30, then the indentation is that of depth 30. Otherwise it is two spaces for each level.
 pub all_levels : (depth : ℕ) → 30 ≤ depth → blanks depth ≡ codes "                                                            "
 all_levels depth high = let same : min depth 30 ≡ 30 = omega (arith, high) in ap two_each same
 
 pub few_levels : (depth : ℕ) → depth < 30 → blanks depth ≡ two_each depth
 few_levels depth low = let same : min depth 30 ≡ depth = omega (arith, low) in ap two_each same
 
--- The spaces of eight more levels, of one more level, and after the last level.
+-- If the spaces of eight levels or of one level are appended, then the spaces of the remaining levels complete the
+-- indentation. If no level remains, the indentation is complete.
 pub eight_step : (rest : ℕ) (out new whole : List ℕ) → 8 ≤ rest → new ≡ out ++ two_each 8
     → out ++ two_each rest ≡ whole → new ++ two_each (rest - 8) ≡ whole
 eight_step rest out new whole high n i =

@@ -1,4 +1,4 @@
--- Marked offsets, one after another.
+-- Offsets are marked one after another. `has m p` states whether the set `m` contains the offset `p`.
 use Rattle.std.proofs.Common.{◌≡◌, ◌≤◌, ◌<◌, ℕ, zero, suc, Bool, true, false, List, [], ◌∷◌, ◌++◌, drop, length, map, set, replicate, refl, sym, ap, ◌∙◌, arith}
 use Rattle.std.specs.Prelude.{◌-◌, ◌==◌, ◌||◌, ◌&&◌, nat_le, nat_lt, if◌then◌else◌, slice_index_or}
 use Rattle.std.proofs.lemmas.List.{drop_all, get_or-set_other, get_or-set_same, length-set}
@@ -33,7 +33,7 @@ none_set zero k = refl
 none_set (suc n) zero = refl
 none_set (suc n) (suc k) = none_set n k
 
--- No flag is set, and the list of other offsets is empty.
+-- If no flag of `m` is set and its list of other offsets is empty, then `m` contains no offset.
 pub none_marked : (m : Marks) (n p : ℕ) → m.flags ≡ replicate n false → m.others ≡ [] → has m p ≡ false
 unfolding has
 none_marked m n p e f = by (has_flag m p)
@@ -65,7 +65,7 @@ flag_low m p e = grind (arith, nat_tests, e)
 flag_there : (m : Marks) (p : ℕ) → m.start ≤ p → p - m.start < length m.flags → has_flag m p ≡ true
 flag_there m p low within = grind (arith, nat_tests, low, within)
 
--- An offset with a flag differs from one without.
+-- If `q` has a flag in `m` and `p` has none, then `p` and `q` differ.
 different : (m : Marks) (p q : ℕ) → has_flag m p ≡ false → has_flag m q ≡ true → (p == q) ≡ false
 different m p q e f = by (p == q) refl
   where
@@ -84,7 +84,7 @@ apart m p q e f = by (p == q) refl
         sym e ∙ ap (has_flag m) same ∙ f
     by false g = refl
 
--- The flag of one more offset.
+-- If the flag of `place` is set, then the set contains `place` and the offsets that it contained before.
 pub flag_set : (m : Marks) (place p : ℕ) → m.start ≤ place → place - m.start < length m.flags
     → has (record { start = m.start; flags = set m.flags (place - m.start) true; others = m.others }) p ≡ ((place == p) || has m p)
 unfolding has
@@ -111,7 +111,8 @@ one_behind true false = refl
 one_behind false true = refl
 one_behind false false = refl
 
--- One more offset without a flag.
+-- If `place` has no flag and is added to the list of other offsets, then the set contains `place` and the offsets that
+-- it contained before.
 pub other_added : (m : Marks) (place p : ℕ) → has_flag m place ≡ false
     → has (record { start = m.start; flags = m.flags; others = m.others ++ place ∷ [] }) p ≡ ((place == p) || has m p)
 unfolding has
@@ -125,12 +126,13 @@ other_added m place p none = by (has_flag m p) refl
         sym (ap (λ (x : Bool). x || slice_index_or m.flags (p - m.start) false) other)
     by false e = among_joined m.others (place ∷ []) p ∙ one_behind (is_among m.others p) (place == p)
 
--- One more offset.
+-- If `place` was marked, then marking `places` gives the same set as marking `place ∷ places`.
 pub place_step : (place p : ℕ) (places : List ℕ) (new old : Bool) → new ≡ ((place == p) || old)
     → (new || is_among places p) ≡ (old || is_among (place ∷ places) p)
 place_step place p places new old e = ap (λ b. b || is_among places p) e ∙ or_turned (place == p) old (is_among places p)
 
--- The offsets of one more item.
+-- If the offsets of `item` were marked, then marking those of `items` gives the same set as marking those of `item ∷
+-- items`.
 pub item_step : (item : Item ℕ) (items : List (Item ℕ)) (p : ℕ) (new old : Bool) → new ≡ (old || is_among (item_places item) p)
     → (new || is_among (named_places items) p) ≡ (old || is_among (named_places (item ∷ items)) p)
 item_step item items p new old e =
@@ -143,7 +145,7 @@ pub joined_places : (xs ys : List ℕ) (p : ℕ) (new middle old : Bool) → mid
 joined_places xs ys p new middle old e f =
     f ∙ ap (λ b. b || is_among ys p) e ∙ or_assoc old (is_among xs p) (is_among ys p) ∙ ap (λ b. old || b) (sym (among_joined xs ys p))
 
--- Two groups of offsets are marked one after the other in an empty set.
+-- If the offsets `xs` and then the offsets `ys` are marked in an empty set, then the set contains exactly `xs ++ ys`.
 pub two_marked : (xs ys : List ℕ) (p : ℕ) (none first second : Bool) → none ≡ false → first ≡ (none || is_among xs p)
     → second ≡ (first || is_among ys p) → second ≡ is_among (xs ++ ys) p
 two_marked xs ys p none first second a b c =
@@ -163,7 +165,7 @@ one_place place p new old e = e ∙ by (place == p) old
     by false true = refl
     by false false = refl
 
--- After the last offset, and after the last item.
+-- If no offset or no item remains to be marked, then the set is complete.
 pub places_done : (places : List ℕ) (i p : ℕ) (now whole : Bool) → length places ≤ i → (now || is_among (drop i places) p) ≡ whole → now ≡ whole
 places_done places i p now whole high e =
     sym (or_false now) ∙ sym (ap (λ l. now || is_among l p) (drop_all i places high)) ∙ e

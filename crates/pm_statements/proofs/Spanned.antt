@@ -1,4 +1,4 @@
--- Spans that end.
+-- Spans that end, and the loops and depths of one item after another.
 use Rattle.std.proofs.Common.{◌≡◌, ◌<◌, ◌+◌, ◌-◌, ◌++◌, ◌∷◌, [], ℕ, true, false, List, Option, append_assoc, ap, arith, drop, length, refl, ◌∙◌}
 use Rattle.std.proofs.Common.{replicate, reverse, sym, take}
 use Rattle.std.proofs.lemmas.List.{append-nil, length-reverse}
@@ -10,12 +10,13 @@ pub ended_closes : (at : ℕ) (ends : List ℕ) → has_ended at ends ≡ true �
 ended_closes at [] e = refl
 ended_closes at (end ∷ ends) e = rw e refl
 
--- If the innermost span has ended, there is at least one span.
+-- If the innermost span has ended, then the list of spans is not empty.
 pub some_ended : (at : ℕ) (l : List ℕ) → has_ended at (reverse l) ≡ true → 0 < length l
 some_ended at [] e = absurd (grind (arith, e))
 some_ended at (x ∷ l) e = omega arith
 
--- The list without the innermost span, which is its last item.
+-- If the innermost span, which is the last item of the list, has ended, then removing it does not change which spans
+-- are open at `at`.
 pub ended_before : (at : ℕ) (l : List ℕ) → has_ended at (reverse l) ≡ true
     → open_at at (reverse (take (length l - 1) l)) ≡ open_at at (reverse l)
 ended_before at l e = ap (open_at at) (reverse_without 1 l) ∙ ended_closes at (reverse l) e
@@ -24,7 +25,7 @@ pub none_ended : (at : ℕ) (ends : List ℕ) → has_ended at ends ≡ false �
 none_ended at [] e = refl
 none_ended at (end ∷ ends) e = rw e refl
 
--- The loops of one more item.
+-- If the loop of the next item is recorded, then the loops of the remaining items complete the list.
 pub loops_step : (entries : List ℕ) (start at next : ℕ) (item : Item ℕ) (items all : List (Item ℕ)) (ls new : List ℕ)
     → all ≡ item ∷ items → next ≡ at + size at item → new ≡ with_loop start at next (leads_by_condition entries item) ls
     → loops_from entries start next items new ≡ loops_from entries start at all ls
@@ -39,7 +40,7 @@ pub loops_done : (entries : List ℕ) (start at : ℕ) (items : List (Item ℕ))
 unfolding loops_from
 loops_done entries start at items ls e = ap (λ is. loops_from entries start at is ls) e
 
--- The depths of one more item.
+-- If the depths of the next item are appended, then the depths of the remaining items complete the list.
 pub depths_step : (entries : List ℕ) (ls : Depths) (at next again : ℕ) (forward : Option ℕ) (ends now : List ℕ) (item : Item ℕ)
     (items all : List (Item ℕ)) (before after : List ℕ) (place : Option ℕ) (count depth : ℕ)
     → all ≡ item ∷ items → next ≡ at + size at item → again ≡ at_place ls at → reverse now ≡ opened at forward again ends

@@ -1,4 +1,4 @@
--- Texts without a prefix or a suffix.
+-- Texts from which a prefix or a suffix is removed.
 use Rattle.std.proofs.Common.{◌≡◌, ℕ, Bool, true, false, List, None, length, take, drop, sym, ap, subst, arith, ◌∙◌}
 use Rattle.std.specs.Prelude.{◌-◌, if◌then◌else◌}
 use Rattle.std.specs.Str.{IsCharBoundary}

@@ -1,4 +1,4 @@
--- The labels of statements in blocks: those that their text names.
+-- The labels of statements that are shown in blocks. A statement has a label only if the text names its offset.
 use Rattle.std.specs.Prelude.{ℕ, Bool, List, [], ◌∷◌, ◌++◌, drop}
 use Rattle.pm_code.specs.Item.{Item}
 use Rattle.pm_code.specs.Item.Item.{Case}
@@ -14,7 +14,7 @@ use Rattle.pm_statements.specs.BlockLines.{statements_at}
 
 -- ---- the offsets that a text names
 
--- The offsets that a CASE names.
+-- Returns the offsets that a case jump names. For any other item the list is empty.
 abbrev pub case_places : Item ℕ → List ℕ
 case_places (Case low high otherwise places) = target_places otherwise ++ places
 case_places _ = []
@@ -23,7 +23,8 @@ abbrev pub table_places : List (Item ℕ) → List ℕ
 table_places [] = []
 table_places (item ∷ items) = case_places item ++ table_places items
 
--- The target of a jump that is shown as a plain statement. A keyword of a block names no target.
+-- Returns the target of a jump that is shown as a plain statement. The list is empty for any other keyword, because a
+-- keyword of a block names no target.
 abbrev pub jump_places : Word → Role → List ℕ
 jump_places (word.Plain to) (role.Jump c target) = target_places (placed_target target)
 jump_places _ _ = []
@@ -32,13 +33,14 @@ abbrev pub first_places : Word → List Left → List ℕ
 first_places w [] = []
 first_places w (l ∷ ls) = jump_places w l.role
 
--- The offsets that lines and their statements name, the first one first.
+-- Returns the offsets that the text of lines names, in the order of the lines. The second list has the statements of
+-- these lines.
 unfoldable pub line_places : List Line → List Left → List ℕ
 line_places [] ls = []
 line_places (x ∷ xs) ls = first_places x.word ls ++ line_places xs (drop (statements_at x.word) ls)
 
--- The offsets that a procedure in blocks names: those of each CASE, of its jump table, and of each jump that is shown
--- as a plain statement.
+-- Returns the offsets that the text of the procedure `p` in blocks names. These are the offsets of each case jump, of
+-- its jump table, and of each jump that is shown as a plain statement.
 abbrev pub shown_places : Procedure → List Line → List Left → List ℕ
 shown_places p xs ls = table_places p.items ++ (p.entries ++ line_places xs ls)
 

@@ -23,8 +23,8 @@ without_front front text = if starts_with ◌==◌ text front then drop (length 
 abbrev pub without_tail : List ℕ → List ℕ → List ℕ
 without_tail tail text = if ends_with ◌==◌ text tail then take (length text - length tail) text else text
 
--- The condition under which a jump is not taken. For `IF NOT (c) GOTO L` it is `c`, and for `IF a = b GOTO L` it is
--- `NOT (a = b)`.
+-- Returns the condition under which a jump is not taken, from the text of the jump. For `IF NOT (c) GOTO L` it is `c`.
+-- For `IF a = b GOTO L` it is `NOT (a = b)`.
 unfoldable pub condition_text : Role → List ℕ → List ℕ
 condition_text (role.Jump condition.IfFalse target) text =
     without_tail (codes ") GOTO " ++ target_text (placed_target target)) (without_front (codes "IF NOT (") text)
@@ -48,20 +48,21 @@ word_text word.EndCase l s = codes "END " ++ value_text s 0
 word_text word.Repeat l s = []
 word_text word.End l s = []
 
--- A statement with this keyword.
+-- Returns the line of the statement `l` with the text `s` and the keyword `w`. An I/O check after a call is appended to
+-- the line of the call.
 abbrev pub worded_line : ℕ → Bool → Word → Left → Shown → List ℕ
 worded_line depth behind_call w l s =
     if behind_call && is_check l
     then 32 ∷ value_text s 0
     else front l.place ++ (blanks depth ++ word_text w l s)
 
--- The first of some statements, if there is one.
+-- Returns the line of the first statement of a list, or no text if the list is empty.
 abbrev pub first_line : ℕ → Bool → Word → List Left → List Shown → List ℕ
 first_line depth behind_call w [] ss = []
 first_line depth behind_call w (l ∷ ls) [] = []
 first_line depth behind_call w (l ∷ ls) (s ∷ ss) = worded_line depth behind_call w l s
 
--- A line without a statement. It has spaces instead of an offset.
+-- Returns the text of a line that has a keyword but no statement. The line has spaces instead of an offset.
 abbrev pub extra_text : Word → List ℕ
 extra_text word.Repeat = codes "REPEAT"
 extra_text word.End = codes "END"
@@ -74,7 +75,7 @@ abbrev pub block_line : ℕ → Bool → Word → List Left → List Shown → L
 block_line depth behind_call w ls ss =
     if is_extra w then extra_line depth w else first_line depth behind_call w ls ss
 
--- Whether a line is a call.
+-- Is true if the first statement of a list is a call.
 abbrev pub first_calls : List Left → Bool
 first_calls [] = false
 first_calls (l ∷ ls) = is_call l
@@ -82,12 +83,12 @@ first_calls (l ∷ ls) = is_call l
 abbrev pub calls_at : Word → List Left → Bool
 calls_at w ls = if is_extra w then false else first_calls ls
 
--- The number of statements of a line.
+-- Returns the number of statements of a line with the keyword `w`: 0 or 1.
 abbrev pub statements_at : Word → ℕ
 statements_at w = if is_extra w then 0 else 1
 
--- Lines and their statements, the first one first. `depth` is the number of open blocks. `behind_call` states whether a
--- call precedes the lines.
+-- Returns the text of lines with their statements, in this order. `depth` is the number of open blocks. `behind_call`
+-- is true if a call precedes the first line.
 unfoldable pub block_lines : ℕ → Bool → List Line → List Left → List Shown → List ℕ
 block_lines depth behind_call [] ls ss = []
 block_lines depth behind_call (x ∷ xs) ls ss =

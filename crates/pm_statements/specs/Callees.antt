@@ -1,4 +1,4 @@
--- The sizes of the parameters and results of procedures.
+-- The sizes of the parameters and of the result of a procedure, in words.
 use Rattle.std.specs.Prelude.{ℕ, ◌/◌, Bool, List, [], ◌∷◌, ◌==◌, ◌||◌, nat_le, if◌then◌else◌, Option, Some, None}
 use Rattle.std.specs.Map.{lookup}
 use Rattle.pm_families.specs.declared.families.Return.TheVariants as return
@@ -15,8 +15,8 @@ use Rattle.pm_trees.specs.declared.part.Callee.{Callee}
 abbrev pub sized : ℕ → ℕ → Callee
 sized parameters results = record { parameters = parameters; results = results }
 
--- The procedures of the operating system that a program calls, by number. A file is one word, and so is the address of
--- a string. A function has two parameter words for its result, and leaves one word.
+-- The numbers and sizes of the procedures of the operating system that a program calls. A parameter that is a file, or
+-- the address of a string, has one word. A function has two parameter words for its result, and leaves one word.
 unfoldable pub system_callees : List (ℕ × Callee)
 system_callees =
     (3, sized 3 0) ∷
@@ -59,7 +59,7 @@ operation_returns (operation.Return (return.Normal n)) = Some n
 operation_returns (operation.Return (return.Base n)) = Some n
 operation_returns _ = None
 
--- The opcodes of RNP and RBP. No other opcode is a return.
+-- Is true if `op` is the opcode of RNP or RBP. No other opcode is a return.
 abbrev pub is_return_opcode : ℕ → Bool
 is_return_opcode op = (op == 173) || (op == 193)
 
@@ -84,6 +84,7 @@ abbrev pub callee_by : ℕ → Returns → Option Callee
 callee_by words (returns.Of n) = if nat_le words 255 then Some (sized words n) else None
 callee_by words _ = None
 
--- The sizes of a procedure: the words of its parameters, and the number of words that each of its returns leaves.
+-- Returns the sizes of the procedure `p`: the words of its parameters, and the number of words that each of its returns
+-- leaves. Returns None if the returns leave different numbers of words.
 abbrev pub callee_of : Procedure → Option Callee
 callee_of p = callee_by (p.parameters / 2) (returns_from no_return p.items)

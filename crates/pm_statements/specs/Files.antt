@@ -25,156 +25,161 @@ use Rattle.pm_statements.specs.declared.sized.SizedSegment.{SizedSegment}
 
 -- ---- the sizes of a file's procedures
 
--- The sizes for an attribute table, unless the exit code is before the code.
+-- Returns the sizes of the procedure of the attribute table `a`. Returns None if the exit code is before the code.
 unfoldable pub table_callee : List ℕ → Attributes → Option Callee
 table_callee segment a = if nat_le a.enter a.exit then callee_of (procedure_of segment a) else None
 
--- The sizes of a procedure of a segment, if it has an attribute table.
+-- Returns the sizes of the procedure of an attribute table, or None if the number has no attribute table.
 abbrev pub callee_in : List ℕ → Option Attributes → Option Callee
 callee_in segment None = None
 callee_in segment (Some a) = table_callee segment a
 
--- The sizes for `count` procedure numbers of a segment, from `n` on.
+-- Returns the sizes for `count` procedure numbers of `segment`, from number `n` on.
 abbrev pub callees_from : List ℕ → ℕ → ℕ → List (Option Callee)
 callees_from segment n zero = []
 callees_from segment n (suc count) = callee_in segment (attributes_in segment n) ∷ callees_from segment (n + 1) count
 
--- The sizes of `count` procedures of the operating system, from `n` on.
+-- Returns the sizes for `count` procedures of the operating system, from number `n` on.
 abbrev pub system_from : ℕ → ℕ → List (Option Callee)
 system_from n zero = []
 system_from n (suc count) = system_callee n ∷ system_from (n + 1) count
 
--- The sizes for the 256 numbers of a slot: those of its segment. If slot 0 has no segment, they are those of the
--- operating system.
+-- Returns the sizes for the 256 procedure numbers of slot `n`, from its segment. If slot 0 has no segment, the sizes
+-- are those of the operating system.
 abbrev pub slot_callees : ℕ → Option (List ℕ) → List (Option Callee)
 slot_callees n (Some segment) = None ∷ callees_from segment 1 255
 slot_callees n None = if n == 0 then None ∷ system_from 1 255 else None ∷ callees_from [] 1 255
 
--- The sizes for `count` slots, from slot `n` on.
+-- Returns the sizes for `count` slots of `file`, from slot `n` on.
 abbrev pub slots_callees : List ℕ → ℕ → ℕ → List (Option Callee)
 slots_callees file n zero = []
 slots_callees file n (suc count) = slot_callees n (segment_in file n) ++ slots_callees file (n + 1) count
 
--- The sizes of a file's procedures: 256 entries for each slot, by procedure number.
+-- Returns the sizes of all procedures of `file`: 256 elements for each slot, by procedure number.
 unfoldable pub file_callees : List ℕ → List (Option Callee)
 file_callees file = slots_callees file 0 16
 
--- What the returns of a procedure leave.
+-- Returns how many words the returns of the procedure `p` leave.
 abbrev pub returns_in : Procedure → Returns
 returns_in p = returns_from no_return p.items
 
--- The cached procedure of an attribute table, if there is one, is that of the segment. Its `returns` are correct.
+-- If `s` caches a procedure, it is the procedure that its attribute table has in `segment`, and `returns` of `s` is
+-- correct for it.
 abbrev pub IsKept : List ℕ → SizedTable → Type 0
 IsKept segment s = IfSome s.procedure (λ p. (procedure_seen p ≡ procedure_of segment s.table)
     × (s.returns ≡ returns_in (procedure_seen p)))
 
--- The number of items of a procedure, or 0 if there is none.
+-- Returns the number of items of a procedure, or 0 for None.
 abbrev pub count_of : Option declared.Procedure → ℕ
 count_of None = 0
 count_of (Some p) = length p.items.items
 
--- The number of items of a cached procedure, or 0 if none is cached.
+-- Returns the number of items of the procedure that `s` caches, or 0 if no procedure is cached.
 abbrev pub items_kept : SizedTable → ℕ
 items_kept s = count_of s.procedure
 
--- The sizes for an attribute table are those in this segment, and the cached procedure is correct.
+-- The sizes of `s` are those of its attribute table in `segment`, and its cached procedure is correct.
 abbrev pub IsSizedTable : List ℕ → SizedTable → Type 0
 IsSizedTable segment s = (s.callee ≡ table_callee segment s.table) × IsKept segment s
 
--- The sizes for the 256 procedure numbers of a segment. Number 0 has none.
+-- Returns the sizes for the 256 procedure numbers of `segment`. Number 0 has no procedure.
 abbrev pub segment_callees : List ℕ → List (Option Callee)
 segment_callees segment = None ∷ callees_from segment 1 255
 
--- The sizes and the attribute tables are those of the segment.
+-- The sizes and the attribute tables of `s` are correct for the bytes of its segment.
 pub record IsSizedSegment (s : SizedSegment) : Type 0 where
   pub callees : s.callees.items ≡ segment_callees s.segment.now
   pub tables : AllByRecursion (IsSizedTable s.segment.now) s.tables.items
 
--- Whether one of the segments has these bytes.
+-- Is true if one of `segments` has these bytes.
 abbrev pub is_sized : List SizedSegment → List ℕ → Bool
 is_sized segments bytes = list_any (λ s. bytes_eq s.segment.now bytes) segments
 
 -- ---- the text
 
--- The beginning of a procedure's first line: its number and its slot.
+-- Returns the beginning of the first line of a procedure: its number and its slot.
 abbrev pub named : ℕ → ℕ → List ℕ
 named number slot = codes "PROCEDURE " ++ (decimal number ++ (codes " OF SEGMENT " ++ decimal slot))
 
--- The size of the result in bytes, if all returns leave the same number of words.
+-- Returns the size of the result in bytes. The text is empty unless all returns leave the same number of words.
 abbrev pub result_text : Returns → List ℕ
 result_text (returns.Of n) = codes ", " ++ (decimal (2 * n) ++ codes " of result")
 result_text _ = []
 
--- A procedure's first line, with its level and the sizes of its parameters, locals and result in bytes.
+-- Returns the first line of a procedure: its number and slot, its level, and the sizes of its parameters, locals and
+-- result in bytes.
 abbrev pub header : ℕ → Attributes → Returns → List ℕ
 header slot a r = named a.procedure slot ++ (codes ": level " ++ (signed_decimal a.level
     ++ (codes ", " ++ (decimal a.parameters ++ (codes " bytes of parameters, " ++ (decimal a.locals
     ++ (codes " of locals" ++ result_text r)))))))
 
--- A line for each entry of the jump table, from entry `k` on: `^`, its number, and the label of its target.
+-- Returns a line for each entry of a jump table, from entry `k` on. A line has `^`, the number of the entry, and the
+-- label of its target.
 abbrev pub entry_lines : ℕ → List ℕ → List ℕ
 entry_lines k [] = []
 entry_lines k (place ∷ places) =
     (10 ∷ 94 ∷ (decimal k ++ (32 ∷ label_text place))) ++ entry_lines (k + 1) places
 
--- A procedure with code: its first line, followed by those of its jump table and of its statements.
+-- Returns the text of a procedure with code: its first line, the lines of its jump table, and its statements.
 abbrev pub code_text : Known → Attributes → Procedure → List ℕ
 code_text k a p =
     ((header k.segment a (returns_in p) ++ entry_lines 0 p.entries) ++ procedure_statements k p) ++ 10 ∷ []
 
--- The procedure of an attribute table. If its exit code is before its code, it has no code.
+-- Returns the text of the procedure of the attribute table `a`. If the exit code is before the code, the text is one
+-- line that says so.
 unfoldable pub table_text : Known → List ℕ → Attributes → List ℕ
 table_text k segment a = if nat_le a.enter a.exit
     then code_text k a (procedure_of segment a)
     else named a.procedure k.segment ++ (codes ": no code" ++ 10 ∷ [])
 
--- The line of a number whose attribute table was already shown. The line refers to the number in that table.
+-- Returns the line for a procedure number whose attribute table `a` was already shown. The line names the number that
+-- is in that table.
 abbrev pub repeated_text : ℕ → ℕ → Attributes → List ℕ
 repeated_text number slot a =
     named number slot ++ (codes ": shown above as PROCEDURE " ++ (decimal a.procedure ++ 10 ∷ []))
 
--- The text for procedure number `p`. `shown` contains the offsets of the attribute tables that were shown. If the
--- number has no table, or its table was shown, the text is one line.
+-- Returns the text for procedure number `p`. `shown` has the offsets of the attribute tables that were already shown.
+-- The text is one line if the number has no table, or if `shown` contains its table.
 abbrev pub numbered_text : Known → List ℕ → List ℕ → ℕ → Option Attributes → List ℕ
 numbered_text k segment shown p None = named p k.segment ++ (codes ": no table" ++ 10 ∷ [])
 numbered_text k segment shown p (Some a) =
     if is_among shown a.jtab then repeated_text p k.segment a else table_text k segment a
 
--- The offsets of the attribute tables that were shown, after one more procedure.
+-- Returns the offsets of the attribute tables that were shown, after one more procedure number was shown.
 abbrev pub with_table : List ℕ → Option Attributes → List ℕ
 with_table shown None = shown
 with_table shown (Some a) = if is_among shown a.jtab then shown else shown ++ a.jtab ∷ []
 
--- The text for `count` procedure numbers of a segment, from `p` on. Each attribute table is shown once.
+-- Returns the text for `count` procedure numbers of `segment`, from number `p` on. Each attribute table is shown once.
 abbrev pub tables_text : Known → List ℕ → List ℕ → ℕ → ℕ → List ℕ
 tables_text k segment shown p zero = []
 tables_text k segment shown p (suc count) = numbered_text k segment shown p (attributes_in segment p)
     ++ tables_text k segment (with_table shown (attributes_in segment p)) (p + 1) count
 
--- The segment of a slot, if it has one.
+-- Returns the text of the segment in slot `n`, or no text if the slot has no segment.
 abbrev pub slot_text : List (Option Callee) → Layout → ℕ → Option (List ℕ) → List ℕ
 slot_text callees layout n None = []
 slot_text callees layout n (Some segment) = tables_text
     (record { segment = n; callees = callees; layout = layout }) segment [] 1 (procedures_in segment)
 
--- The text for `count` slots, from slot `n` on.
+-- Returns the text for `count` slots of `file`, from slot `n` on.
 abbrev pub slots_text : List (Option Callee) → Layout → List ℕ → ℕ → ℕ → List ℕ
 slots_text callees layout file n zero = []
 slots_text callees layout file n (suc count) =
     slot_text callees layout n (segment_in file n) ++ slots_text callees layout file (n + 1) count
 
--- The text of a code file: its segments in ascending order of their slots.
+-- Returns the text of the code file `file`: its segments in ascending order of their slots.
 unfoldable pub file_text : Layout → List ℕ → List ℕ
 file_text layout file = slots_text (file_callees file) layout file 0 16
 
--- The text of a code file as statements.
+-- Returns the text of the code file `file` as statements without indentation.
 abbrev pub file_statements : List ℕ → List ℕ
 file_statements file = file_text layouts.Flat file
 
--- The same, with each statement indented by its depth.
+-- Returns the text of the code file `file` as statements, each indented by its depth.
 abbrev pub indented_statements : List ℕ → List ℕ
 indented_statements file = file_text layouts.Indented file
 
--- The same in blocks.
+-- Returns the text of the code file `file` as statements in blocks.
 abbrev pub block_statements : List ℕ → List ℕ
 block_statements file = file_text layouts.Blocks file

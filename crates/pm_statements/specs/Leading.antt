@@ -1,4 +1,4 @@
--- The jumps of statements.
+-- The targets of the jumps that statements contain.
 use Rattle.std.specs.Prelude.{ℕ, ◌-◌, Bool, false, ◌==◌, nat_le, if◌then◌else◌, List, [], ◌∷◌, slice_get}
 use Rattle.std.specs.Prelude.{Option, Some, None}
 use Rattle.pm_trees.specs.declared.statement.Leads.{Leads}
@@ -15,17 +15,17 @@ use Rattle.pm_trees.specs.declared.left.Left.{Left}
 use Rattle.pm_trees.specs.declared.left.Role.{Role}
 use Rattle.pm_trees.specs.declared.left.Role.TheVariants as role
 
--- The offset of a target, if the jump table has its entry.
+-- Returns the offset of a target. Returns None if the jump table `entries` lacks the entry that the target uses.
 abbrev pub place_in : List ℕ → Target ℕ → Option ℕ
 place_in entries (targets.To place) = Some place
 place_in entries (targets.Through k) = slice_get entries k
 
--- An offset relative to the start of the code, if it is not before the start.
+-- Returns an offset as a number of bytes from `start`, or None if the offset is before `start`.
 abbrev pub from_start : ℕ → Option ℕ → Option ℕ
 from_start start None = None
 from_start start (Some place) = if nat_le start place then Some (place - start) else None
 
--- Whether a text is that of a statement, and no line of the disassembly in braces.
+-- Is true if a text of this form is a statement. The other texts are lines of the disassembly in braces.
 abbrev pub is_sentence : Form → Bool
 is_sentence (form.Value strength) = strength == 0
 is_sentence _ = false
@@ -43,12 +43,13 @@ leads_by start entries (role.Jump c target) f = leads_to c f (from_start start (
 leads_by start entries role.Case f = leads_by_value f
 leads_by start entries _ f = leads.Nowhere
 
--- The offset of the next statement, or the end of the code if there is none.
+-- Returns the offset of the first statement of a list, or `end` if the list is empty.
 abbrev pub next_place : ℕ → List Left → ℕ
 next_place end [] = end
 next_place end (l ∷ ls) = l.place.offset
 
--- The code range of a statement up to `behind`. Its offsets are relative to the start of the code.
+-- Returns the code range of the statement `l`, which ends at `behind`, and where the statement leads. The offsets of
+-- the result are counted from the start of the code.
 abbrev pub stretch : ℕ → List ℕ → ℕ → Left → Shown → Statement
 stretch start entries behind l s = record {
   at = l.place.offset - start;
@@ -56,7 +57,8 @@ stretch start entries behind l s = record {
   leads = leads_by start entries l.role s.form;
 }
 
--- The code ranges of statements, the first one first. `start` and `end` are the offsets of the code.
+-- Returns the code ranges of statements, in their order. `start` and `end` are the offsets at which the code starts and
+-- ends.
 unfoldable pub stretches : ℕ → List ℕ → ℕ → List Left → List Shown → List Statement
 stretches start entries end [] ss = []
 stretches start entries end (l ∷ ls) [] = []

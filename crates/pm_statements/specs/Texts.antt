@@ -1,4 +1,4 @@
--- The text of statements.
+-- The text of statements without blocks.
 use Rattle.std.specs.Prelude.{ℕ, zero, suc, min, Bool, true, false, not, List, [], ◌∷◌, ◌++◌, reverse}
 use Rattle.std.specs.Prelude.{◌&&◌, if◌then◌else◌, codes}
 use Rattle.pm_code.specs.Shown.{label_text, padded}
@@ -15,17 +15,17 @@ use Rattle.pm_trees.specs.Trees.{leaves_nothing}
 
 -- ---- lines
 
--- The prefix of a statement that leaves something.
+-- Returns the prefix `PUSH ` for a statement that leaves words on the stack, and no text for any other statement.
 abbrev pub push_text : Leaves → List ℕ
 push_text l = if leaves_nothing l then [] else codes "PUSH "
 
--- The lines of a label and of the exit code.
+-- Returns a line with a label if the place has a label, and a line `EXIT:` if the exit code begins there.
 abbrev pub place_lines : Place → List ℕ
 place_lines p =
     (if p.has_label then 10 ∷ label_text p.offset ++ codes ":" else [])
     ++ (if p.is_exit then 10 ∷ codes "EXIT:" else [])
 
--- These lines, followed by a line feed, the offset, and a space.
+-- Returns the lines for the place `p`, followed by a line feed, its offset, and a space.
 abbrev pub front : Place → List ℕ
 front p = place_lines p ++ (10 ∷ padded 5 p.offset ++ 32 ∷ [])
 
@@ -37,19 +37,19 @@ abbrev pub has_check_role : Role → Bool
 has_check_role role.Check = true
 has_check_role _ = false
 
--- A call that leaves nothing.
+-- Is true if the statement `l` is a call that leaves nothing on the stack.
 abbrev pub is_call : Left → Bool
 is_call l = leaves_nothing l.leaves && has_call_role l.role
 
--- An I/O check that has no label and does not begin the exit code.
+-- Is true if the statement `l` is an I/O check that has no label and does not begin the exit code.
 abbrev pub is_check : Left → Bool
 is_check l = not (is_reached l.place) && has_check_role l.role
 
--- The maximum depth that is shown by spaces.
+-- The maximum depth that is shown. A greater depth is shown like this depth.
 abbrev pub deepest : ℕ
 deepest = 30
 
--- Two spaces for each level.
+-- Returns two spaces for each level.
 abbrev pub two_each : ℕ → List ℕ
 two_each zero = []
 two_each (suc n) = 32 ∷ 32 ∷ two_each n
@@ -57,15 +57,15 @@ two_each (suc n) = 32 ∷ 32 ∷ two_each n
 abbrev pub blanks : ℕ → List ℕ
 blanks depth = two_each (min depth deepest)
 
--- A statement on its own line, after a line feed: its offset, its indentation, and its phrase. An I/O check after a
--- call is on the line of the call.
+-- Returns the line of the statement `l` with the text `s`, after a line feed: its offset, its indentation, and its
+-- text. An I/O check after a call is appended to the line of the call.
 abbrev pub line : ℕ → Bool → Left → Shown → List ℕ
 line depth behind_call l s =
     if behind_call && is_check l
     then 32 ∷ value_text s 0
     else front l.place ++ (blanks depth ++ (push_text l.leaves ++ value_text s 0))
 
--- Statements, the first one first. `behind_call` states whether a call precedes them.
+-- Returns the text of statements, in their order. `behind_call` is true if a call precedes the first statement.
 unfoldable pub lines : Depths → Bool → List Left → List Shown → List ℕ
 lines d behind_call [] ss = []
 lines d behind_call (l ∷ ls) [] = []

@@ -1,4 +1,4 @@
--- Computed statements that were worked out by hand.
+-- Examples of statements whose results were worked out by hand.
 use Rattle.std.specs.Prelude.{◌≡◌, ℕ, true, false, List, [], ◌∷◌, map, Some, None}
 use Rattle.pm_code.specs.Item.{Item}
 use Rattle.pm_code.specs.Item.Item.{Plain, Jump, Case}
@@ -22,14 +22,14 @@ use Rattle.pm_statements.specs.Depths.{at_place}
 use Rattle.pm_statements.specs.Bodies.{depths_if}
 use Rattle.pm_trees.specs.Trees.{lefts_of, statements}
 
--- An instruction without an operand, and one with a byte.
+-- Items with one instruction: `plain` has no operand, and `with_byte` has one byte as its operand.
 abbrev pub plain : ℕ → Item ℕ
 plain op = Plain (record { op = op; a = 0; b = 0; c = 0; long = false; start = 0; count = 0; len = 0 }) []
 
 abbrev pub with_byte : ℕ → ℕ → Item ℕ
 with_byte op a = Plain (record { op = op; a = a; b = 0; c = 0; long = false; start = 0; count = 0; len = 0 }) []
 
--- SLDL 1, 2 and 3, and SBI. SLDC n is opcode n.
+-- The instructions SLDL 1, SLDL 2, SLDL 3 and SBI. The instruction SLDC n has opcode n.
 abbrev pub sldl1 : Item ℕ
 sldl1 = plain 216
 
@@ -42,8 +42,8 @@ sldl3 = plain 218
 abbrev pub sbi : Item ℕ
 sbi = plain 149
 
--- Procedure 2 of the towers of Hanoi. Variable 3 is the number of disks, 2 is the source, and 1 is the destination.
--- GRTI is 197, FJP 161, CGP 207, CLP 206, RNP 173, NOP 215.
+-- Procedure 2 of the program of the towers of Hanoi. Variable 3 is the number of disks, variable 2 is the source, and
+-- variable 1 is the destination. The opcodes are GRTI 197, FJP 161, CGP 207, CLP 206, RNP 173 and NOP 215.
 abbrev pub hanoi : Procedure
 hanoi = record {
   level = 1;
@@ -62,7 +62,7 @@ hanoi = record {
   entries = [];
 }
 
--- Procedures 1 to 3 of segment 0.
+-- What is known about procedures 1 to 3 of segment 0 of this program.
 abbrev pub hanoi_known : Known
 hanoi_known = record {
   segment = 0;
@@ -73,9 +73,9 @@ hanoi_known = record {
 abbrev pub hanoi_lefts : List Left
 hanoi_lefts = lefts_of (statements (procedure_parts hanoi_known hanoi))
 
--- IF and ELSE from 0 to 11, WHILE from 11 to 19 by entry 0, and REPEAT from 19 to 25 by entry 1. The jump at 26 leads
--- to 35. The jump at 29 leads to 38, out of the block of the jump at 26. FJP is 161, UJP 185, SRO 171, SLDO 1 and 2 are
--- 232 and 233.
+-- Code with IF and ELSE from 0 to 11, WHILE from 11 to 19 (by jump table entry 0), and REPEAT from 19 to 25 (by entry
+-- 1). The jump at 26 leads to 35. The jump at 29 leads to 38, out of the block of the jump at 26. The opcodes are FJP
+-- 161, UJP 185, SRO 171, SLDO 1 232 and SLDO 2 233.
 abbrev pub sro : Item ℕ
 sro = with_byte 171 1
 
@@ -104,7 +104,7 @@ nested = record {
 abbrev pub nested_depth : ℕ → ℕ
 nested_depth at = at_place (depths_if true nested) at
 
--- A jump table, a CASE, a choice whose jump leads to 5, and a jump to 9 in the choice.
+-- Code with a jump table, a case jump, a choice whose jump leads to 5, and a jump to 9 inside the choice.
 abbrev pub tabled : Procedure
 tabled = record {
   level = 0;
@@ -127,8 +127,8 @@ left_with r = record {
   role = r;
 }
 
--- Six statements, the last one first: `IF NOT ..` at 18, a call with three operands at 23, `CLP 3`, another call, RNP
--- with a label at the exit code, and NOP. The depths are those of the indented text.
+-- The results for six statements, the last one first: NOP, RNP with a label at the exit code, a call, `CLP 3`, a call
+-- with three operands at 23, and `IF NOT ..` at 18. The depths are those of the indented text.
 pub record WorkedStatements : Type 0 where
   pub offsets : map (λ (l : Left). l.place.offset) hanoi_lefts ≡ 49 ∷ 47 ∷ 36 ∷ 34 ∷ 23 ∷ 18 ∷ []
   pub labels : map (λ (l : Left). l.place.has_label) hanoi_lefts ≡ false ∷ true ∷ false ∷ false ∷ false ∷ false ∷ []

@@ -1,4 +1,4 @@
-//! The labels of statements in blocks.
+//! The labels of statements that are shown in blocks. A statement has a label only if the text names its offset.
 
 ghost use Rattle.std.specs.Prelude.{◌≡◌, ◌||◌, ℕ, map, IfOk, OnOk};
 ghost use Rattle.pm_code.specs.Program.{is_among};
@@ -12,7 +12,7 @@ use pm_code::{Item, Procedure};
 use pm_trees::{Left, Line, Place, Role, Word};
 use std::alloc::{AllocError, Global};
 
-/// Marks the offsets that an item names if it is a case jump.
+/// If `item` is a case jump, marks the offsets that `item` names.
 #[tactic(auto, using(crate::proofs::Marked::or_false))]
 fn mark_case(marks: &mut Marks, item: &Item<usize>) -> Result<(), AllocError>
     ensures has { OnOk result ((p : ℕ) → has marks.new p
@@ -24,7 +24,7 @@ fn mark_case(marks: &mut Marks, item: &Item<usize>) -> Result<(), AllocError>
     }
 }
 
-/// Marks the offsets that the case jumps among items name.
+/// Marks the offsets that the case jumps in `items` name.
 #[tactic(auto, using(crate::proofs::BlockLabelled::tables_done))]
 fn mark_tables(marks: &mut Marks, items: &[Item<usize>]) -> Result<(), AllocError>
     ensures has { OnOk result ((p : ℕ) → has marks.new p
@@ -36,7 +36,8 @@ fn mark_tables(marks: &mut Marks, items: &[Item<usize>]) -> Result<(), AllocErro
     Ok(())
 }
 
-/// Marks the target of the first statement, if there is one and its keyword does not imply the target.
+/// If the first statement of `lefts` is a jump and `word` is `Plain`, marks the target of this jump. With any other
+/// keyword the text does not name the target.
 #[tactic(auto, using(crate::proofs::Marked::or_false))]
 fn mark_first(marks: &mut Marks, word: Word, lefts: &[Left]) -> Result<(), AllocError>
     ensures has { OnOk result ((p : ℕ) → has marks.new p
@@ -51,7 +52,7 @@ fn mark_first(marks: &mut Marks, word: Word, lefts: &[Left]) -> Result<(), Alloc
     }
 }
 
-/// Marks the targets that lines name. `lefts` are the statements of the lines.
+/// Marks the targets that the text of `lines` names. `lefts` has the statements of these lines, in the same order.
 #[tactic(auto, using(crate::proofs::BlockLabelled::lines_done))]
 fn mark_lines(marks: &mut Marks, lines: &[Line], lefts: &[Left]) -> Result<(), AllocError>
     ensures has { OnOk result ((p : ℕ) → has marks.new p
@@ -65,8 +66,8 @@ fn mark_lines(marks: &mut Marks, lines: &[Line], lefts: &[Left]) -> Result<(), A
     Ok(())
 }
 
-/// Returns the offsets that the text of a procedure in blocks names. There is a flag for each offset from the start to
-/// `end`.
+/// Returns the set of offsets that the text of a procedure in blocks names. The set has a flag for each offset from the
+/// start of the procedure to `end`.
 #[tactic(auto, using(crate::proofs::Marked::three_marked))]
 pub(crate) fn shown_labels(
     alloc: Global,
@@ -85,7 +86,7 @@ pub(crate) fn shown_labels(
     Ok(marks)
 }
 
-/// Returns a statement that has a label if its offset is marked.
+/// Returns the statement `left` with a label if its offset is in `marks`, and without a label otherwise.
 pub(crate) fn relabelled(marks: &Marks, left: &Left) -> Left
     ensures left { result ≡ labels.relabelled (has marks.now) left.now }
 {

@@ -1,4 +1,6 @@
-//! Statements in blocks as lines.
+//! Writes statements in blocks as lines.
+//!
+//! In this file, `left` is the summary of a statement, `phrase` is its text, and `scratch` is a buffer.
 
 ghost use Rattle.std.specs.Prelude.{◌≡◌, ◌++◌, drop, false, map, string_bytes, OnOk};
 ghost use Rattle.pm_statements.specs.BlockLabels as labels;
@@ -14,7 +16,8 @@ use pm_phrases::{Phrase, push_value};
 use pm_trees::{Left, Line, Role, Word};
 use std::alloc::{AllocError, Global};
 
-/// Appends the condition of a statement between the texts `front` and `tail`.
+/// Appends to `out` the condition of a statement, with the text `front` before it and the text `tail` after it. The
+/// condition is computed from `role` and `phrase`.
 fn push_between(
     scratch: &mut String,
     out: &mut String,
@@ -37,7 +40,7 @@ fn push_between(
     out.push_str(tail)
 }
 
-/// Appends a statement with this keyword, without its offset.
+/// Appends a statement with the keyword `word` to `out`, without the offset of the statement.
 #[tactic(auto, unfolding(crate::specs::BlockLines::word_text))]
 fn push_word(
     scratch: &mut String,
@@ -67,8 +70,8 @@ fn push_word(
     Ok(())
 }
 
-/// Appends a statement with this keyword, after a line feed. An I/O check after a call is appended to the line of the
-/// call.
+/// Appends a statement with the keyword `word` to `out`, on a new line that is indented by `depth`. If the statement is
+/// an I/O check and `behind_call` is true, it is appended to the line of the call before it.
 fn push_worded(
     scratch: &mut String,
     out: &mut String,
@@ -89,7 +92,8 @@ fn push_worded(
     push_word(scratch, out, word, left, phrase)
 }
 
-/// Appends the first of some statements, if there is one. It has a label if its offset is marked.
+/// Appends the first statement of the list, if the list is not empty. The statement has a label if its offset is in
+/// `marks`.
 fn push_first(
     scratch: &mut String,
     out: &mut String,
@@ -113,7 +117,7 @@ fn push_first(
     push_worded(scratch, out, depth, behind_call, word, &shown, phrase)
 }
 
-/// Returns the text of a line without a statement.
+/// Returns the text of a line that has the keyword `word` but no statement.
 fn extra_text(word: Word) -> &'static str
     ensures text { result.now ≡ texts.extra_text word }
 {
@@ -124,8 +128,8 @@ fn extra_text(word: Word) -> &'static str
     }
 }
 
-/// Appends a line without a statement, or the line of the first statement. The statement has a label if its offset is
-/// marked.
+/// Appends a line with the keyword `word`. If such a line has a statement, the line is that of the first statement of
+/// the list. The statement has a label if its offset is in `marks`.
 fn push_block_line(
     scratch: &mut String,
     out: &mut String,
@@ -157,7 +161,8 @@ fn push_block_line(
     )
 }
 
-/// Whether a line is a call.
+/// Returns whether a line with the keyword `word` is a call. The first statement of `lefts` is the statement of the
+/// line.
 fn calls_at(word: Word, lefts: &[Left]) -> bool
     ensures value { result ≡ texts.calls_at word lefts.now }
 {
@@ -167,7 +172,8 @@ fn calls_at(word: Word, lefts: &[Left]) -> bool
     }
 }
 
-/// Returns a list without its first item if a line with this keyword has a statement. Otherwise it returns the list.
+/// Returns `list` without its first item if a line with the keyword `word` has a statement. Otherwise returns the whole
+/// `list`.
 pub(crate) fn behind_word<T>(word: Word, list: &[T]) -> &[T]
     ensures rest { result.now ≡ drop (texts.statements_at word) list.now }
 {
@@ -178,7 +184,7 @@ pub(crate) fn behind_word<T>(word: Word, list: &[T]) -> &[T]
     }
 }
 
-/// Appends lines and their statements. A statement has a label if its offset is marked.
+/// Appends `lines` with their statements to `out`. A statement has a label if its offset is in `marks`.
 pub(crate) fn push_block_lines(
     alloc: Global,
     out: &mut String,

@@ -1,4 +1,4 @@
-//! The sizes of the parameters and results of procedures.
+//! The sizes of the parameters and of the result of a procedure, in words.
 
 ghost use Rattle.std.specs.Prelude.{◌≡◌, map};
 ghost use Rattle.pm_code.specs.Views.{placed_item, procedure_seen};
@@ -9,13 +9,13 @@ use pm_families::Return;
 use pm_opcode::Operation;
 use pm_trees::Callee;
 
-/// The opcode of a return from a procedure.
+/// The opcode of RNP, the return from a procedure that is not a base procedure.
 const RNP: u8 = 173;
 
-/// The opcode of a return from a base procedure.
+/// The opcode of RBP, the return from a base procedure.
 const RBP: u8 = 193;
 
-/// Returns a procedure with these sizes, in words.
+/// Returns a `Callee` with these numbers of words for the parameters and the result.
 fn sized(parameters: u8, results: u8) -> Callee
     ensures sized { result ≡ callees.sized parameters results }
 {
@@ -25,8 +25,8 @@ fn sized(parameters: u8, results: u8) -> Callee
     }
 }
 
-/// Returns a procedure of the operating system by its number in segment 0. Returns `None` for procedures that programs
-/// do not call, and for those on real numbers.
+/// Returns the sizes of procedure `number` of the operating system, which is in segment 0. Returns None for procedures
+/// that programs do not call, and for procedures on real numbers.
 #[tactic(auto, unfolding(crate::specs::Callees::system_callee, crate::specs::Callees::system_callees))]
 pub fn system_callee(number: u8) -> Option<Callee>
     ensures callee { result ≡ callees.system_callee number }
@@ -43,18 +43,18 @@ pub fn system_callee(number: u8) -> Option<Callee>
     }
 }
 
-/// What the returns of a procedure leave on the stack.
+/// The number of words that the returns of a procedure leave on the stack.
 #[derive(Clone, Copy)]
 pub enum Returns {
-    /// There is no return.
+    /// The procedure has no return instruction.
     NoReturn,
-    /// Each return leaves this number of words.
+    /// Each return leaves this number of words on the stack.
     Of(u8),
-    /// Two returns leave different numbers of words.
+    /// At least two returns leave different numbers of words.
     Different,
 }
 
-/// Returns the number of words that an item leaves if it is a return, else `None`.
+/// If `item` is a return, returns the number of words that it leaves on the stack. Otherwise returns None.
 #[tactic(auto, using(crate::proofs::Called::no_words))]
 fn words_returned(item: &Item<usize>) -> Option<u8>
     ensures words { result ≡ callees.words_returned (placed_item item.now) }
@@ -72,7 +72,8 @@ fn words_returned(item: &Item<usize>) -> Option<u8>
     }
 }
 
-/// Adds the words of one more item to the result.
+/// Returns `returns`, updated for one more item. `words` is the number of words that this item leaves if it is a
+/// return.
 fn joined(returns: Returns, words: Option<u8>) -> Returns
     ensures returns { result ≡ callees.joined returns words }
 {
@@ -92,7 +93,7 @@ fn joined(returns: Returns, words: Option<u8>) -> Returns
     }
 }
 
-/// Returns what the returns among items leave.
+/// Returns how many words the returns in `items` leave on the stack.
 pub(crate) fn returns_of(items: &[Item<usize>]) -> Returns
     ensures returns { result ≡ callees.returns_from callees.no_return (map placed_item items.now) }
 {
@@ -103,8 +104,8 @@ pub(crate) fn returns_of(items: &[Item<usize>]) -> Returns
     returns
 }
 
-/// Returns the sizes of a procedure. `words` is the size of its parameters. Returns `None` if `words` exceeds 255 or if
-/// the returns do not leave one common number of words.
+/// Returns the sizes of a procedure with `words` words of parameters. Returns None if `words` exceeds 255, or if
+/// `returns` is not one common number of words.
 pub(crate) fn callee_by(words: u16, returns: Returns) -> Option<Callee>
     ensures callee { result ≡ callees.callee_by words returns }
 {
@@ -117,8 +118,8 @@ pub(crate) fn callee_by(words: u16, returns: Returns) -> Option<Callee>
     }
 }
 
-/// Returns the sizes of a procedure, computed from its code. Returns `None` if its parameters exceed 255 words or if
-/// its returns do not leave one common number of words.
+/// Returns the sizes of `procedure`, computed from its code. Returns None if its parameters exceed 255 words, or if its
+/// returns do not all leave the same number of words.
 pub fn callee_of(procedure: &Procedure) -> Option<Callee>
     ensures callee { result ≡ callees.callee_of (procedure_seen procedure.now) }
 {

@@ -1,4 +1,4 @@
-//! The conditions of jumps.
+//! Computes the condition of a conditional jump from the text of the jump.
 
 ghost use Rattle.std.specs.Prelude.{◌≡◌, ◌++◌, string_bytes, OnOk};
 ghost use Rattle.pm_code.specs.Shown.{target_text};
@@ -11,7 +11,7 @@ use pm_phrases::push_target;
 use pm_trees::Role;
 use std::alloc::AllocError;
 
-/// Returns a text without the prefix `front`, if it has this prefix.
+/// If `text` begins with `front`, returns `text` without this prefix. Otherwise returns `text`.
 fn without_front<'a>(text: &'a str, front: &str) -> &'a str
     ensures rest { result.now ≡ texts.without_front front.now text.now }
 {
@@ -21,7 +21,7 @@ fn without_front<'a>(text: &'a str, front: &str) -> &'a str
     }
 }
 
-/// Returns a text without the suffix `tail`, if it has this suffix.
+/// If `text` ends with `tail`, returns `text` without this suffix. Otherwise returns `text`.
 fn without_tail<'a>(text: &'a str, tail: &str) -> &'a str
     ensures rest { result.now ≡ texts.without_tail tail.now text.now }
 {
@@ -31,7 +31,7 @@ fn without_tail<'a>(text: &'a str, tail: &str) -> &'a str
     }
 }
 
-/// Replaces a text by a word followed by the target of a jump.
+/// Replaces the contents of `out` by `word`, followed by the target of a jump.
 fn set_jump(out: &mut String, word: &str, target: Target<usize>) -> Result<(), AllocError>
     ensures text { OnOk result (string_bytes out.new ≡ word.now ++ target_text (placed_target target)) }
 {
@@ -40,8 +40,8 @@ fn set_jump(out: &mut String, word: &str, target: Target<usize>) -> Result<(), A
     push_target(out, target)
 }
 
-/// Appends the condition under which a jump is not taken. `text` is the text of the jump. `scratch` is used as a
-/// buffer.
+/// Appends to `out` the condition under which a jump is not taken. `text` is the text of the jump, and `scratch` is
+/// used as a buffer.
 #[tactic(auto, unfolding(crate::specs::BlockLines::condition_text))]
 pub(crate) fn push_condition(
     scratch: &mut String,

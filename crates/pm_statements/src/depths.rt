@@ -1,4 +1,4 @@
-//! The nesting depth of a procedure's code.
+//! The nesting depth of the code of a procedure, computed from its jumps.
 
 ghost use Rattle.std.specs.Prelude.{◌≡◌, ◌++◌, replicate, IfOk, OnOk};
 ghost use Rattle.pm_code.specs.Program.{code_end};
@@ -12,12 +12,12 @@ use pm_code::{Item, JUMP, Procedure, Target};
 use std::alloc::{AllocError, Global};
 use std::marker::Model;
 
-/// A number for each byte of code, from the offset `start` on.
+/// A list with one number for each byte of code. The first number is for the byte at offset `start`.
 #[derive(Drop)]
 pub struct Depths {
-    /// The offset of the first byte.
+    /// The offset of the first byte that has a number.
     pub(crate) start: usize,
-    /// The numbers.
+    /// The numbers, one for each byte.
     pub(crate) list: Vec<usize>,
 }
 
@@ -30,7 +30,7 @@ impl Model for Depths {
 }
 
 impl Depths {
-    /// Returns the number for an offset, or 0 if it has none.
+    /// Returns the number for the offset `place`, or 0 if the list has no number for it.
     pub(crate) fn at_place(&self, place: usize) -> usize
         ensures value { result ≡ depths.at_place self.now place }
     {
@@ -41,7 +41,8 @@ impl Depths {
     }
 }
 
-/// Returns the target of a jump. Returns `None` if the item is no jump or if the jump table does not have its entry.
+/// If `item` is a jump, returns its target. Returns None if `item` is no jump, or if `entries`, the jump table, lacks
+/// the entry that it uses.
 fn leads_to(entries: &[usize], item: &Item<usize>) -> Option<usize>
     ensures value { result ≡ depths.leads_to entries.now (placed_item item.now) }
 {
@@ -52,7 +53,7 @@ fn leads_to(entries: &[usize], item: &Item<usize>) -> Option<usize>
     }
 }
 
-/// Returns the target of a jump that has a condition.
+/// If `item` is a conditional jump, returns its target. Otherwise returns None.
 fn leads_by_condition(entries: &[usize], item: &Item<usize>) -> Option<usize>
     ensures value { result ≡ depths.leads_by_condition entries.now (placed_item item.now) }
 {
@@ -62,7 +63,8 @@ fn leads_by_condition(entries: &[usize], item: &Item<usize>) -> Option<usize>
     }
 }
 
-/// Records the end of a loop if the jump before `end` leads back to an offset in the code.
+/// Records in `loops` that a loop ends at `end`, if the jump from `at` leads back to the offset `place` in the code.
+/// `start` is the offset of the first byte of the code.
 fn add_loop(loops: &mut Vec<usize>, start: usize, at: usize, end: usize, place: Option<usize>)
     ensures loops { loops.new.items ≡ depths.with_loop start at end place loops.old.items }
 {
@@ -74,7 +76,8 @@ fn add_loop(loops: &mut Vec<usize>, start: usize, at: usize, end: usize, place: 
     }
 }
 
-/// Returns, for each byte of a procedure's code, the end of the loop that begins there. It is 0 if none begins there.
+/// Returns a number for each byte of the code of `procedure`: the end of the loop that begins at this byte, or 0 if no
+/// loop begins there.
 #[tactic(auto, unfolding(crate::specs::Depths::loops_from))]
 fn loops_of(alloc: Global, procedure: &Procedure, end: usize) -> Result<Depths, AllocError>
     requires end { end ≡ code_end (procedure_seen procedure.now) }
@@ -94,7 +97,7 @@ fn loops_of(alloc: Global, procedure: &Procedure, end: usize) -> Result<Depths, 
     Ok(Depths { start, list: loops })
 }
 
-/// Appends the depth of `count` bytes.
+/// Appends `depth` to `depths`, `count` times.
 fn push_depth(depths: &mut Vec<usize>, count: usize, depth: usize) -> Result<(), AllocError>
     ensures depths { OnOk result (depths.new.items ≡ depths.old.items ++ replicate count depth) }
 {
@@ -105,7 +108,7 @@ fn push_depth(depths: &mut Vec<usize>, count: usize, depth: usize) -> Result<(),
     Ok(())
 }
 
-/// Returns the depth of each byte of a procedure's code.
+/// Returns the nesting depth of each byte of the code of `procedure`.
 #[tactic(auto, unfolding(crate::specs::Depths::depths))]
 fn list_of(alloc: Global, procedure: &Procedure, end: usize) -> Result<Vec<usize>, AllocError>
     requires end { end ≡ code_end (procedure_seen procedure.now) }
@@ -129,7 +132,8 @@ fn list_of(alloc: Global, procedure: &Procedure, end: usize) -> Result<Vec<usize
     Ok(depths)
 }
 
-/// Returns the depths of a procedure's code if `wanted` is true, else none.
+/// Returns the nesting depths of the code of `procedure` if `wanted` is true. Otherwise returns an empty list of
+/// depths.
 pub(crate) fn depths_if(
     alloc: Global,
     wanted: bool,

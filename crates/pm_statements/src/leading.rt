@@ -1,4 +1,4 @@
-//! The jumps of statements.
+//! The targets of the jumps that statements contain.
 
 ghost use Rattle.std.specs.Prelude.{◌≡◌, drop, IfOk};
 ghost use Rattle.pm_statements.specs.Leading as leading;
@@ -9,7 +9,7 @@ use pm_phrases::{Form, Phrase};
 use pm_trees::{Leads, Left, Role, Statement};
 use std::alloc::{AllocError, Global};
 
-/// Returns the offset of a target. Returns `None` if the jump table does not have its entry.
+/// Returns the offset of `target`. Returns None if `entries`, the jump table, lacks the entry that `target` uses.
 fn place_in(entries: &[usize], target: Target<usize>) -> Option<usize>
     ensures place { result ≡ leading.place_in entries.now target }
 {
@@ -19,7 +19,7 @@ fn place_in(entries: &[usize], target: Target<usize>) -> Option<usize>
     }
 }
 
-/// Returns an offset relative to the start of the code, or `None` if it is before the start.
+/// Returns the offset `place` as a number of bytes from `start`, or None if `place` is before `start`.
 fn from_start(start: usize, place: Option<usize>) -> Option<usize>
     ensures place { result ≡ leading.from_start start place }
 {
@@ -29,7 +29,7 @@ fn from_start(start: usize, place: Option<usize>) -> Option<usize>
     }
 }
 
-/// Whether a text is that of a statement, and no line of the disassembly in braces.
+/// Returns whether a text of this form is a statement. The other texts are lines of the disassembly in braces.
 fn is_sentence(form: Form) -> bool
     ensures value { result ≡ leading.is_sentence form }
 {
@@ -39,7 +39,8 @@ fn is_sentence(form: Form) -> bool
     }
 }
 
-/// Returns where a jump with this condition leads.
+/// Returns where a jump with `condition` to the offset `place` leads. A conditional jump leads nowhere if its text is
+/// not a statement. Any jump leads nowhere if `place` is None.
 fn leads_to(condition: Condition, form: Form, place: Option<usize>) -> Leads
     ensures leads { result ≡ leading.leads_to condition form place }
 {
@@ -58,7 +59,7 @@ fn leads_to(condition: Condition, form: Form, place: Option<usize>) -> Leads
     }
 }
 
-/// Returns where a case jump leads.
+/// Returns where a case jump with a text of this form leads.
 fn leads_by_value(form: Form) -> Leads
     ensures leads { result ≡ leading.leads_by_value form }
 {
@@ -69,7 +70,7 @@ fn leads_by_value(form: Form) -> Leads
     }
 }
 
-/// Returns where a statement leads.
+/// Returns where a statement with `role` and `phrase` leads. Targets are counted in bytes from `start`.
 fn leads_by(start: usize, entries: &[usize], role: Role, phrase: &Phrase) -> Leads
     ensures leads { result ≡ leading.leads_by start entries.now role phrase.now.form }
 {
@@ -83,7 +84,7 @@ fn leads_by(start: usize, entries: &[usize], role: Role, phrase: &Phrase) -> Lea
     }
 }
 
-/// Returns the offset of the next statement, or the end of the code if there is none.
+/// Returns the offset of the first statement of `lefts`, or `end` if `lefts` is empty.
 fn next_place(end: usize, lefts: &[Left]) -> usize
     ensures place { result ≡ leading.next_place end lefts.now }
 {
@@ -93,7 +94,7 @@ fn next_place(end: usize, lefts: &[Left]) -> usize
     }
 }
 
-/// Returns a list without its first item.
+/// Returns `list` without its first item. An empty list remains empty.
 pub(crate) fn behind_first<T>(list: &[T]) -> &[T]
     ensures rest { result.now ≡ drop 1 list.now }
 {
@@ -103,7 +104,8 @@ pub(crate) fn behind_first<T>(list: &[T]) -> &[T]
     }
 }
 
-/// Returns the code ranges of statements. `start` and `end` are the offsets of the code.
+/// Returns the code ranges of the statements `lefts`, and where each statement leads. `start` and `end` are the offsets
+/// at which the code starts and ends.
 pub(crate) fn stretches(
     alloc: Global,
     start: usize,

@@ -1,4 +1,4 @@
-//! The text of code as statements.
+//! The text of code as statements. A statement is an operation with its operands, or a jump.
 #![tactic(auto)]
 
 mod block_labels;

@@ -1,4 +1,6 @@
-//! Statements as lines.
+//! Writes statements as lines, without blocks.
+//!
+//! In this file, `left` is the summary of a statement, and `phrase` is its text.
 
 ghost use Rattle.std.specs.Prelude.{◌≡◌, ◌∷◌, ◌++◌, false, string_bytes, OnOk};
 ghost use Rattle.pm_phrases.specs.Shown.{value_text};
@@ -9,16 +11,17 @@ use pm_phrases::{Phrase, push_offset, push_value};
 use pm_trees::{Leaves, Left, Pile, Place, Role, is_reached, leaves_nothing};
 use std::alloc::AllocError;
 
-/// The maximum depth that is shown by spaces.
+/// The maximum depth that is shown. A greater depth is shown like this depth.
 const DEEPEST: usize = 30;
 
-/// The spaces for eight levels.
+/// The spaces for eight levels of depth: two for each level.
 const EIGHT_LEVELS: &str = "                ";
 
-/// The spaces for the maximum depth.
+/// The spaces for thirty levels, the maximum depth.
 const ALL_LEVELS: &str = "                                                            ";
 
-/// Appends the lines of a label and of the exit code, each after a line feed.
+/// Appends a line with a label if `place` has a label, and a line `EXIT:` if the exit code begins at `place`. A line
+/// feed precedes each line.
 pub(crate) fn push_place_lines(out: &mut String, place: Place) -> Result<(), AllocError>
     ensures text { OnOk result (string_bytes out.new ≡ string_bytes out.old ++ texts.place_lines place) }
 {
@@ -33,7 +36,7 @@ pub(crate) fn push_place_lines(out: &mut String, place: Place) -> Result<(), All
     Ok(())
 }
 
-/// Appends the text of a statement. It is prefixed with `PUSH` if the statement leaves something.
+/// Appends the text of a statement to `out`. If the statement leaves words on the stack, the text begins with `PUSH`.
 pub(crate) fn push_own(out: &mut String, leaves: Leaves, phrase: &Phrase) -> Result<(), AllocError>
     ensures text { OnOk result (string_bytes out.new
         ≡ string_bytes out.old ++ (texts.push_text leaves ++ value_text phrase.now 0)) }
@@ -44,7 +47,7 @@ pub(crate) fn push_own(out: &mut String, leaves: Leaves, phrase: &Phrase) -> Res
     push_value(out, phrase)
 }
 
-/// Appends an I/O check to the line of the call before it.
+/// Appends a space and the I/O check `check` to the last line of `out`, which has the call before the check.
 pub(crate) fn push_beside(out: &mut String, check: &Phrase) -> Result<(), AllocError>
     ensures text { OnOk result (string_bytes out.new
         ≡ string_bytes out.old ++ (32 ∷ value_text check.now 0)) }
@@ -53,21 +56,21 @@ pub(crate) fn push_beside(out: &mut String, check: &Phrase) -> Result<(), AllocE
     push_value(out, check)
 }
 
-/// Whether a statement is a call that leaves nothing.
+/// Returns whether a statement is a call that leaves nothing on the stack.
 pub(crate) fn is_call(left: &Left) -> bool
     ensures value { result ≡ texts.is_call left.now }
 {
     leaves_nothing(left.leaves) && matches!(left.role, Role::Call)
 }
 
-/// Whether a statement is an I/O check that has no label and does not begin the exit code.
+/// Returns whether a statement is an I/O check that has no label and does not begin the exit code.
 pub(crate) fn is_check(left: &Left) -> bool
     ensures value { result ≡ texts.is_check left.now }
 {
     !is_reached(left.place) && matches!(left.role, Role::Check)
 }
 
-/// Appends two spaces for each level of depth, up to thirty levels.
+/// Appends two spaces to `out` for each level of `depth`, up to thirty levels.
 #[tactic(auto, using(crate::proofs::Listed::all_levels, crate::proofs::Listed::few_levels, crate::proofs::Listed::blanks_step, crate::proofs::Listed::blanks_done))]
 pub(crate) fn push_blanks(out: &mut String, depth: usize) -> Result<(), AllocError>
     ensures text { OnOk result (string_bytes out.new ≡ string_bytes out.old ++ texts.blanks depth) }
@@ -88,7 +91,8 @@ pub(crate) fn push_blanks(out: &mut String, depth: usize) -> Result<(), AllocErr
     Ok(())
 }
 
-/// Appends the text before the indentation of a statement: the lines of its place, and its offset.
+/// Appends the text before the indentation of a statement at `place`: the lines for its label and the exit code, a line
+/// feed, and its offset.
 pub(crate) fn push_front(out: &mut String, place: Place) -> Result<(), AllocError>
     ensures text { OnOk result (string_bytes out.new ≡ string_bytes out.old ++ texts.front place) }
 {
@@ -98,7 +102,8 @@ pub(crate) fn push_front(out: &mut String, place: Place) -> Result<(), AllocErro
     out.push(' ')
 }
 
-/// Appends a statement after a line feed. An I/O check after a call is appended to the line of the call.
+/// Appends a statement to `out`, on a new line that is indented by `depth`. If the statement is an I/O check and
+/// `behind_call` is true, it is appended to the line of the call before it.
 fn push_line(
     out: &mut String,
     depth: usize,
@@ -117,7 +122,8 @@ fn push_line(
     push_own(out, left.leaves, phrase)
 }
 
-/// Appends statements.
+/// Appends the statements `lefts`, whose texts are `phrases`, to `out`. Each statement is indented by the number that
+/// `depths` has for its offset.
 #[tactic(auto, using(crate::proofs::Listed::lines_none))]
 fn push_lines(
     out: &mut String,
@@ -142,7 +148,8 @@ fn push_lines(
     Ok(())
 }
 
-/// Appends the lines of statements, each after a line feed. Each statement is indented by its depth.
+/// Appends the lines of `statements` to `out`, each after a line feed. Each statement is indented by the number that
+/// `depths` has for its offset.
 #[tactic(auto, using(pm_trees::proofs::Ends::twice_reversed))]
 pub fn push_statements(
     out: &mut String,

@@ -1,4 +1,4 @@
-//! The offsets of a procedure that have a label.
+//! A set of marked offsets: the offsets of a procedure that have a label.
 
 ghost use Rattle.std.specs.Prelude.{◌≡◌, ◌-◌, ◌≤◌, ◌<◌, ◌==◌, ◌||◌, ℕ, false, length, map, IfOk, OnOk};
 ghost use Rattle.std.specs.Bool.{OnTrue};
@@ -12,12 +12,12 @@ use pm_code::{Item, Procedure, Target};
 use std::alloc::{AllocError, Global};
 use std::marker::Model;
 
-/// A set of marked offsets. The offsets of a procedure's code have flags, and other offsets are in a list.
+/// A set of marked offsets. Offsets in the code of a procedure are stored as flags, and all other offsets in a list.
 #[derive(Drop)]
 pub struct Marks {
-    /// The offset of the first flag.
+    /// The offset that the first flag is for.
     start: usize,
-    /// The flags.
+    /// One flag for each offset from `start` on. The flag is true if the offset is marked.
     flags: Vec<bool>,
     /// The marked offsets that have no flag.
     others: Vec<usize>,
@@ -32,7 +32,7 @@ impl Model for Marks {
 }
 
 impl Marks {
-    /// Creates an empty set with flags for the offsets from `start` to `end`.
+    /// Creates an empty set that has a flag for each offset from `start` to `end`.
     #[tactic(auto, using(crate::proofs::Marked::none_marked))]
     pub(crate) fn none(alloc: Global, start: usize, end: usize) -> Result<Marks, AllocError>
         ensures none { IfOk result (λ m. (p : ℕ) → has m p ≡ false) }
@@ -50,7 +50,7 @@ impl Marks {
         })
     }
 
-    /// Whether an offset has a flag.
+    /// Returns whether the set has a flag for the offset `place`.
     fn has_flag(&self, place: usize) -> bool
         ensures value { result ≡ has_flag self.now place }
         ensures low { OnTrue result (self.now.start ≤ place) }
@@ -59,7 +59,7 @@ impl Marks {
         place >= self.start && place - self.start < self.flags.len()
     }
 
-    /// Whether an offset is marked.
+    /// Returns whether the offset `place` is marked.
     #[tactic(auto, unfolding(crate::specs::Marks::has))]
     pub(crate) fn has(&self, place: usize) -> bool
         ensures value { result ≡ has self.now place }
@@ -71,7 +71,7 @@ impl Marks {
     }
 }
 
-/// Marks an offset.
+/// Marks the offset `place`.
 #[tactic(auto, unfolding(crate::specs::Marks::has), using(crate::proofs::Marked::flag_set, crate::proofs::Marked::other_added))]
 fn mark(marks: &mut Marks, place: usize) -> Result<(), AllocError>
     ensures has { OnOk result ((p : ℕ) → has marks.new p ≡ ((place == p) || has marks.old p)) }
@@ -84,7 +84,7 @@ fn mark(marks: &mut Marks, place: usize) -> Result<(), AllocError>
     Ok(())
 }
 
-/// Marks offsets.
+/// Marks all offsets of `places`.
 #[tactic(auto, using(crate::proofs::Marked::places_done))]
 pub(crate) fn mark_places(marks: &mut Marks, places: &[usize]) -> Result<(), AllocError>
     ensures has { OnOk result ((p : ℕ) → has marks.new p ≡ (has marks.old p || is_among places.now p)) }
@@ -95,7 +95,7 @@ pub(crate) fn mark_places(marks: &mut Marks, places: &[usize]) -> Result<(), All
     Ok(())
 }
 
-/// Marks the target of a jump, if it is a label.
+/// If `target` is a label, marks its offset. A target that is an entry of the jump table is not marked.
 #[tactic(auto, using(crate::proofs::Marked::one_place, crate::proofs::Marked::or_false))]
 pub(crate) fn mark_target(marks: &mut Marks, target: Target<usize>) -> Result<(), AllocError>
     ensures has { OnOk result ((p : ℕ) → has marks.new p
@@ -107,7 +107,7 @@ pub(crate) fn mark_target(marks: &mut Marks, target: Target<usize>) -> Result<()
     }
 }
 
-/// Marks the offsets that an item names.
+/// Marks the offsets that `item` names.
 #[tactic(auto, using(crate::proofs::Marked::joined_places, crate::proofs::Marked::or_false))]
 pub(crate) fn mark_item(marks: &mut Marks, item: &Item<usize>) -> Result<(), AllocError>
     ensures has { OnOk result ((p : ℕ) → has marks.new p
@@ -127,7 +127,7 @@ pub(crate) fn mark_item(marks: &mut Marks, item: &Item<usize>) -> Result<(), All
     }
 }
 
-/// Marks the offsets that items name.
+/// Marks the offsets that the items `items` name.
 #[tactic(auto, using(crate::proofs::Marked::items_done))]
 fn mark_items(marks: &mut Marks, items: &[Item<usize>]) -> Result<(), AllocError>
     ensures has { OnOk result ((p : ℕ) → has marks.new p
@@ -139,7 +139,8 @@ fn mark_items(marks: &mut Marks, items: &[Item<usize>]) -> Result<(), AllocError
     Ok(())
 }
 
-/// Returns the offsets of a procedure that have a label. There is a flag for each offset from the start to `end`.
+/// Returns the offsets of `procedure` that have a label. The set has a flag for each offset from the start of the code
+/// to `end`.
 #[tactic(auto, using(crate::proofs::Marked::two_marked))]
 pub(crate) fn labels_of(
     alloc: Global,

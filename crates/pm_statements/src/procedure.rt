@@ -1,4 +1,4 @@
-//! The statements of a procedure.
+//! The text of the code of one procedure as statements.
 
 ghost use Rattle.std.specs.Prelude.{◌≡◌, ◌+◌, ◌++◌, ℕ, List, string_bytes, IfOk, OnOk};
 ghost use Rattle.pm_code.specs.Item.{size};
@@ -20,7 +20,8 @@ use pm_phrases::{Around, Phrase};
 use pm_trees::{Known, Layout, Left, Line, Part, Pile, Place, blocks, part_of, statements};
 use std::alloc::{AllocError, Global};
 
-/// Returns the place at offset `at`. `exit` is the offset of the exit code.
+/// Returns the place at offset `at`: the offset, whether it has a label, and whether it is `exit`, the offset of the
+/// exit code.
 #[tactic(auto, using(crate::proofs::Marked::place_known))]
 fn place_at(labels: &Marks, exit: usize, at: usize) -> Place
     ensures place { (used : List ℕ) → AreMarked labels.now used → result ≡ parts.place_at used exit at }
@@ -32,7 +33,8 @@ fn place_at(labels: &Marks, exit: usize, at: usize) -> Place
     }
 }
 
-/// Returns the offset after an item. The error occurs only if the offset does not fit in 64 bits.
+/// Returns the offset after `item`, which begins at offset `at`. The error occurs only if the offset does not fit in 64
+/// bits.
 pub(crate) fn behind(at: usize, item: &Item<usize>) -> Result<usize, AllocError>
     ensures behind { IfOk result (λ next. next ≡ at + size at (placed_item item.now)) }
 {
@@ -45,7 +47,8 @@ pub(crate) fn behind(at: usize, item: &Item<usize>) -> Result<usize, AllocError>
     }
 }
 
-/// Returns the items of a procedure as parts. `labels` are the offsets with a label.
+/// Returns the items of `procedure` as parts. A part is an item with its place, its role, and its effect on the stack.
+/// `labels` are the offsets with a label.
 fn parts_of<'a>(
     alloc: Global,
     known: &Known<'_>,
@@ -66,8 +69,8 @@ fn parts_of<'a>(
     Ok(parts)
 }
 
-/// Appends the lines of the place at the end of the code. `labels` are the offsets with a label, and `exit` is the
-/// offset of the exit code.
+/// Appends to `out` the lines for a label and for the exit code at `end`, the end of the code. `labels` are the offsets
+/// with a label, and `exit` is the offset of the exit code.
 fn push_end(out: &mut String, labels: &Marks, exit: usize, end: usize) -> Result<(), AllocError>
     ensures text { (used : List ℕ) → AreMarked labels.now used → OnOk result (string_bytes out.new
         ≡ string_bytes out.old ++ texts.place_lines (parts.place_at used exit end)) }
@@ -75,7 +78,7 @@ fn push_end(out: &mut String, labels: &Marks, exit: usize, end: usize) -> Result
     push_place_lines(out, place_at(labels, exit, end))
 }
 
-/// Appends statements, which are indented by their depth if `indented` is true.
+/// Appends the statements of `procedure` without blocks. They are indented by their depth if `indented` is true.
 #[tactic(auto, using(pm_phrases::proofs::Offsets::text_joined))]
 fn push_flat(
     alloc: Global,
@@ -96,7 +99,7 @@ fn push_flat(
     push_end(out, labels, procedure.exit, end)
 }
 
-/// Appends statements in these blocks, with the labels that their text names.
+/// Appends the statements `lefts` in blocks, as `lines` states. Only offsets that the text names have a label.
 fn push_shown(
     alloc: Global,
     out: &mut String,
@@ -116,8 +119,8 @@ fn push_shown(
     Ok(())
 }
 
-/// Appends statements in blocks. If the blocks would not represent the jumps, the statements are appended without
-/// blocks and indentation.
+/// Appends the statements of `procedure` in blocks. If blocks cannot represent the jumps, the statements are appended
+/// without blocks and without indentation.
 #[tactic(auto, using(pm_trees::proofs::Ends::twice_reversed), unfolding(crate::specs::Bodies::body))]
 fn push_blocks(
     alloc: Global,
@@ -141,7 +144,7 @@ fn push_blocks(
     }
 }
 
-/// Appends statements in this layout.
+/// Appends the statements of `procedure` in the layout `layout`.
 #[tactic(auto, unfolding(crate::specs::Bodies::body))]
 fn push_body(
     alloc: Global,
@@ -164,9 +167,9 @@ fn push_body(
     }
 }
 
-/// Appends the text of a procedure's code as statements, in the layout of `known`. Each statement has a line, after a
-/// line feed. There are also lines for the exit code and for labels. In blocks, only the labels that the text names are
-/// included.
+/// Appends the code of `procedure` as statements to `out`, in the layout of `known`. Each statement has a line, which a
+/// line feed precedes. Labels and the exit code have additional lines. In blocks, only the offsets that the text names
+/// have a label.
 pub fn push_procedure(
     alloc: Global,
     out: &mut String,

@@ -1,4 +1,4 @@
-//! Code files as statements.
+//! The text of a code file as statements.
 
 ghost use Rattle.std.specs.Prelude.{◌≡◌, ◌%◌, ◌≤◌, ◌++◌, List, [], ℕ, Some, length, nat_le, string_bytes, IfOk};
 ghost use Rattle.std.specs.Prelude.{IfSome, OnOk};
@@ -22,7 +22,8 @@ use std::alloc::{AllocError, Global};
 use std::fmt;
 use std::fmt::Write;
 
-/// The beginning of a procedure's first line: its number and its slot.
+/// The beginning of the first line of a procedure. The fields are the number of the procedure and the slot of its
+/// segment.
 #[derive(Clone, Copy)]
 struct Named(u8, u8);
 
@@ -35,7 +36,7 @@ impl fmt::Display for Named {
     }
 }
 
-/// The size of a procedure's result in bytes, if all its returns leave the same number of words.
+/// The size of the result of a procedure in bytes. The text is empty unless all returns leave the same number of words.
 #[derive(Clone, Copy)]
 struct ResultText(Returns);
 
@@ -53,8 +54,8 @@ impl fmt::Display for ResultText {
     }
 }
 
-/// A procedure's first line: its number and slot, its level, and the sizes of its parameters, locals and result in
-/// bytes.
+/// The first line of a procedure: its number and slot, its level, and the sizes of its parameters, locals and result in
+/// bytes. The first field is the slot.
 #[derive(Clone, Copy)]
 struct Header(u8, Attributes, Returns);
 
@@ -72,14 +73,15 @@ impl fmt::Display for Header {
     }
 }
 
-/// Returns the slot of the code.
+/// Returns the slot of the segment whose code is shown.
 fn slot_of(known: &Known<'_>) -> u8
     ensures slot { result ≡ known.now.segment }
 {
     known.segment
 }
 
-/// Appends a line for each entry of a jump table, after a line feed: its number and its target.
+/// Appends a line for each entry of a jump table to `out`: the number of the entry and its target. A line feed precedes
+/// each line.
 #[tactic(auto, using(crate::proofs::Filed::entries_done))]
 fn push_entries(out: &mut String, entries: &[usize]) -> Result<(), AllocError>
     ensures text { OnOk result (string_bytes out.new ≡ string_bytes out.old ++ files.entry_lines 0 entries.now) }
@@ -91,7 +93,8 @@ fn push_entries(out: &mut String, entries: &[usize]) -> Result<(), AllocError>
     Ok(())
 }
 
-/// Appends the text of a procedure that has code. `returns` states what its returns leave.
+/// Appends the text of `procedure`, which has code, to `text`. `a` is its attribute table, and `returns` states how
+/// many words its returns leave.
 fn push_code(
     alloc: Global,
     text: &mut String,
@@ -112,7 +115,8 @@ fn push_code(
     Ok(())
 }
 
-/// Returns the cached procedure of an attribute table, and what its returns leave.
+/// Returns the procedure that `tables` has cached for the attribute table `a`, and how many words its returns leave.
+/// Returns None if the procedure is not cached.
 fn kept<'a>(tables: &'a [SizedTable], a: &Attributes) -> Option<(&'a Procedure, Returns)>
     ensures procedure { (segment : List ℕ) → AllByRecursion (files.IsSizedTable segment) tables.now
         → IfSome result (λ p. procedure_seen p.0.now ≡ procedure_of segment a.now) }
@@ -128,7 +132,7 @@ fn kept<'a>(tables: &'a [SizedTable], a: &Attributes) -> Option<(&'a Procedure, 
     None
 }
 
-/// Reads the procedure of an attribute table again. The segment is decoded at most once.
+/// Reads the procedure of the attribute table `a` from `segment`. The segment is decoded only if `decoded` is None.
 fn read_anew<'a>(
     alloc: Global,
     segment: &'a [u8],
@@ -151,7 +155,7 @@ fn read_anew<'a>(
     Ok(procedure)
 }
 
-/// Appends the procedure of an attribute table.
+/// Appends the text of the procedure with the attribute table `a` to `text`.
 #[tactic(auto, unfolding(crate::specs::Files::table_text))]
 fn push_table<'a>(
     alloc: Global,
@@ -184,7 +188,8 @@ fn push_table<'a>(
     }
 }
 
-/// Appends the line of a number whose attribute table was already shown. The line refers to the number in that table.
+/// Appends a line for a number whose attribute table `a` was already shown. The line names the number that is in that
+/// table.
 fn push_repeated(text: &mut String, named: Named, a: &Attributes) -> Result<(), AllocError>
     ensures text { OnOk result (string_bytes text.new
         ≡ string_bytes text.old ++ files.repeated_text named.0 named.1 a.now) }
@@ -194,8 +199,8 @@ fn push_repeated(text: &mut String, named: Named, a: &Attributes) -> Result<(), 
     Ok(())
 }
 
-/// Appends the procedure of an attribute table, and records the offset of the table. Several words of a dictionary may
-/// refer to one table, whose text is shown only once.
+/// Appends the text of the procedure with the attribute table `a`, and adds the offset of `a` to `shown`. If `shown`
+/// already contains this offset, only one line is appended: several words of a dictionary may refer to the same table.
 fn push_table_once<'a>(
     alloc: Global,
     text: &mut String,
@@ -222,15 +227,15 @@ fn push_table_once<'a>(
     push_table(alloc, text, known, sized, decoded, &a)
 }
 
-/// Appends the text for a procedure number of a segment: the statements of its procedure. It is one line if the number
-/// has no attribute table, or if an earlier number has the same table.
+/// Appends the text for one procedure number of a segment: the statements of its procedure. The text is one line if the
+/// number has no attribute table, or if an earlier number has the same table.
 ///
-/// `shown` contains the offsets of the tables that were shown. `decoded` contains the segment if it was decoded. Both
-/// must be empty before the first number of a segment.
+/// `shown` contains the offsets of the attribute tables that were shown. `decoded` is the decoded segment, if it was
+/// decoded. Before the first number of a segment, `shown` must be empty and `decoded` must be None.
 ///
 /// # Errors
 ///
-/// `AllocError` if memory runs out. Part of the text may have been appended.
+/// `AllocError` if memory runs out. A part of the text may have been appended.
 pub fn push_numbered<'a>(
     alloc: Global,
     text: &mut String,
@@ -258,7 +263,7 @@ pub fn push_numbered<'a>(
     Ok(())
 }
 
-/// Appends the procedures of a segment.
+/// Appends the text of all procedures of the segment `sized` to `text`.
 fn push_segment(
     alloc: Global,
     text: &mut String,
@@ -281,7 +286,7 @@ fn push_segment(
     Ok(())
 }
 
-/// Appends the segment of a slot, if it has one.
+/// Appends the text of the segment in slot `n` of `file`. If the slot has no segment, nothing is appended.
 fn push_slot(
     alloc: Global,
     text: &mut String,
@@ -311,10 +316,10 @@ fn push_slot(
     }
 }
 
-/// Returns the text of a code file as statements, in the given layout. The segments are in ascending order of their
-/// slots, and the procedures in the order of their numbers.
+/// Returns the text of the code file `file` as statements, in the layout `layout`. The segments are in ascending order
+/// of their slots, and the procedures are in the order of their numbers.
 ///
-/// Each procedure has a first line, a line for each entry of its jump table, and its statements.
+/// Each procedure has a first line, then a line for each entry of its jump table, and then its statements.
 #[tactic(auto, unfolding(crate::specs::Files::file_text))]
 pub fn file(alloc: Global, file: &CodeFile<'_>, layout: Layout) -> Result<String, AllocError>
     ensures text { IfOk result (λ text. string_bytes text ≡ files.file_text layout file.now) }

@@ -1,4 +1,5 @@
-//! The sizes of the procedures of a code file.
+//! The sizes of all procedures of a code file. A procedure that was read is cached, because it is needed again for the
+//! text.
 
 ghost use Rattle.std.specs.Prelude.{◌≡◌, ◌%◌, ◌+◌, ◌∷◌, ◌++◌, ◌≤◌, ℕ, List, Option, None, Some, length, IfOk, IfSome};
 ghost use Rattle.std.specs.Prelude.{OnOk, is_some, true};
@@ -18,35 +19,36 @@ use pm_disasm::{Decoded, code, decode_segment};
 use pm_trees::Callee;
 use std::alloc::{AllocError, Global};
 
-/// The number of items that may be cached for each byte of a code file.
+/// The maximum number of cached items for each byte of a code file.
 const ITEMS_FOR_A_BYTE: usize = 4;
 
-/// An attribute table, the sizes of its procedure, and what the returns leave. The procedure is included if there was
+/// An attribute table, the sizes of its procedure, and how many words its returns leave. The procedure is included only
+/// if the limit of cached items allowed it.
 /// space to cache it.
 #[derive(Drop)]
 pub struct SizedTable {
     /// The attribute table.
     pub table: Attributes,
-    /// The sizes of its procedure, if they are known.
+    /// The sizes of the procedure, if they are known.
     pub callee: Option<Callee>,
-    /// What the returns of the procedure leave.
+    /// How many words the returns of the procedure leave.
     pub returns: Returns,
     /// The procedure, if it is cached.
     pub procedure: Option<Procedure>,
 }
 
-/// A segment with the sizes of its procedures and the attribute tables that were read.
+/// A segment, the sizes of its procedures, and the attribute tables that were read.
 #[derive(Drop)]
 pub struct SizedSegment<'a> {
-    /// The segment.
+    /// The bytes of the segment.
     pub segment: &'a [u8],
-    /// The attribute tables of the segment.
+    /// The attribute tables of the segment that were read.
     pub tables: Vec<SizedTable>,
-    /// The sizes for the 256 procedure numbers of the segment.
+    /// The sizes for each of the 256 procedure numbers of the segment, if they are known.
     pub callees: Vec<Option<Callee>>,
 }
 
-/// Returns the sizes for an attribute table if it was already read.
+/// Returns the sizes that `sized` has for the attribute table `a`. Returns None if `a` was not read before.
 fn sized_before(sized: &[SizedTable], a: &Attributes) -> Option<Option<Callee>>
     ensures callee { (segment : List ℕ) → AllByRecursion (files.IsSizedTable segment) sized.now
         → IfSome result (λ callee. callee ≡ files.table_callee segment a.now) }
@@ -59,8 +61,8 @@ fn sized_before(sized: &[SizedTable], a: &Attributes) -> Option<Option<Callee>>
     None
 }
 
-/// Reads the procedure of an attribute table and its sizes. If the exit code is before the code, there is no procedure,
-/// and the sizes are unknown.
+/// Reads the procedure of the attribute table `a` from the decoded segment, and computes its sizes. If the exit code is
+/// before the code, the procedure is None and the sizes are unknown.
 #[tactic(auto, unfolding(crate::specs::Files::table_callee))]
 fn table_callee<'a>(
     alloc: Global,
@@ -92,7 +94,7 @@ fn table_callee<'a>(
     })
 }
 
-/// Returns the number of items of a cached procedure, or 0 if none is cached.
+/// Returns the number of items of the procedure that `sized` caches, or 0 if no procedure is cached.
 fn items_kept(sized: &SizedTable) -> usize
     ensures items { result ≡ files.items_kept sized.now }
 {
@@ -102,8 +104,8 @@ fn items_kept(sized: &SizedTable) -> usize
     }
 }
 
-/// Returns an attribute table, without its procedure if this has more than `room` items. Otherwise `room` is reduced by
-/// its items.
+/// Returns `sized` with its procedure if the procedure has at most `room` items. Then `room` is reduced by this number.
+/// Otherwise the procedure is removed from `sized`.
 fn within(sized: SizedTable, room: &mut usize) -> SizedTable
     ensures sized { (segment : List ℕ) → files.IsSizedTable segment sized → files.IsSizedTable segment result }
     ensures table { result.table ≡ sized.table }
@@ -124,8 +126,9 @@ fn within(sized: SizedTable, room: &mut usize) -> SizedTable
     }
 }
 
-/// Returns the sizes for an attribute table. Each table is read only once, because several words of a dictionary may
-/// refer to it. Procedures are cached as long as there is space for their items.
+/// Returns the sizes for the attribute table `a` and adds the table to `sized`. A table that `sized` already contains
+/// is not read again, because several words of a dictionary may refer to it. The procedure is cached if `room` allows
+/// its items.
 fn table_callee_once<'a>(
     alloc: Global,
     segment: &'a [u8],
@@ -150,8 +153,9 @@ fn table_callee_once<'a>(
     Ok(callee)
 }
 
-/// Reads the sizes for the 256 procedure numbers of `segment`, and its attribute tables. Procedures that have at most
-/// `room` items together are cached, and `room` is reduced by their items. The segment may have at most 65,534 bytes.
+/// Reads the sizes for the 256 procedure numbers of `segment`, and its attribute tables. Procedures are cached as long
+/// as they have at most `room` items together, and `room` is reduced by their items. The segment may have at most
+/// 65,534 bytes.
 ///
 /// # Errors
 ///
@@ -184,7 +188,7 @@ pub fn size_segment<'a>(
     })
 }
 
-/// Returns the first of `segments` that has the bytes of `segment`, or `None` if none of them has these bytes.
+/// Returns the first of `segments` that has the same bytes as `segment`. Returns None if no segment has these bytes.
 pub fn sized_as<'s, 'a>(
     segments: &'s [SizedSegment<'a>],
     segment: &[u8],
@@ -205,8 +209,8 @@ pub fn sized_as<'s, 'a>(
     }
 }
 
-/// Appends the sizes for the 256 procedure numbers of a segment. A segment is read only if `segments` does not contain
-/// its bytes, because several slots may have the same segment.
+/// Appends the sizes for the 256 procedure numbers of `segment` to `callees`. The segment is read only if `segments`
+/// has no segment with the same bytes: several slots may have the same segment.
 fn add_segment<'a>(
     alloc: Global,
     callees: &mut Vec<Option<Callee>>,
@@ -233,7 +237,7 @@ fn add_segment<'a>(
     Ok(())
 }
 
-/// Appends the sizes of the operating system's procedures.
+/// Appends the sizes of the procedures of the operating system to `callees`.
 fn add_system(callees: &mut Vec<Option<Callee>>) -> Result<(), AllocError>
     ensures callees { OnOk result (callees.new.items ≡ callees.old.items ++ (None ∷ files.system_from 1 255)) }
 {
@@ -244,7 +248,8 @@ fn add_system(callees: &mut Vec<Option<Callee>>) -> Result<(), AllocError>
     Ok(())
 }
 
-/// Appends the sizes for slot `n` of a code file, and adds its segment to `segments` if they do not contain it.
+/// Appends the sizes for slot `n` of `file` to `callees`. The segment of the slot is added to `segments` if `segments`
+/// does not contain it.
 fn add_slot<'a>(
     alloc: Global,
     callees: &mut Vec<Option<Callee>>,
@@ -268,18 +273,18 @@ fn add_slot<'a>(
 /// The sizes of the procedures of a code file, and its segments with their attribute tables.
 #[derive(Drop)]
 pub struct Sized<'a> {
-    /// The sizes: 256 entries for each slot, by procedure number. If slot 0 has no segment, its entries are those of
-    /// the operating system.
+    /// The sizes: 256 elements for each slot, by procedure number. If slot 0 has no segment, its elements are the sizes
+    /// of the procedures of the operating system.
     pub callees: Vec<Option<Callee>>,
-    /// The segments. Slots with the same bytes have one segment.
+    /// The segments of the code file. Slots with the same bytes share one element.
     pub segments: Vec<SizedSegment<'a>>,
 }
 
-/// Reads the sizes of all procedures of a code file. [`file`](crate::file) needs them before it can write the first
-/// statement, because each procedure may call any other.
+/// Reads the sizes of all procedures of `file`. [`file`](crate::file) needs all sizes before it writes the first
+/// statement, because each procedure may call any other procedure.
 ///
-/// Procedures are cached up to four items for each byte of the file. The limit is needed because several tables, and
-/// several segments, may refer to the same code.
+/// At most four items are cached for each byte of the file. The limit is needed because several tables, and several
+/// segments, may refer to the same code.
 ///
 /// # Errors
 ///

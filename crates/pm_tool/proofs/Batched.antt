@@ -1,4 +1,4 @@
--- Jobs that convert bytes to bytes. Their whole input or nothing of it was read, and their product is written.
+-- Jobs that convert bytes to bytes. Such a job reads its whole input or nothing, and then writes its product.
 use Rattle.std.proofs.Common.{◌≡◌, ◌≤◌, ℕ, List, [], None, Some, Bool, true, false, length, refl, sym, arith, subst}
 use Rattle.std.specs.Io.KnownBytes.{Appends, Consumes}
 use Rattle.pm_jobs.specs.declared.fault.Fault.{Fault}
@@ -35,7 +35,7 @@ written_product (Refused refusal) unread = refl
 written_product (Judged text refusal) unread = refl
 written_product (Saved text image) unread = refl
 
--- The whole product was written.
+-- If the input was read and the whole product was written, then the job finishes with its defined output.
 pub batch_done : (reads : Bool) (old new : Streams) (input : List ℕ) (make : List ℕ → Product) (outcome : Outcome)
     → IsInput reads old.source.remaining new.source.remaining input
     → Appends old.sink.contents new.sink.contents (said_product (make input) []).written
@@ -54,7 +54,8 @@ batch_done false old new input make outcome taken writes out =
     ))
     (subst IsSoundExit (sym (out []).exit) (sound_product (make input) []))
 
--- Nothing of the product was written.
+-- If a fault stops the job after it read its input and before it wrote anything, then the job has written a prefix of
+-- its defined output.
 pub batch_unwritten : (reads : Bool) (old : Streams) (now : Incoming) (input : List ℕ) (text : List ℕ → Said) (fault : Fault)
     → IsInput reads old.source.remaining now.remaining input
     → ((read : List ℕ) → length read ≤ INPUT_LIMIT → IsCause fault now.failed old.sink.failed read)
@@ -64,7 +65,8 @@ batch_unwritten false old now input text fault taken cause =
     broken_unwritten old now fault text []
     (subst (λ left. Consumes old.source.remaining left []) (sym taken.0) (consumes_none old.source.remaining)) (cause [] (omega arith))
 
--- A prefix of the product was written.
+-- If the input was read and a prefix of the product was written, then the job has written a prefix of its defined
+-- output.
 pub batch_broken : (reads : Bool) (old new : Streams) (input : List ℕ) (make : List ℕ → Product) (fault : Fault)
     → IsInput reads old.source.remaining new.source.remaining input
     → AppendsFront old.sink.contents new.sink.contents (said_product (make input) []).written

@@ -1,4 +1,5 @@
--- One turn of a run that is written while it is executed, and the ends of the run.
+-- A run whose output is written while it is executed: how one step continues the run, and how the run ends.
+-- The page is the output that is not yet written.
 use Rattle.std.proofs.Common.{◌≡◌, ℕ, ◌+◌, ◌-◌, ◌<◌, ◌≤◌, List, [], ◌∷◌, ◌++◌, None, true}
 use Rattle.std.proofs.Common.{false, length, refl, sym, ap, ◌∙◌, append_assoc, append-nil, arith, inl, inr, subst}
 use Rattle.std.proofs.lemmas.List.{length-append}
@@ -21,8 +22,8 @@ use Rattle.pm_tool.proofs.ReadWhole.{not_failed}
 use Rattle.pm_tool.proofs.Runs.{run_of-goes, run_of-waits, run_of-stuck, run_of-none}
 use Rattle.pm_jobs.proofs.Transfers.{cause_longer, front_trans}
 
--- A part of a run of at most `limit` steps from `began`. Bytes were keyed, and the output was written except the page.
--- It continues as a run of at most `n` steps from `m`.
+-- A run of at most `limit` steps from the state `began` has reached the state `m`, with at most `n` steps left. `taken`
+-- bytes were read as console input. The output so far was written, except `page`.
 pub record IsUnderWay (old now : Streams) (page : List ℕ) (taken : ℕ) (show : Show) (limit : ℕ) (began : State) (n : ℕ)
     (m : State) : Type 0 where
   pub read : List ℕ
@@ -45,7 +46,7 @@ under_way_none old page show limit n began blank e = record {
 
 module _ (old now : Streams) (page : List ℕ) (taken : ℕ) (show : Show) (limit : ℕ) (began : State) (n : ℕ) (m : State)
     (u : IsUnderWay old now page taken show limit began n m) where
-  -- The first part of the page is written.
+  -- If the page is written except for its last bytes `rest`, then the run continues with the page `rest`.
   pub under_way_turned : (sink : Outgoing) (rest : List ℕ) → AppendsBut now.sink.contents sink.contents rest page
       → IsUnderWay old (both now.source sink) rest taken show limit began n m
   under_way_turned sink rest turned = record {
@@ -57,7 +58,7 @@ module _ (old now : Streams) (page : List ℕ) (taken : ℕ) (show : Show) (limi
     run = u.run;
   }
 
-  -- The page is written and cleared.
+  -- If the whole page is written, then the run continues with an empty page.
   pub under_way_cleared : (sink : Outgoing) (blank : List ℕ) → Appends now.sink.contents sink.contents page → blank ≡ []
       → IsUnderWay old (both now.source sink) blank taken show limit began n m
   under_way_cleared sink blank a e = record {
@@ -69,7 +70,7 @@ module _ (old now : Streams) (page : List ℕ) (taken : ℕ) (show : Show) (limi
     run = u.run;
   }
 
-  -- The limit is reached.
+  -- If no steps are left, then the run has ended with `Limit`.
   pub over_limit : taken ≤ INPUT_LIMIT → n ≡ 0 → ComesToEnd old now page show limit began endings.Limit m
   over_limit few none = record {
     read = u.read;
@@ -82,11 +83,11 @@ module _ (old now : Streams) (page : List ℕ) (taken : ℕ) (show : Show) (limi
     drained = λ w. cc;
   }
 
-  -- A prefix of the output so far is a prefix of the output of the run.
+  -- If `front` is a prefix of the output so far, then `front` is a prefix of the output of the whole run.
   begins : (front rest : List ℕ) → IsFront front u.shown → IsFront front (run_of show limit (u.read ++ rest) began).shown
   begins front rest f = rw (u.run rest) (front_trans front u.shown (u.shown ++ (run_of show n rest m).shown) f ((run_of show n rest m).shown, refl))
 
-  -- The page is not written.
+  -- If a fault stops the run between two steps, and the page is not written, then the run has stopped short.
   pub broken_between : (fault : Fault) → now.source.failed ≡ false
       → ((read : List ℕ) → length read ≡ taken → IsCause fault now.source.failed now.sink.failed read)
       → StopsShort old now show limit began fault
@@ -102,7 +103,7 @@ module _ (old now : Streams) (page : List ℕ) (taken : ℕ) (show : Show) (limi
         cause = cause u.read u.count;
       }
 
-  -- The page could not be written.
+  -- If only a prefix of the page could be written, then the run has stopped short.
   pub broken_writing : (sink : Outgoing) (fault : Fault) → taken ≤ INPUT_LIMIT → AppendsFront now.sink.contents sink.contents page
       → now.source.failed ≡ false → IsCause fault false sink.failed [] → StopsShort old (both now.source sink) show limit began fault
   broken_writing sink fault few a well cause =
@@ -117,7 +118,7 @@ module _ (old now : Streams) (page : List ℕ) (taken : ℕ) (show : Show) (limi
         cause = rw well (cause_longer fault sink.failed u.read (rw u.count few) cause);
       }
 
-  -- No byte could be read for a step that waits, and the page is empty.
+  -- If the read of a byte for a step that waits fails, and the page is empty, then the run has stopped short.
   pub broken_reading : (source : Incoming) (fault : Fault) → Keeps now.source.remaining source.remaining → fault ≡ faults.Read
       → source.failed ≡ true → now.sink.failed ≡ false
       → page ≡ [] → (after : State) → 0 < n → stepped m ≡ (after, Waiting) → StopsShort old (both source now.sink) show limit began fault
@@ -133,7 +134,7 @@ module _ (old now : Streams) (page : List ℕ) (taken : ℕ) (show : Show) (limi
   }
 
   module _ (page' : List ℕ) (after : State) (some : 0 < n) where
-    -- A step that succeeded.
+    -- If a step succeeds and its output is appended to the page, then the run continues with one step less.
     pub under_way_went : (k : ℕ) → stepped m ≡ (after, Went) → page' ≡ page ++ shown_by show m after Went → k ≡ n - 1
         → IsUnderWay old now page' taken show limit began k after
     under_way_went k step grown ke =
@@ -173,7 +174,7 @@ module _ (old now : Streams) (page : List ℕ) (taken : ℕ) (show : Show) (limi
       drained = λ w. cc;
     }
 
-    -- A step that waits has no output.
+    -- If a step waits, then the page is unchanged.
     pub under_way_waited : page' ≡ page ++ shown_by show m after Waiting → IsUnderWay old now page' taken show limit began n m
     under_way_waited grown = record {
       read = u.read;
@@ -184,7 +185,8 @@ module _ (old now : Streams) (page : List ℕ) (taken : ℕ) (show : Show) (limi
       run = u.run;
     }
 
-    -- The byte for which it waited is keyed.
+    -- If a step waits and a byte is read and appended to the console input queue, then the run continues with the same
+    -- number of steps.
     pub under_way_key : (source : Incoming) (key : ℕ) (m' : State) → stepped m ≡ (after, Waiting)
         → Consumes now.source.remaining source.remaining (key ∷ [])
         → m' ≡ next after (Key key)
@@ -199,7 +201,7 @@ module _ (old now : Streams) (page : List ℕ) (taken : ℕ) (show : Show) (limi
           ∙ ap (after_showing u.shown) (run_of-waits show n key rest m after some step) ∙ ap (λ t. after_showing u.shown (run_of show n rest t)) (sym keyed);
     }
 
-    -- No byte is left.
+    -- If a step waits and no byte remains, then the run has ended with `Waiting`.
     pub over_waiting : (source : Incoming) → taken ≤ INPUT_LIMIT → stepped m ≡ (after, Waiting)
         → ReadsByte now.source.remaining source.remaining None
         → ComesToEnd old (both source now.sink) page show limit began endings.Waiting after
@@ -215,7 +217,7 @@ module _ (old now : Streams) (page : List ℕ) (taken : ℕ) (show : Show) (limi
       drained = λ _. none.1;
     }
 
--- The page is empty, and no byte could be read for a step that waits.
+-- If no byte could be accepted for a step that waits, and the page is empty, then the run has stopped short.
 pub broken_taking : (old now : Streams) (source : Incoming) (page : List ℕ) (taken : ℕ) (show : Show) (limit : ℕ)
     (began : State) (n : ℕ) (m : State) → IsUnderWay old now page taken show limit began n m → TakesNone now.source source taken
     → (fault : Fault) → fault ≡ faults.Read → now.sink.failed ≡ false → page ≡ [] → (after : State) → 0 < n → stepped m ≡ (after, Waiting)

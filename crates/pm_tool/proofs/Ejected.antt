@@ -1,4 +1,4 @@
--- A disk that is ejected leaves those on other units unchanged.
+-- The ejection of a disk leaves the disks on other units unchanged.
 use Rattle.std.proofs.Common.{◌≡◌, ◌≢◌, ◌∙◌, ℕ, List, Option, None, get_or, arith, refl, sym}
 use Rattle.std.proofs.lemmas.List.{get_or-set_other}
 use Rattle.pm_machine.specs.State.{State}
@@ -6,11 +6,11 @@ use Rattle.pm_machine.specs.Events.{Eject, next}
 use Rattle.pm_units.specs.Devices.{ejected, ejected_image, unit_of}
 use Rattle.pm_units.specs.declared.ports.Port.TheVariants.{Disk}
 
--- The image at an index, in a state.
+-- Returns the image at index `k` of the disks of state `s`, or None if it does not exist.
 abbrev at_place : ℕ → State → Option (List ℕ)
 at_place k s = get_or s.devices.disks k None
 
--- The state without the disk of a unit with this index.
+-- If the disk with index `k` is ejected, then the image at any other index `j` is unchanged.
 taken_at : (unit k j : ℕ) (s : State) → unit_of unit ≡ Disk k → j ≢ k → at_place j (next s (Eject unit)) ≡ at_place j s
 unfolding ejected
 taken_at unit k j s is differs = rw is (get_or-set_other s.devices.disks k j None None differs)
@@ -19,13 +19,13 @@ image_of : (unit j : ℕ) (s : State) → unit_of unit ≡ Disk j → ejected_im
 unfolding ejected_image
 image_of unit j s is = rw is refl
 
--- The image on a unit after another disk was ejected.
+-- If the disk of `unit` is ejected, then the image of any other unit `other` is unchanged.
 pub still_there : (unit other k j : ℕ) (s : State) → unit_of unit ≡ Disk k → unit_of other ≡ Disk j → j ≢ k
     → ejected_image other (next s (Eject unit)).devices ≡ ejected_image other s.devices
 still_there unit other k j s is_unit is_other differs =
     image_of other j (next s (Eject unit)) is_other ∙ taken_at unit k j s is_unit differs ∙ sym (image_of other j s is_other)
 
--- Units and their indexes.
+-- The index of the disk of each unit.
 fourth : unit_of 4 ≡ Disk 0
 unfolding unit_of
 fourth = refl
@@ -50,7 +50,7 @@ twelfth : unit_of 12 ≡ Disk 5
 unfolding unit_of
 twelfth = refl
 
--- The states after each disk that is ejected.
+-- The states after the disks of the units were ejected, one after the other.
 abbrev pub no_4 : State → State
 no_4 s = next s (Eject 4)
 

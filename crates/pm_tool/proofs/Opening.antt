@@ -1,4 +1,4 @@
--- Images that are opened one after the other.
+-- Images that are opened one after the other, up to the first image that is no volume.
 use Rattle.std.proofs.Common.{◌≡◌, ◌<◌, ℕ, ◌+◌, List, [], ◌∷◌, ◌++◌, Option, None, Some, Vec, vec_items, option_map}
 use Rattle.std.proofs.Common.{length, take, set, refl, sym, ap, ◌∙◌, append_assoc, append-nil, arith}
 use Rattle.std.proofs.lemmas.List.{take_more_set}
@@ -8,7 +8,7 @@ use Rattle.pm_volume.specs.declared.fault.VolumeFault.{VolumeFault}
 use Rattle.pm_tool.specs.Disks.{disk_fault, first_bad, first_disk_fault, here_or, images_of}
 
 module _ {Z : Type 0} (rest rest' : List (Option (Vec ℕ Z))) (image : Option (Vec ℕ Z)) (next : rest ≡ image ∷ rest') where
-  -- One more image is opened.
+  -- If `image` is still to be opened and its index is `place`, then `place` is below 6, the number of images.
   pub place_below : (place : ℕ) → place + length rest ≡ 6 → place < 6
   place_below place count =
       let one = ap length next in
@@ -19,19 +19,19 @@ module _ {Z : Type 0} (rest rest' : List (Option (Vec ℕ Z))) (image : Option (
       let one = ap length next in
       omega arith
 
-  -- The image is a volume.
+  -- If the next image is a volume, then the first fault is that of the images after it.
   pub fault_later : (fault : Option VolumeFault) → fault ≡ first_disk_fault (images_of rest) → disk_fault (option_map vec_items image) ≡ None
       → fault ≡ first_disk_fault (images_of rest')
   fault_later fault so_far sound =
       so_far ∙ ap (λ images. first_disk_fault (images_of images)) next ∙ ap (λ f. option_or f (first_disk_fault (images_of rest'))) sound
 
-  -- The image is no volume.
+  -- If the next image is no volume, then the first fault is the fault of this image.
   pub fault_here : (fault : Option VolumeFault) (this : VolumeFault) → fault ≡ first_disk_fault (images_of rest)
       → disk_fault (option_map vec_items image) ≡ Some this → fault ≡ Some this
   fault_here fault this so_far found =
       so_far ∙ ap (λ images. first_disk_fault (images_of images)) next ∙ ap (λ f. option_or f (first_disk_fault (images_of rest'))) found
 
-  -- The same for its index.
+  -- If the next image is a volume, then the index of the first bad image is that among the images after it.
   pub place_later : (found : Option ℕ) (place : ℕ) → found ≡ first_bad place (images_of rest)
       → disk_fault (option_map vec_items image) ≡ None → found ≡ first_bad (place + 1) (images_of rest')
   place_later found place so_far sound =

@@ -1,4 +1,4 @@
--- From a run of the machine to the defined output.
+-- If a run of the machine ends or stops, then the job has its defined output or a prefix of it.
 use Rattle.std.proofs.Common.{◌≡◌, ℕ, List, [], ◌++◌, Some, false, Result, Ok, Err, refl, sym, ap, ◌∙◌, append-nil, subst}
 use Rattle.std.specs.Io.KnownBytes.{Appends, Keeps, IsAtEnd}
 use Rattle.std.proofs.KnownBytes.{Appends-nil}
@@ -59,7 +59,7 @@ module _ (old now : Streams) (page : List ℕ) (show : Show) (limit : ℕ) (bega
   end_grown = but_grown old.sink.contents now.sink.contents page o.shown (end_text show ending m.steps) (page ++ end_text show ending m.steps) o.writes refl
 
   module _ (sink : Outgoing) where
-    -- The end was written.
+    -- If the rest of the output was written after the end of the run, then the job finishes with its defined output.
     pub done_over : (outcome : Outcome) → Appends now.sink.contents sink.contents (page ++ end_text show ending m.steps)
         → ((shown unread : List ℕ) → IsOutcome outcome (said_run show (ended_run shown ending m unread)))
         → Finishes old (both now.source sink) outcome (λ input. said_run show (run_of show limit input began))
@@ -77,7 +77,7 @@ module _ (old now : Streams) (page : List ℕ) (show : Show) (limit : ℕ) (bega
       exit = subst IsSoundExit (sym ((out [] []).exit ∙ said_exit show (ended_run [] ending m []))) (sound_ending ending);
     }
 
-    -- The end was not written completely.
+    -- If only a prefix of the rest of the output was written, then the job has written a prefix of its defined output.
     pub broken_telling : (fault : Fault) → AppendsFront now.sink.contents sink.contents (page ++ end_text show ending m.steps)
         → now.source.failed ≡ false → IsCause fault false sink.failed []
         → BreaksOff old (both now.source sink) fault (λ input. said_run show (run_of show limit input began))
@@ -96,7 +96,7 @@ module _ (old now : Streams) (page : List ℕ) (show : Show) (limit : ℕ) (bega
           cause = rw well (cause_longer fault sink.failed o.read o.few cause);
         }
 
--- A run that a fault stopped.
+-- If a fault stops the run, then the job has written a prefix of its defined output.
 pub broken_run : (old new : Streams) (show : Show) (limit : ℕ) (began : State) (fault : Fault) → StopsShort old new show limit began fault
     → BreaksOff old new fault (λ input. said_run show (run_of show limit input began))
 broken_run old new show limit began fault b = record {
@@ -127,7 +127,7 @@ pub started_broken : (old new : Streams) (show : Show) (limit : ℕ) (start : Re
     → BreaksOff old new fault (λ input. said_run show (run_of show limit input m)) → BreaksOff old new fault (said_started show limit start)
 started_broken old new show limit start m fault e b = subst (λ s. BreaksOff old new fault (said_started show limit s)) e b
 
--- None starts: the job is refused before any input is read.
+-- If no machine starts, then the job finishes with the refusal and reads no input.
 pub talk_refused : (talk : Talk) (old : Streams) (start : Result State Refusal) (refusal : Refusal) (outcome : Outcome)
     → Err refusal ≡ start
     → ((unread : List ℕ) → IsOutcome outcome (refused refusal unread)) → Finishes old old outcome (said_talk talk start)

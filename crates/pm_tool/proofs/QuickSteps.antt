@@ -1,4 +1,4 @@
--- A run continues over steps without output.
+-- A run continues after steps that have no output.
 use Rattle.std.proofs.Common.{◌≡◌, ◌<◌, ◌≤◌, ℕ, zero, suc, ◌-◌, ◌++◌, List, [], drop, length, refl, sym, ap, ◌∙◌, append-nil, arith, subst}
 use Rattle.std.proofs.lemmas.List.{drop_all}
 use Rattle.pm_machine.specs.State.{State}
@@ -14,7 +14,7 @@ use Rattle.pm_tool.specs.declared.steps.Show.TheVariants.{Trace, Console}
 use Rattle.pm_tool.specs.Run.{Unshown, shown_of}
 use Rattle.pm_tool.proofs.Driven.{IsUnderWay, under_way_went}
 
--- Nothing of a list follows its end.
+-- If all elements of a list are dropped, then the empty list remains.
 drop_whole : (xs : List ℕ) → drop (length xs) xs ≡ []
 drop_whole xs = drop_all (length xs) xs (omega arith)
 
@@ -30,7 +30,7 @@ quick_steps_unshown saving limit s count t g = record {
       ∙ drop_whole s.devices.console;
 }
 
--- One step on the fast path, or none.
+-- If the fast path executed one step (`count` is 1), then this step succeeded and led to `t`.
 pub quick_step_went : (s : State) (count : ℕ) (t : State) → QuickSteps 1 s count t → count ≡ 1 → stepped s ≡ (t, Went)
 unfolding after_steps
 quick_step_went s count t g e =

@@ -1,4 +1,4 @@
--- Jobs that read all of their input before they write.
+-- Jobs that read their whole input before they write.
 use Rattle.std.proofs.Common.{◌≡◌, ℕ, List, [], ◌∷◌, ◌++◌, Option, None, Some, Result, Bool, true, false, refl, sym, ap, ◌∙◌, append-nil, subst, IfSome, IfErr}
 use Rattle.std.specs.Io.KnownBytes.{Consumes, Appends, Keeps, IsAtEnd}
 use Rattle.std.proofs.KnownBytes.{Appends-nil}
@@ -14,7 +14,8 @@ use Rattle.pm_tool.specs.Disks.{loaded}
 use Rattle.pm_tool.specs.Said.{said_started, said_work, IsSoundExit, Tells, TellsAll, Finishes, BreaksOff}
 use Rattle.pm_jobs.specs.Streams.{Incoming, Streams, both, IsFront, AppendsFront, IsCause, ReadsAll}
 
--- If the input is known, it is what was read and what is left.
+-- If the job has its defined output for `read` followed by any known rest of the input, then it has its defined output
+-- for the input.
 pub tells_known : (old new : Streams) (read : List ℕ) → Consumes old.source.remaining new.source.remaining read → (outcome : Outcome) (text : List ℕ → Said)
     → ((rest : List ℕ) → new.source.remaining ≡ Some rest → Tells old new outcome (text (read ++ rest)))
     → TellsAll old new outcome text
@@ -34,7 +35,7 @@ pub not_failed : {A : Type 0} (failed : Bool) → failed ≡ false → failed �
 not_failed false well bad = cc
 not_failed true well bad = cc
 
--- A fault stopped the job before anything was written.
+-- If a fault stops the job before it writes anything, then the job has written a prefix of its defined output.
 pub broken_unwritten : (old : Streams) (now : Incoming) (fault : Fault) (text : List ℕ → Said) (read : List ℕ)
     → Consumes old.source.remaining now.remaining read → IsCause fault now.failed old.sink.failed read → BreaksOff old (both now old.sink) fault text
 broken_unwritten old now fault text read reads cause = record {
@@ -56,7 +57,7 @@ module _ (old new : Streams) (input : List ℕ) (reads : ReadsAll old.source.rem
   text_all : (rest : List ℕ) → new.source.remaining ≡ Some rest → text (input ++ rest) ≡ text input
   text_all rest e = ap text (ap (λ r. input ++ r) (no_rest rest e) ∙ append-nil input)
 
-  -- The whole input was read, and then the whole output was written.
+  -- If the whole input was read and then the whole output was written, then the job finishes with its defined output.
   pub done_whole : (outcome : Outcome) → Appends old.sink.contents new.sink.contents (text input).written → IsOutcome outcome (text input)
       → (text input).unread ≡ [] → IsSoundExit outcome.exit
       → Finishes old new outcome text
@@ -68,7 +69,8 @@ module _ (old new : Streams) (input : List ℕ) (reads : ReadsAll old.source.rem
     exit = sound;
   }
 
-  -- The whole input was read, and then a prefix of the output was written.
+  -- If the whole input was read and then a prefix of the output was written, then the job has written a prefix of its
+  -- defined output.
   pub broken_writing : (fault : Fault) → AppendsFront old.sink.contents new.sink.contents (text input).written → new.source.failed ≡ false
       → IsCause fault false new.sink.failed [] → BreaksOff old new fault text
   broken_writing fault writes well cause = record {
@@ -99,7 +101,7 @@ nothing_left (Some []) read unread c k = sym k
 nothing_left (Some (y ∷ rest)) [] unread c k = cc
 nothing_left (Some (y ∷ rest)) (x ∷ read) unread c k = cc
 
--- A source without bytes.
+-- The state of a source that never had any bytes.
 abbrev empty : Incoming
 empty = record { remaining = Some []; failed = false; given = 0 }
 
@@ -119,7 +121,7 @@ module _ (old new : Streams) (input : List ℕ) (reads : ReadsAll old.source.rem
       broken_writing old new input reads (text_of selection limit) fault
       (b.cut.front, b.cut.writes, rw none at b.cut.so_far) well (rw none at b.cause)
 
--- The job has this work.
+-- If the work `work` is equal to `this`, then what holds for a fault of `this` holds for a fault of `work`.
 pub broken_work : (work this : Work) (old new : Streams) (result : Result Outcome Fault)
     → IfErr result (λ fault. BreaksOff old new fault (said_work this)) → work ≡ this
     → IfErr result (λ fault. BreaksOff old new fault (said_work work))

@@ -1,4 +1,5 @@
--- One byte of a session that is written while it is executed, and the ends of the session.
+-- A debugger session whose answers are written while it is executed: how one byte continues the session, and how the
+-- session ends.
 use Rattle.std.proofs.Common.{◌≡◌, ℕ, ◌+◌, ◌<◌, ◌≤◌, List, [], ◌∷◌, ◌++◌, Option, None, Some, Result, Ok, Bool, true, false, length, refl, sym, ap, ◌∙◌}
 use Rattle.std.proofs.Common.{append_assoc, append-nil, inl, inr, arith, subst, Vec, drop, get_or, suc}
 use Rattle.std.specs.declared.alloc.Global.{Global}
@@ -31,7 +32,8 @@ use Rattle.pm_session.proofs.SessionLaws.{after_telling, answer_quit, told_byte,
 use Rattle.pm_session.proofs.SessionLaws.{told_quit, told_start, whole_lines_byte, whole_lines_feed, whole_lines_none}
 use Rattle.pm_jobs.proofs.Transfers.{cause_longer, front_after, front_trans}
 
--- A part of a session. Bytes were read, answers were written, and the last line has these bytes so far.
+-- A session that began in the state `began` has reached the state `d`. `taken` bytes were read, the answers to all
+-- whole lines were written, and `line` has the bytes of the line that is not yet complete.
 pub record IsTalking (old now : Streams) (line : List ℕ) (taken : ℕ) (began d : Session) : Type 0 where
   pub read : List ℕ
   pub shown : List ℕ
@@ -67,7 +69,7 @@ module _ (old now : Streams) (line : List ℕ) (taken : ℕ) (began d : Session)
     more_run : (rest : List ℕ) → told ((u.read ++ c ∷ []) ++ rest) began ≡ after_telling u.shown (told_from line (c ∷ rest) d)
     more_run rest = ap (λ input. told input began) (append_assoc u.read (c ∷ []) rest) ∙ u.run (c ∷ rest)
 
-    -- A byte of the line.
+    -- If the byte `c` is no line feed, then the session continues with `c` appended to `line`.
     pub talking_byte : (line' : List ℕ) → (c == 10) ≡ false → line' ≡ line ++ c ∷ [] → IsTalking old (both source now.sink) line' (taken + 1) began d
     talking_byte line' h e = record {
       read = u.read ++ c ∷ [];
@@ -79,7 +81,7 @@ module _ (old now : Streams) (line : List ℕ) (taken : ℕ) (began d : Session)
       prompt = ap (λ lines. (told lines began).text) (whole_lines_byte u.read c h) ∙ u.prompt;
     }
 
-    -- A fault stops the session after a byte.
+    -- If a fault stops the session after a byte was read and before more was written, then the session was interrupted.
     pub cut_behind : (fault : Fault) → source.failed ≡ false
         → ((read : List ℕ) → length read ≡ taken + 1 → IsCause fault source.failed now.sink.failed read)
         → IsInterrupted old (both source now.sink) began fault
@@ -96,7 +98,7 @@ module _ (old now : Streams) (line : List ℕ) (taken : ℕ) (began d : Session)
     }
 
     module _ (feed : (c == 10) ≡ true) (sink : Outgoing) where
-      -- A line is answered.
+      -- If the line is answered and its command is not `quit`, then the session continues with an empty line.
       pub talking_line : (line' : List ℕ) (d' : Session) → is_quit (order_of line) ≡ false
           → Appends now.sink.contents sink.contents (answer_line (order_of line) d) → line' ≡ []
           → d' ≡ session_after (order_of line) d → IsTalking old (both source sink) line' (taken + 1) began d'
@@ -120,7 +122,7 @@ module _ (old now : Streams) (line : List ℕ) (taken : ℕ) (began d : Session)
           regroup : (a b : List ℕ) (t : Told) → after_telling a (after_telling b t) ≡ after_telling (a ++ b) t
           regroup a b t = ap (λ text. record t { text = text }) (sym (append_assoc a b t.text))
 
-      -- The session ends by `quit`.
+      -- If the command of the line is `quit` and its answer is written, then the session has ended.
       pub told_by_quit : is_quit (order_of line) ≡ true → Appends now.sink.contents sink.contents (answer_line (order_of line) d)
           → taken + 1 ≤ INPUT_LIMIT → IsAnswered old (both source sink) began
       told_by_quit q a few = record {
@@ -136,7 +138,7 @@ module _ (old now : Streams) (line : List ℕ) (taken : ℕ) (began d : Session)
         drained = λ e. cc;
       }
 
-      -- The answer could not be written.
+      -- If only a prefix of the answer was written, then the session was interrupted.
       pub cut_answering : (fault : Fault) → AppendsFront now.sink.contents sink.contents (answer_line (order_of line) d)
           → taken + 1 ≤ INPUT_LIMIT → source.failed ≡ false
           → IsCause fault false sink.failed [] → IsInterrupted old (both source sink) began fault
@@ -158,7 +160,7 @@ module _ (old now : Streams) (line : List ℕ) (taken : ℕ) (began d : Session)
           answered rest false e = ((told rest (session_after (order_of line) d)).text, ap (λ t. t.text) (told_line line c rest d feed e))
 
   module _ (source : Incoming) (none : ReadsByte now.source.remaining source.remaining None) where
-    -- The input ends after a line feed.
+    -- If the input ends after a line feed, then the session has ended.
     pub told_at_end : length line ≡ 0 → taken ≤ INPUT_LIMIT → IsAnswered old (both source now.sink) began
     told_at_end size few = let e = empty_is line size in record {
       read = u.read;
@@ -173,7 +175,7 @@ module _ (old now : Streams) (line : List ℕ) (taken : ℕ) (began d : Session)
     }
 
     module _ (some : 0 < length line) (sink : Outgoing) where
-      -- The last line has no line feed.
+      -- If the input ends after a line without a line feed and this line is answered, then the session has ended.
       pub told_at_last : Appends now.sink.contents sink.contents (answer_line (order_of line) d) → taken ≤ INPUT_LIMIT
           → IsAnswered old (both source sink) began
       told_at_last a few = record {
@@ -204,7 +206,7 @@ module _ (old now : Streams) (line : List ℕ) (taken : ℕ) (began d : Session)
         cause = rw well (cause_longer fault sink.failed u.read (rw u.count few) cause);
       }
 
-  -- No byte could be read.
+  -- If a read failed, then the session was interrupted.
   pub cut_reading : (source : Incoming) (fault : Fault) → Keeps now.source.remaining source.remaining → fault ≡ faults.Read
       → source.failed ≡ true → now.sink.failed ≡ false
       → IsInterrupted old (both source now.sink) began fault
@@ -220,7 +222,7 @@ module _ (old now : Streams) (line : List ℕ) (taken : ℕ) (began d : Session)
     cause = rw e (well, inl failed);
   }
 
--- No byte could be read.
+-- If no byte could be accepted, then the session was interrupted.
 pub cut_taking : (old now : Streams) (source : Incoming) (line : List ℕ) (taken : ℕ) (began d : Session)
     → IsTalking old now line taken began d → TakesNone now.source source taken → (fault : Fault) → fault ≡ faults.Read
     → now.sink.failed ≡ false
@@ -307,7 +309,8 @@ opened_is d machine a b w l p s =
     ∙ ap (λ passes. record (opened machine) { passes = passes; shows_console = d.shows_console }) p
     ∙ ap (λ shows. record (opened machine) { shows_console = shows }) s
 
--- A session of the machine that starts, with the bytes in its queue, is the defined one.
+-- If the bytes `typed` are in the queue of the machine that starts, then the output of the session is the defined
+-- output.
 pub session_said : (talk : Talk) (start : Result State Refusal) (typed : Vec ℕ Global) (m n : State)
     → talk ≡ talks.Session typed → Ok m ≡ start → n ≡ typed_into typed.items m → debugged n ≡ said_talk talk start
 session_said talk start typed m n t e k =
@@ -315,7 +318,7 @@ session_said talk start typed m n t e k =
 
 -- ---- bytes that are in the queue from the start on
 
--- One more byte is in the queue.
+-- If the byte at index `i` is appended to the queue, then the bytes from index `i + 1` on are still to be appended.
 pub typed_more : (bytes : List ℕ) (i : ℕ) (m n : State) → i < length bytes → n ≡ next m (Key (get_or bytes i 0))
     → typed_into (drop i bytes) m ≡ typed_into (drop (i + 1) bytes) n
 typed_more bytes i m n inside e =
@@ -323,6 +326,6 @@ typed_more bytes i m n inside e =
     ap (λ bs. typed_into bs m) (drop-cons bytes i 0 inside ∙ ap (λ j. get_or bytes i 0 ∷ drop j bytes) one)
     ∙ ap (typed_into (drop (i + 1) bytes)) (sym e)
 
--- No byte is left.
+-- If `i` is at least the number of bytes, then no byte remains to be appended and the machine is unchanged.
 pub typed_over : (bytes : List ℕ) (i : ℕ) (m : State) → length bytes ≤ i → typed_into (drop i bytes) m ≡ m
 typed_over bytes i m over = ap (λ bs. typed_into bs m) (drop_all i bytes over)

@@ -1,4 +1,4 @@
--- Jobs that read none of their input.
+-- Jobs that read nothing of their input.
 use Rattle.std.proofs.Common.{◌≡◌, ℕ, List, [], Option, Some, false, sym, ◌∙◌, arith, subst}
 use Rattle.std.specs.Io.KnownBytes.{Consumes, Appends, Keeps}
 use Rattle.std.proofs.KnownBytes.{Consumes-nil}
@@ -16,7 +16,7 @@ module _ (old new : Streams) (same : new.source.remaining ≡ old.source.remaini
   nothing_read : Consumes old.source.remaining new.source.remaining []
   nothing_read = subst (λ left. Consumes old.source.remaining left []) (sym same) (consumes_none old.source.remaining)
 
-  -- Nothing was read, and then the whole output was written.
+  -- If nothing was read and the whole output was written, then the job finishes with its defined output.
   pub done_unread : (outcome : Outcome)
       → ((input : List ℕ) → Appends old.sink.contents new.sink.contents (text input).written × IsOutcome outcome (text input) × ((text input).unread ≡ input))
       → IsSoundExit outcome.exit → Finishes old new outcome text
@@ -30,7 +30,8 @@ module _ (old new : Streams) (same : new.source.remaining ≡ old.source.remaini
     exit = sound;
   }
 
-  -- Nothing was read, and then a prefix of the output was written.
+  -- If nothing was read and a prefix of the output was written, then the job has written a prefix of its defined
+  -- output.
   pub broken_unread : (fault : Fault) (written : List ℕ) → ((input : List ℕ) → (text input).written ≡ written)
       → AppendsFront old.sink.contents new.sink.contents written → new.source.failed ≡ false → IsCause fault false new.sink.failed []
       → BreaksOff old new fault text

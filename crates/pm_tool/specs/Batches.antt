@@ -1,4 +1,4 @@
--- Jobs that convert bytes to bytes: the defined output of each for its input, and how the input is read.
+-- Jobs that convert bytes to bytes: the defined output of each job for its input, and how the job reads its input.
 use Rattle.std.specs.Prelude.{◌≡◌, ℕ, Bool, true, false, List, [], Option, if◌then◌else◌}
 use Rattle.pm_volume.specs.Copies.{repaired}
 use Rattle.pm_volume.specs.declared.fault.VolumeFault.{VolumeFault}
@@ -12,15 +12,16 @@ use Rattle.pm_batch.specs.Products.{Product}
 use Rattle.pm_tool.specs.Outcomes.{Said}
 use Rattle.pm_tool.specs.Products.{said_product}
 
--- The defined output for an input that is read to the end, or not at all, by its product.
+-- The defined output of a job for its input. `make` maps the bytes that the job reads to its product. If `reads` is
+-- true, the job reads its whole input; otherwise it reads nothing and all of `input` is unread.
 abbrev pub said_making : Bool → (List ℕ → Product) → List ℕ → Said
 said_making reads make input = if reads then said_product (make input) [] else said_product (make []) input
 
--- The defined output of a job for its input.
+-- The defined output of `job` for `input`.
 abbrev pub said_batch : Batch → List ℕ → Said
 said_batch job input = said_making (reads_input job) (made_of job) input
 
--- The same for a command on an image, for a new volume or its refusal, and for the repair of an image.
+-- The defined output of a command on an image, of the creation of a volume, and of the repair of an image.
 abbrev pub said_files : List ℕ → Order → List ℕ → Said
 said_files image order input =
     said_making (reads_file (opened_image image) order) (made_file (opened_image image) order) input
@@ -37,7 +38,8 @@ said_check image input = said_product (made_check image) input
 abbrev pub said_salvage : List ℕ → Bool → List ℕ → Said
 said_salvage image second input = said_product (made_salvage (salvaged image second)) input
 
--- The input as it is read: all of it, or nothing.
+-- The bytes `input` that a job has read. If the first argument is true, the source had `had` bytes and all were read.
+-- If it is false, nothing was read and `input` is empty.
 abbrev pub IsInput : Bool → Option (List ℕ) → Option (List ℕ) → List ℕ → Type 0
 IsInput true had left input = ReadsAll had left input
 IsInput false had left input = (left ≡ had) × (input ≡ [])

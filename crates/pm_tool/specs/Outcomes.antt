@@ -1,4 +1,4 @@
--- The outcomes of jobs, as numbers and text.
+-- The outcomes of jobs: their exit status, message and other parts.
 use Rattle.std.specs.Prelude.{◌≡◌, ℕ, Bool, true, false, List, [], ◌∷◌, Option}
 use Rattle.std.specs.Prelude.{None, Some, vec_items, option_map, string_bytes}
 use Rattle.pm_machine.specs.State.{State}
@@ -15,7 +15,7 @@ use Rattle.pm_tool.specs.declared.outcome.Outcome.{Outcome}
 use Rattle.pm_tool.specs.Disks.{images_of}
 use Rattle.pm_tool.specs.Stops.{AreStops}
 
--- The exit status of the process.
+-- The exit status of the process for each kind of end.
 abbrev pub exit_number : Exit → ℕ
 exit_number exits.Ended = 0
 exit_number exits.Usage = 1
@@ -26,7 +26,7 @@ exit_number exits.WriteFault = 4
 exit_number exits.NoMemory = 5
 exit_number exits.Stopped = 6
 
--- The end is neither a stream fault nor out of memory.
+-- Is true if a job with this exit ended neither with a stream fault nor with out of memory.
 abbrev pub is_sound_exit : Exit → Bool
 is_sound_exit exits.Ended = true
 is_sound_exit exits.Usage = true
@@ -47,7 +47,7 @@ is_refusal exits.WriteFault = false
 is_refusal exits.NoMemory = false
 is_refusal exits.Stopped = false
 
--- The exit of a job whose run ended in this way.
+-- The exit of a job whose run ended with `Ending`.
 abbrev pub exit_of : Ending → Exit
 exit_of endings.Ended = exits.Ended
 exit_of (endings.Error error) = exits.ExecutionError
@@ -59,7 +59,8 @@ fault_exit faults.Read = exits.ReadFault
 fault_exit faults.Write = exits.WriteFault
 fault_exit faults.NoMemory = exits.NoMemory
 
--- The message of an end: the text of a fault, or otherwise the message.
+-- The message of a job with this exit. For a stream fault or out of memory it is the text of the fault. Otherwise it is
+-- `message`.
 abbrev pub exit_text : Exit → List ℕ → List ℕ
 exit_text exits.Ended message = message
 exit_text exits.Usage message = message
@@ -73,7 +74,8 @@ exit_text exits.Stopped message = message
 abbrev pub outcome_text : Outcome → List ℕ
 outcome_text outcome = exit_text outcome.exit (string_bytes outcome.message)
 
--- A refusal names its fault, which is not out of memory, and the message is its text. No other end names a refusal.
+-- The exit, the refusal and the message of a job agree. If a refusal is given, the exit is `Refused`, the message is
+-- the text of the refusal, and the refusal is not out of memory. If no refusal is given, the exit is not `Refused`.
 abbrev pub Names : Exit → Option Refusal → List ℕ → Type 0
 Names exit None message = is_refusal exit ≡ false
 Names exit (Some refusal) message =
@@ -82,16 +84,16 @@ Names exit (Some refusal) message =
 abbrev pub SaysWhy : Outcome → Type 0
 SaysWhy outcome = Names outcome.exit outcome.refusal (string_bytes outcome.message)
 
--- No images on units 5, 9, 10, 11 and 12.
+-- The images of units 5, 9, 10, 11 and 12 if none of them is saved.
 abbrev pub no_others : List (Option (List ℕ))
 no_others = None ∷ None ∷ None ∷ None ∷ None ∷ []
 
--- The defined output of a job for an input:
+-- The defined output of a job for an input. It has these fields:
 --
--- - what it writes, how it ends, and its message,
--- - the image that is saved and those of units 5, 9, 10, 11 and 12,
--- - its printer bytes, and the unread part of the input,
--- - the state in which an error stopped it.
+-- - `written`, `exit` and `message`: the bytes that the job writes, how it ends, and its message,
+-- - `image` and `others`: the image that is saved, and the saved images of units 5, 9, 10, 11 and 12,
+-- - `printer` and `unread`: the printed bytes, and the part of the input that is not read,
+-- - `stopped`: the state in which an error stopped the run, if an error stopped it.
 pub record Said : Type 0 where
   pub written : List ℕ
   pub exit : Exit
@@ -102,7 +104,7 @@ pub record Said : Type 0 where
   pub unread : List ℕ
   pub stopped : Option State
 
--- A refused input: nothing is written, and the message states the refusal.
+-- The defined output of a job that is refused: nothing is written, and the message states the refusal.
 abbrev pub refused : Refusal → List ℕ → Said
 refused refusal unread =
     record {
@@ -116,7 +118,7 @@ refused refusal unread =
       stopped = None;
     }
 
--- The exit after an image or a source text was checked: success, or a refusal, which the message states.
+-- The exit of a job that checks an image or a source text: `Refused` if a refusal is given, and `Ended` otherwise.
 abbrev pub judged_exit : Option Refusal → Exit
 judged_exit None = exits.Ended
 judged_exit (Some refusal) = exits.Refused
@@ -125,7 +127,8 @@ abbrev pub judged_message : Option Refusal → List ℕ
 judged_message None = []
 judged_message (Some refusal) = refusal_text refusal
 
--- A report on an image or a source text that may be refused. It is written in both cases.
+-- The defined output of a job that writes a report on an image or a source text. The report `text` is written even if
+-- the input is refused.
 abbrev pub judged : List ℕ → Option Refusal → List ℕ → Said
 judged text refusal unread =
     record {
@@ -139,7 +142,7 @@ judged text refusal unread =
       stopped = None;
     }
 
--- The outcome is the defined output.
+-- The outcome that the code returned has the values of the defined output `told`.
 pub record IsOutcome (outcome : Outcome) (told : Said) : Type 0 where
   pub exit : outcome.exit ≡ told.exit
   pub message : string_bytes outcome.message ≡ told.message

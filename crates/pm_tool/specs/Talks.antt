@@ -1,4 +1,4 @@
--- A session that is written while it is executed.
+-- A debugger session, whose answers are written while it is executed.
 use Rattle.std.specs.Prelude.{◌≡◌, ◌≤◌, ℕ, Bool, true, List, [], ◌++◌, length}
 use Rattle.std.specs.Io.KnownBytes.{Appends, Consumes, IsAtEnd}
 use Rattle.pm_debug.specs.Session.{Session}
@@ -7,7 +7,8 @@ use Rattle.pm_jobs.specs.declared.source.TheConstants.{INPUT_LIMIT}
 use Rattle.pm_session.specs.Sessions.{told, whole_lines}
 use Rattle.pm_jobs.specs.Streams.{Streams, IsCause, IsFront}
 
--- The session has ended. These bytes were read and these were written. If it ended with the input, none are left.
+-- The session has ended. The bytes `read` were read, and the answers `shown` were written. If the session ended because
+-- the input ended (`ended`), no bytes remain.
 pub record IsAnswered (old new : Streams) (began : Session) : Type 0 where
   pub read : List ℕ
   pub shown : List ℕ
@@ -19,8 +20,9 @@ pub record IsAnswered (old new : Streams) (began : Session) : Type 0 where
       → told (read ++ rest) began ≡ record { text = shown; unread = rest }
   pub drained : ended ≡ true → IsAtEnd new.source.remaining
 
--- A fault stopped the session. What was written is a prefix of the answers for any rest of the input. If a read failed,
--- it is the answers to all whole lines that were read: a line is answered before the next one is read.
+-- A fault stopped the session. The bytes `front` that were written are a prefix of the answers for any further input.
+-- If a read failed, they are the answers to all whole lines that were read: each line is answered before the next line
+-- is read.
 pub record IsInterrupted (old new : Streams) (began : Session) (fault : Fault) : Type 0 where
   pub read : List ℕ
   pub front : List ℕ

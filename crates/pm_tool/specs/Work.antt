@@ -1,4 +1,4 @@
--- The kinds of jobs.
+-- Groups jobs by how they use their streams.
 use Rattle.pm_batch.specs.declared.batch.Batch.TheVariants as batches
 use Rattle.pm_tool.specs.declared.outcome.Job.{Job}
 use Rattle.pm_tool.specs.declared.outcome.Job.TheVariants as jobs
@@ -10,7 +10,7 @@ use Rattle.pm_tool.specs.declared.work.Work.TheVariants as works
 use Rattle.pm_batch.specs.Files.{opened_image}
 use Rattle.pm_check.specs.Forms.{form_seen}
 
--- The work of a job: to use a machine, to show a code file, or to convert bytes to bytes.
+-- The work of a job: to start and use a machine, to disassemble a code file, or to convert bytes to bytes.
 abbrev pub work_of : Job → Work
 work_of (jobs.Raw limit selection) = works.Raw limit selection
 work_of (jobs.Run disks name limit saving system) =

@@ -1,4 +1,5 @@
-//! Jobs that convert bytes to bytes, as one function of their input. They read the whole input or nothing of it.
+//! Jobs that convert bytes to bytes. The output of such a job is one function of its input. A job reads its whole
+//! input, or none of it.
 ghost use Rattle.std.specs.Prelude.{◌≡◌, false, [], List, ℕ, IfOk, IfErr, OnOk, OnErr};
 ghost use Rattle.std.specs.Io.KnownBytes.{Appends, Consumes};
 ghost use Rattle.pm_batch.specs.Batches.{reads_input};
@@ -14,7 +15,7 @@ use pm_batch::{Batch, Made, make};
 use pm_jobs::{Fault, Sink, Source, read_all, write_all};
 use std::alloc::Global;
 
-/// Returns the whole input of a job that reads it. For another job it reads nothing and returns no bytes.
+/// Returns the whole input if `job` reads its input. Otherwise it reads nothing and returns an empty list.
 fn input_of<R: Source>(alloc: Global, source: &mut R, job: &Batch) -> Result<Vec<u8>, Fault>
     requires well { (R.seen source.old).failed ≡ false }
     ensures input { IfOk result (λ input. IsInput (reads_input job.now) (R.seen source.old).remaining
@@ -32,7 +33,7 @@ fn input_of<R: Source>(alloc: Global, source: &mut R, job: &Batch) -> Result<Vec
     Ok(input)
 }
 
-/// Writes the product of a job and returns the outcome.
+/// Writes the bytes or the text of `made`, the product of a job, to `sink`. Returns the outcome of the job.
 fn deliver<W: Sink>(alloc: Global, sink: &mut W, made: Made) -> Result<Outcome, Fault>
     requires well { (W.seen sink.old).failed ≡ false }
     ensures written { OnOk result (Appends (W.seen sink.old).contents (W.seen sink.new).contents
@@ -64,7 +65,7 @@ fn deliver<W: Sink>(alloc: Global, sink: &mut W, made: Made) -> Result<Outcome, 
     }
 }
 
-/// Executes a job that converts bytes to bytes.
+/// Executes `job`: reads its input from `source`, writes its output to `sink`, and returns its outcome.
 pub(crate) fn do_batch<R: Source, W: Sink>(
     alloc: Global,
     source: &mut R,

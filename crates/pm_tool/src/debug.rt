@@ -1,4 +1,4 @@
-//! The session of a debugger.
+//! The session of a debugger: commands are read line by line and answered.
 ghost use Rattle.std.specs.Prelude.{◌≡◌, false, true, not, [], IfOk, IfErr, OnOk, OnErr};
 ghost use Rattle.std.specs.Io.KnownBytes.{Appends};
 ghost use Rattle.pm_debug.specs.Session.{session_of};
@@ -13,7 +13,8 @@ use pm_jobs::{Fault, Sink, Source, next_byte, write_all};
 use pm_session::answer;
 use std::alloc::Global;
 
-/// Answers one line. Returns whether the session continues.
+/// Executes the command in `line` and writes the answer to `sink`. Returns false if the command was `quit`, and true
+/// otherwise.
 fn turn<W: Sink>(
     alloc: Global,
     sink: &mut W,
@@ -38,7 +39,8 @@ fn turn<W: Sink>(
     Ok(true)
 }
 
-/// Reads lines and answers them, up to `quit` or the end of the input.
+/// Reads lines from `source` and answers each with `debugger`, until `quit` or the end of the input. A last line
+/// without a line feed is also answered if it is not empty.
 pub(crate) fn converse<R: Source, W: Sink>(
     alloc: Global,
     source: &mut R,

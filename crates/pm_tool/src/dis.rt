@@ -1,4 +1,4 @@
-//! The job on a code file. Its output is written while it is created.
+//! The job on a code file (`dis`). It writes the output of a procedure before it creates the output of the next one.
 ghost use Rattle.std.specs.Prelude.{◌≡◌, true, false, [], List, ℕ, IfOk, IfErr, OnOk, OnErr};
 ghost use Rattle.std.specs.Io.KnownBytes.{Appends};
 ghost use Rattle.pm_tool.specs.Batches.{said_making};
@@ -15,7 +15,8 @@ use pm_jobs::{DisOutput, Fault, Sink, Source, read_all};
 use pm_writing::write_code;
 use std::alloc::Global;
 
-/// Writes the requested output for the code file in the bytes, or refuses the bytes.
+/// Writes the requested output for the code file `input`. If `input` is no code file, nothing is written and the
+/// outcome is a refusal.
 fn show_code<W: Sink>(
     alloc: Global,
     sink: &mut W,
@@ -41,7 +42,7 @@ fn show_code<W: Sink>(
     Ok(Outcome::plain(alloc, Exit::Ended, String::new(alloc)))
 }
 
-/// Executes the job on a code file.
+/// Executes the job on a code file: reads it from `source`, writes its output to `sink`, and returns the outcome.
 pub(crate) fn do_dis<R: Source, W: Sink>(
     alloc: Global,
     source: &mut R,

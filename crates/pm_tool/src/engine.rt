@@ -1,4 +1,4 @@
-//! Jobs, from the bytes that are read to the bytes that are written.
+//! Executes jobs: each job maps the bytes that it reads to the bytes that it writes.
 ghost use Rattle.std.specs.Prelude.{◌≡◌, false, true, [], None, IfOk, IfErr, OnOk, OnErr, codes};
 ghost use Rattle.pm_tool.specs.Disks.{NamesFileIn, loaded, images_of};
 ghost use Rattle.pm_tool.specs.Hex.{hex_spelled};
@@ -18,7 +18,8 @@ use crate::work::{Work, work_of};
 use pm_jobs::{Fault, Nothing, Selection, Sink, Source, read_all};
 use std::alloc::Global;
 
-/// Writes the trace of the program in the input.
+/// Reads a program as hexadecimal digits from `source` and writes the trace of its run to `sink`. At most `limit` steps
+/// are executed, and only the lines that `selection` selects are written.
 fn raw<R: Source, W: Sink>(
     alloc: Global,
     source: &mut R,
@@ -46,7 +47,7 @@ fn raw<R: Source, W: Sink>(
     Ok(outcome)
 }
 
-/// Executes a job, or returns the fault that stopped it.
+/// Executes `job` and returns its outcome, or returns the fault that stopped the job.
 fn do_job<R: Source, W: Sink>(
     alloc: Global,
     source: &mut R,
@@ -73,7 +74,7 @@ fn do_job<R: Source, W: Sink>(
     }
 }
 
-/// Returns the outcome of a job that a fault stopped. It needs no memory.
+/// Returns the outcome of a job that `fault` stopped. The function requests no memory.
 fn broken_off(alloc: Global, fault: Fault) -> Outcome
     ensures exit { result.exit ≡ fault_exit fault }
     ensures image { result.image ≡ None }
@@ -84,31 +85,35 @@ fn broken_off(alloc: Global, fault: Fault) -> Outcome
     Outcome::plain(alloc, Exit::of_fault(fault), String::new(alloc))
 }
 
-/// Executes a job: reads its input, writes its output, and returns its outcome.
+/// Executes `job`: reads its input from `source`, writes its output to `sink`, and returns its outcome.
 ///
-/// Neither stream may have failed before. An input of more than `INPUT_LIMIT` bytes is a read fault.
+/// Neither stream may have failed before. If the input has more than `INPUT_LIMIT` bytes, the job ends with a read
+/// fault.
 pub fn run<R: Source, W: Sink>(alloc: Global, source: &mut R, sink: &mut W, job: Job) -> Outcome
     requires well { AreWell (both (R.seen source.old) (W.seen sink.old)) }
 
-    // What is written, returned and left unread is exactly the defined output for the input.
+    // If the outcome is neither a stream fault nor out of memory, and the input is known, the job wrote, returned and
+    // left unread exactly what the definition `job_said` states for this input.
     ensures exact { IsSoundExit result.exit → TellsAll (both (R.seen source.old) (W.seen sink.old))
         (both (R.seen source.new) (W.seen sink.new)) result (job_said job) }
 
-    // After a stream fault or out of memory, a prefix of the defined output was written.
+    // If the outcome is a stream fault or out of memory, the job wrote a prefix of the defined output.
     ensures cut { IsCutShort result.exit →
         TellsFront (both (R.seen source.old) (W.seen sink.old)) (both (R.seen source.new) (W.seen sink.new))
         (job_said job) }
 
-    // If a read failed, all that the program had shown by then was written, and every whole line of a session was
-    // answered. Output is written before more input is read.
+    // If a read failed, everything that the program had shown before this read was written, and every whole line of a
+    // session was answered. The job writes its output before it reads more input.
     ensures prompt { IsPrompt job (both (R.seen source.old) (W.seen sink.old))
         (both (R.seen source.new) (W.seen sink.new)) }
 
-    // A stream fault is returned if and only if a read or a write failed or the input is too long. The text names it.
+    // The outcome is a read fault if and only if a read failed or the input is too long. The outcome is a write fault
+    // if and only if a write failed.
     ensures fails { FailsExactly (both (R.seen source.old) (W.seen sink.old))
         (both (R.seen source.new) (W.seen sink.new)) result.exit }
 
-    // The same for a read fault by the byte count of the source, even if the source does not report its bytes.
+    // The outcome is a read fault if and only if a read failed or the byte count of the source exceeds the limit. This
+    // clause also holds for a source that does not report its bytes.
     ensures counted { CountsExactly (both (R.seen source.old) (W.seen sink.old))
         (both (R.seen source.new) (W.seen sink.new)) result.exit }
     ensures fault { result.exit ≡ Exit.ReadFault → outcome_text result ≡ codes "read fault" }
@@ -117,8 +122,8 @@ pub fn run<R: Source, W: Sink>(alloc: Global, source: &mut R, sink: &mut W, job:
     ensures nothing_else { IsCutShort result.exit →
         (result.image ≡ None) × (images_of result.others ≡ no_others) × (result.printer.items ≡ []) }
 
-    // A refusal names its fault by its text, and never means out of memory. For a program it names the file that it is
-    // about.
+    // The text of a refusal names the fault. A refusal never means out of memory. If a program is refused, the outcome
+    // names the file that the refusal is about.
     ensures told { SaysWhy result }
     ensures about { IsSoundExit result.exit → NamesFileIn (work_of job) result }
 {

@@ -12,16 +12,17 @@ use std::fmt;
 /// A hint for a program that does not start.
 #[derive(Drop)]
 pub enum Hint {
-    /// No file has the name of the program, but one has this name, which ends with `.CODE`.
+    /// No file has the name of the program. But a file exists with this name, which is the program's name with `.CODE`
+    /// appended.
     Named(String),
-    /// Slot 1 of the code file of the program is empty.
+    /// The file of the program is a code file, but its slot 1 is empty.
     NoFirst {
-        /// The first slot with a segment of number 1, if there is one.
+        /// The first slot with a segment of number 1, if such a slot exists.
         first: Option<u8>,
         /// Whether slot 0 has a segment.
         has_system: bool,
     },
-    /// The file of the program is no code file because of this fault.
+    /// The file of the program is no code file. This is the fault that was found.
     NoCode(CodeFault),
 }
 
@@ -51,7 +52,8 @@ impl fmt::Display for Hint {
     }
 }
 
-/// Whether a slot has a segment with this number. The number is the low byte of the highest word of the segment.
+/// Returns whether slot `slot` of `file` has a segment with number `number`. The number of a segment is the low byte of
+/// its highest word.
 fn has_number(file: &CodeFile<'_>, slot: u8, number: u8) -> bool
     ensures value { result ≡ has_number number (segment_in file.now slot) }
 {
@@ -61,7 +63,7 @@ fn has_number(file: &CodeFile<'_>, slot: u8, number: u8) -> bool
     }
 }
 
-/// Returns the first slot that has a segment with this number.
+/// Returns the first slot of `file` that has a segment with number `number`, or None if no slot has one.
 fn slot_of(file: &CodeFile<'_>, number: u8) -> Option<u8>
     ensures has { IfSome result (λ slot. has_number number (segment_in file.now slot) ≡ true) }
 {
@@ -73,8 +75,8 @@ fn slot_of(file: &CodeFile<'_>, number: u8) -> Option<u8>
     None
 }
 
-/// Returns the hint about the code file with this name: its fault, or its slots. Returns `None` if there is no such
-/// file.
+/// Returns a hint about the file `name` of `volume`: the contents of its slots, or its fault if it is no code file.
+/// Returns None if `volume` has no such file.
 fn hint_of_code(volume: &Volume, name: &str) -> Option<Hint> {
     let entry = volume.find(name)?;
     match CodeFile::read(volume.file(&entry)?) {
@@ -86,7 +88,8 @@ fn hint_of_code(volume: &Volume, name: &str) -> Option<Hint> {
     }
 }
 
-/// Returns the name with `.CODE` appended if a file has this name and the name can be shown.
+/// Returns the hint `name` with `.CODE` appended. Returns None if `volume` has no such file, if `name` has control
+/// characters, or if memory is refused.
 fn hint_of_name(alloc: Global, volume: &Volume, name: &str) -> Option<Hint> {
     let longer = format!(in alloc; "{name}.CODE").ok()?;
     volume.find(longer.as_str())?;
@@ -96,7 +99,8 @@ fn hint_of_name(alloc: Global, volume: &Volume, name: &str) -> Option<Hint> {
     Some(Hint::Named(longer))
 }
 
-/// Returns the hint for a program of a volume that does not start because of this fault, if there is a hint.
+/// Returns a hint for the program `name` on `volume`, which does not start because of `fault`. Returns None if no hint
+/// exists.
 pub(crate) fn hint_for(
     alloc: Global,
     volume: &Option<Volume>,

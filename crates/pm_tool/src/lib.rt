@@ -1,4 +1,4 @@
-//! The engine of the program. It executes one job, from the bytes that are read to the bytes that are written.
+//! The engine of the program. It executes one job: it reads input bytes and writes output bytes.
 #![tactic(auto)]
 
 mod batch;

@@ -12,30 +12,34 @@ use pm_jobs::{AsmOutput, DisOutput, Fault, Saving, Selection};
 use pm_session::Ending;
 use std::alloc::{AllocError, Global};
 
-/// A job.
+/// A job: one execution of a command of `pmach`.
 #[derive(Drop)]
 pub enum Job {
-    /// Runs the program in the input. Its bytes are pairs of hexadecimal digits in upper or lower case. White space
-    /// (tabs, line feeds, carriage returns and spaces) is allowed everywhere except within a pair.
+    /// Runs the program in the input. The input has the bytes of the program as pairs of hexadecimal digits in upper or
+    /// lower case. White space (tabs, line feeds, carriage returns and spaces) is allowed everywhere except within a
+    /// pair.
     ///
-    /// The output is the trace of at most `limit` steps, and only its selected lines are written. Any other input is
-    /// refused with `refused hex 1`, and a program of more than 60,000 bytes with `refused boot 3`.
+    /// The output is the trace of at most `limit` steps. Only the lines that `selection` selects are written. An input
+    /// that is not hexadecimal is refused with `refused hex 1`. A program of more than 60,000 bytes is refused with
+    /// `refused boot 3`.
     Raw {
         limit: u32,
         selection: Selection,
     },
-    /// Runs a program: the code file `name` on the disk of unit 4. The disks are those of units 4, 5, 9, 10, 11 and 12.
+    /// Runs a program: the code file `name` on the disk of unit 4. `disks` has the images on units 4, 5, 9, 10, 11 and
+    /// 12.
     ///
     /// The input is the console input: each time that the program waits for console bytes, one byte is read. The output
-    /// is what the program writes to the console. The message is the last line of a trace. The outcome has the bytes of
-    /// the printer and the images that `saving` selects, as the program left them.
+    /// is what the program writes to the console. The message is the last line of a trace, such as `ended K`. The
+    /// outcome has the bytes that were printed, and the images that `saving` selects, in their state at the end of the
+    /// run.
     ///
-    /// With `system`, the code file `name` on the image gets the segment of slot 0 of this code file, as by
-    /// `pm_filer::put_system`.
+    /// If `system` is given, it is a code file. Before the run, its segment of slot 0 is added to the code file `name`
+    /// on the image, as by `pm_filer::put_system`.
     ///
     /// # Errors
     ///
-    /// All are checked in this order, before any input is read:
+    /// These refusals are checked in this order, before any input is read:
     ///
     /// - `refused volume N`: an image is no volume. The images are opened in the order of the units.
     /// - `refused system N`: the system segment cannot be added.
@@ -47,9 +51,9 @@ pub enum Job {
         saving: Saving,
         system: Option<Vec<u8>>,
     },
-    /// Runs the same program. The output is only its trace: a line for each selected step that does not wait, of the
-    /// state before it, and a last line. The last line is `ended K`, `error N K`, `limit K` after `limit` steps, or
-    /// `waiting K` if no input is left.
+    /// Runs a program like `Run`. The output is only the trace: a line for each step that `selection` selects and that
+    /// does not wait, and a last line. The line of a step shows the state before the step. The last line is `ended K`,
+    /// `error N K`, `limit K` after `limit` steps, or `waiting K` if no input remains.
     Trace {
         disks: [Option<Vec<u8>>; 6],
         name: String,
@@ -57,46 +61,49 @@ pub enum Job {
         system: Option<Vec<u8>>,
         selection: Selection,
     },
-    /// Opens a debugger of the same program, which does not run by itself. Each line of the input is a command and is
-    /// answered before the next one is read. The session ends after the line of `quit` or with the input. The job then
-    /// succeeds, even if the machine did not.
+    /// Opens a debugger of a program that is given as in `Run`. Only commands execute steps. Each line of the input is
+    /// a command and is answered before the next line is read. The session ends after the command `quit` or at the end
+    /// of the input. The job then succeeds, even if the program ended with an error.
     ///
-    /// The console output is shown only by commands, and no input is passed to the console. The bytes of `typed` are in
-    /// the console input queue from the start on.
+    /// The console output is shown only by commands, and no input is passed to the console. At the start, the console
+    /// input queue has the bytes of `typed`.
     Debug {
         disks: [Option<Vec<u8>>; 6],
         name: String,
         system: Option<Vec<u8>>,
         typed: Vec<u8>,
     },
-    /// Assembles the source text in the input. Each byte above 127 is character 127. The output is one of four:
+    /// Assembles the source text in the input. Each byte above 127 is read as character 127. The output is one of the
+    /// following:
     ///
-    /// - The code file of its program, or its listing. Any other text is refused with `refused asm N LINE`: the number
-    ///   of its first fault, and the line. If one of its segments is too long, it is refused with `refused asm 7
+    /// - The code file of the program, or its listing. A text with faults is refused with `refused asm N LINE`: the
+    ///   number and the line of its first fault. If a segment is too long, the text is refused with `refused asm 7
     ///   SEGMENT`.
-    /// - A line for each of its faults, in ascending order of the lines that they name: the message for a text with
-    ///   only this fault. These are the first fault of each line that has one. If there are none, they are the first
-    ///   fault of the labels of each line. If there are none of these either, it is the segment that is too long. The
-    ///   job is refused with the first of them, as above. If there are none, nothing is written.
-    /// - A line `SSS PPP OOOOO NAME` for each of its procedures and labels, in the order of the text. SSS and PPP are
-    ///   the numbers of the segment and the procedure. OOOOO is the offset in bytes from the entry of the procedure.
-    ///   NAME is the label, or `.PROC` for the procedure itself. Any other text is refused as above.
+    /// - One line for each fault, in ascending order of the lines that the faults name. The line is the message for a
+    ///   text with only this fault. The faults are the first fault of each line. If no line has a fault, they are the
+    ///   first fault of the labels of each line. If no label has a fault either, the fault is the segment that is too
+    ///   long. The job is refused with the first of these faults, as above. If the text has no fault, nothing is
+    ///   written.
+    /// - A line `SSS PPP OOOOO NAME` for each procedure and each label, in the order of the text. SSS and PPP are the
+    ///   numbers of the segment and the procedure. OOOOO is the offset in bytes from the entry of the procedure. NAME
+    ///   is the label, or `.PROC` for the procedure itself. A text with faults is refused as above.
     Asm(AsmOutput),
-    /// Disassembles the code file in the input. Any other input is refused with `refused code N` and the slot that the
-    /// fault names. The output is one of four:
+    /// Disassembles the code file in the input. Any other input is refused with `refused code N`, followed by the slot
+    /// that the fault names. The output is one of the following:
     ///
-    /// - Its source text: its segments in ascending order of their slots, each with its procedures.
-    /// - The same with names. A comment after each line `CSP n` or `CXP 0, n` has the name of the standard procedure or
-    ///   of the system's procedure, if the number has one.
-    /// - Its listing by its own bytes and offsets, in any layout. For each segment, in ascending order, it has a line
-    ///   for each item, jump entry and attribute table of its procedures, in the order of its dictionary, and for the
+    /// - The source text: the segments in ascending order of their slots, each with its procedures.
+    /// - The source text with names. If the number `n` in a line `CSP n` or `CXP 0, n` has a name, the line ends with a
+    ///   comment: the name of standard procedure `n` or of procedure `n` of the system.
+    /// - The listing, with the bytes and offsets of the code file. Segments are in ascending order. Each has a line for
+    ///   each item, jump entry and attribute table of its procedures, in the order of its dictionary, and for its
     ///   dictionary.
-    /// - Its code as statements. For each segment, in ascending order, each procedure has a line with its name and a
-    ///   line for each statement. A statement is its instructions with each operation on its operands.
+    /// - The code as statements. Segments are in ascending order. Each procedure has a line with its name and a line
+    ///   for each statement. A statement shows each operation of its instructions together with the operands.
     Dis(DisOutput),
-    /// Executes a command on the volume of an image. A put reads its bytes or text from the input, and a copy reads the
-    /// image of the other volume from it. No other command reads the input. The output is the list, the bytes or the
-    /// text of a file. After a change the outcome has the image to be saved.
+    /// Executes a command on the volume of an image. A put reads the bytes or the text of the file from the input. A
+    /// copy reads the image of the other volume from the input. No other command reads the input. The output is the
+    /// list of the volume, or the bytes or the text of a file. If the command changes the volume, the outcome has the
+    /// image to be saved.
     ///
     /// # Errors
     ///
@@ -108,31 +115,32 @@ pub enum Job {
         image: Vec<u8>,
         command: FileCommand,
     },
-    /// Creates a volume with this name and number of blocks, without files. The outcome has its image. The input is not
-    /// read.
+    /// Creates a volume with this name, this number of blocks, and no files. The outcome has the image of the volume.
+    /// The input is not read.
     ///
     /// # Errors
     ///
     /// - `refused volume 10`: the name is not valid.
-    /// - `refused volume 3`: there are fewer than 6 blocks.
+    /// - `refused volume 3`: the number of blocks is less than 6.
     New {
         name: String,
         blocks: u16,
     },
-    /// Repairs an image of which only the first copy of the directory is damaged: the good second copy replaces it. An
-    /// image that is a volume is unchanged. The outcome has the image to be saved. The input is not read. Any other
-    /// image is refused with `refused volume N`.
+    /// Repairs an image of which only the first copy of the directory is damaged: the valid second copy replaces the
+    /// first. An image that is a volume remains unchanged. The outcome has the image to be saved. The input is not
+    /// read. Any other image is refused with `refused volume N`.
     Repair {
         image: Vec<u8>,
     },
-    /// Writes the faults of an image, which can have any bytes. The input is not read. If the image is no volume, it is
-    /// refused with `refused volume N` after the output.
+    /// Writes the faults of an image. The image can have any bytes. The input is not read. If the image is no volume,
+    /// the job is refused with `refused volume N` after the faults are written.
     Check {
         image: Vec<u8>,
     },
-    /// Copies files of an image, which can have any bytes, to a new volume. These are the files whose directory entries
-    /// are valid by themselves, in the first copy of the directory or, with `second`, in the second copy. The outcome
-    /// has the image of the new volume. The output is a line for each entry. The input is not read.
+    /// Copies files of an image, which can have any bytes, to a new volume. A file is copied if its directory entry is
+    /// valid by itself. The entries are read from the second copy of the directory if `second` is true, and otherwise
+    /// from the first copy. The outcome has the image of the new volume. The output has a line for each entry. The
+    /// input is not read.
     ///
     /// # Errors
     ///
@@ -144,24 +152,24 @@ pub enum Job {
     },
 }
 
-/// The end of a job.
+/// The kind of end of a job.
 #[derive(Clone, Copy, Debug, PartialEq, Eq)]
 pub enum Exit {
-    /// It succeeded.
+    /// The job succeeded.
     Ended,
-    /// The command line is invalid. No job returns this.
+    /// The command line is invalid. No job returns this variant.
     Usage,
     /// The input was refused.
     Refused,
     /// The program stopped at an execution error.
     ExecutionError,
-    /// A read failed, or the input was too long.
+    /// A read failed, or the input had more than `INPUT_LIMIT` bytes.
     ReadFault,
     /// A write failed.
     WriteFault,
-    /// Memory was requested and refused.
+    /// The host had no more memory.
     NoMemory,
-    /// The program reached the limit of its steps, or waited and no input was left.
+    /// The program reached the limit of its steps, or it waited and no input remained.
     Stopped,
 }
 
@@ -181,7 +189,7 @@ impl Exit {
         }
     }
 
-    /// Returns the exit of a job that this fault stopped.
+    /// Returns the exit of a job that `fault` stopped.
     pub fn of_fault(fault: Fault) -> Exit
         ensures value { result ≡ fault_exit fault }
     {
@@ -205,56 +213,57 @@ impl Exit {
     }
 }
 
-/// The images on units 5, 9, 10, 11 and 12, in this order, that are to be saved.
+/// The images on units 5, 9, 10, 11 and 12, in this order. An element is None if the unit has no image to be saved.
 pub type OtherImages = [Option<Vec<u8>>; 5];
 
-/// Returns no images.
+/// Returns five elements None: no image is to be saved.
 pub(crate) fn no_images() -> OtherImages
     ensures none { images_of result ≡ no_others }
 {
     [None, None, None, None, None]
 }
 
-/// The file that the refusal of a program is about.
+/// The file because of which a program was refused.
 #[derive(Clone, Copy)]
 pub enum About {
-    /// The image on this unit: an image that is no volume, or the image of unit 4, which contains the program.
+    /// The image on this unit. It is either an image that is no volume, or the image of unit 4, which contains the
+    /// program.
     Unit(u8),
-    /// The code file of the system.
+    /// The code file with the system segment.
     System,
 }
 
-/// The outcome of a job in addition to what it wrote.
+/// The outcome of a job: everything that the job returns in addition to the bytes that it wrote.
 #[derive(Drop)]
 pub struct Outcome {
     pub exit: Exit,
-    /// The message, without a line feed at its end. It may be empty. It is empty after a fault, for which `text`
-    /// returns the message.
+    /// The message, without a line feed at its end. The message may be empty. After a stream fault or out of memory it
+    /// is empty, and `text` returns the text of the fault.
     pub message: String,
-    /// The image of a volume to be saved, if there is one. For a run it is that on unit 4.
+    /// The image of a volume that is to be saved, if the job has one. For a run it is the image on unit 4.
     pub image: Option<Vec<u8>>,
     /// The images on the other disk units that are to be saved after a run.
     pub others: OtherImages,
-    /// The bytes that were printed.
+    /// The bytes that the program printed.
     pub printer: Vec<u8>,
-    /// The reason why the input was refused, if it was.
+    /// The refusal, if the input was refused.
     pub refusal: Option<Refusal>,
-    /// The reason of the end of the run that the message states, if it states one.
+    /// The reason for the end of the run, if the message states one.
     pub ending: Option<Ending>,
-    /// The text that a terminal shows instead of the reason of the refusal, if there is one and there was memory for
-    /// it. For an assembler source text it has the line that the refusal names and a hint. For `asm --all` it has those
-    /// of the first faults.
+    /// The text that a terminal shows instead of the reason for the refusal. None if no such text exists or memory was
+    /// refused. For an assembler source text, the text has the line that the refusal names and a hint. For `asm --all`,
+    /// it has the lines and hints of the first faults.
     pub line: Option<String>,
-    /// The state in which an error stopped the run.
+    /// The state in which an error stopped the run, if an error stopped it.
     pub stopped: Option<Stopped>,
-    /// The file that the refusal of a program is about.
+    /// The file that the refusal is about, if a program was refused because of a file.
     pub about: Option<About>,
-    /// The hint for a program that does not start, if there is one and there was memory for it.
+    /// The hint for a program that does not start. None if no hint exists or memory was refused.
     pub hint: Option<Hint>,
 }
 
 impl Outcome {
-    /// Creates an outcome without images and printer bytes.
+    /// Creates an outcome with this `exit` and `message`, without images and printed bytes.
     pub(crate) fn plain(alloc: Global, exit: Exit, message: String) -> Outcome
         ensures exit { result.exit ≡ exit }
         ensures message { result.message ≡ message }
@@ -279,7 +288,7 @@ impl Outcome {
         }
     }
 
-    /// Creates an outcome with an image to save, and without a message and printer bytes.
+    /// Creates the outcome of a successful job with an `image` to save, without a message and printed bytes.
     pub(crate) fn with_image(alloc: Global, image: Vec<u8>) -> Outcome
         ensures exit { result.exit ≡ Exit.Ended }
         ensures message { string_bytes result.message ≡ [] }
@@ -294,8 +303,8 @@ impl Outcome {
         outcome
     }
 
-    /// Returns the message without a line feed at its end. After a fault it is the text of the fault, which needs no
-    /// memory.
+    /// Returns the message without a line feed at its end. After a stream fault or out of memory it returns the text of
+    /// the fault, which needs no memory.
     pub fn text(&self) -> &str
         ensures value { result.now ≡ outcome_text self.now }
     {
@@ -308,8 +317,8 @@ impl Outcome {
     }
 }
 
-/// Refuses the input. The outcome has the text for a terminal, the file that the refusal is about, and the hint, if
-/// these are known. Nothing is written.
+/// Returns the outcome for an input that is refused with `refusal`. The outcome has the text for a terminal (`line`),
+/// the file that the refusal is about (`about`), and the `hint`, as far as each is given.
 pub(crate) fn refuse_for(
     alloc: Global,
     refusal: Refusal,
@@ -340,7 +349,8 @@ pub(crate) fn refuse_for(
     })
 }
 
-/// Refuses the input. The outcome has the text for a terminal if it is known. Nothing is written.
+/// Returns the outcome for an input that is refused with `refusal`. The outcome has the text for a terminal (`line`),
+/// if it is given.
 pub(crate) fn refuse_line(
     alloc: Global,
     refusal: Refusal,
@@ -352,8 +362,8 @@ pub(crate) fn refuse_line(
     refuse_for(alloc, refusal, line, None, None)
 }
 
-/// Returns the outcome of a job that checks an image or a source text: success, or a refusal with the text for a
-/// terminal if it is known.
+/// Returns the outcome of a job that checks an image or a source text. It is a success if `refusal` is None. Otherwise
+/// it is a refusal, with the text for a terminal (`line`) if it is given.
 pub(crate) fn conclude(
     alloc: Global,
     refusal: Option<Refusal>,

@@ -1,4 +1,4 @@
-//! The machines at the start of programs.
+//! Creates the machine that executes a program, at the start of this program.
 ghost use Rattle.std.specs.Prelude.{◌≡◌, ◌≢◌, Ok, Err, Some, None, IfOk, IfErr, OnOk, option_map, vec_items};
 ghost use Rattle.pm_tool.specs.Disks.{booted, booted_about, disk_fault, first_bad, first_disk_fault, first_with};
 ghost use Rattle.pm_tool.specs.Disks.{images_of, images_with, loaded, machine_at, start_about, state_in, system_about};
@@ -15,14 +15,15 @@ use pm_machine::{BootFault, Machine};
 use pm_volume::{Volume, VolumeFault};
 use std::alloc::{AllocError, Global};
 
-/// The program of a machine.
+/// The program that a machine is started with.
 #[derive(Drop)]
 pub(crate) enum Start {
-    /// The program in a text of hexadecimal digits.
+    /// A program that is written as hexadecimal digits in `text`.
     Bare {
         text: Vec<u8>,
     },
-    /// The program of a code file on unit 4, with the system segment if its code file is given.
+    /// The code file `name` on the disk of unit 4. If `system` is given, it is a code file whose system segment is
+    /// added.
     Booted {
         disks: [Option<Vec<u8>>; 6],
         name: String,
@@ -33,20 +34,20 @@ pub(crate) enum Start {
 /// The reason why no machine starts.
 #[derive(Drop)]
 pub(crate) struct NoStart {
-    /// The refusal of the program.
+    /// The refusal that the job returns.
     pub refusal: Refusal,
-    /// The file that the refusal is about, if there is one.
+    /// The file that the refusal is about, if it is about a file.
     pub about: Option<About>,
-    /// The text that a terminal shows instead of the refusal, if there is one.
+    /// The text that a terminal shows instead of the refusal, if such a text exists.
     pub line: Option<String>,
-    /// The hint, if there is one.
+    /// The hint, if one exists.
     pub hint: Option<Hint>,
 }
 
-/// The index of an image that is no volume, its fault, and its form if that is known.
+/// An image that is no volume: its index in the list of images, its fault, and its form if the form is known.
 type BadImage = (usize, VolumeFault, Option<Form>);
 
-/// Returns the unit of the disk at an index: 4, 5, 9, 10, 11 or 12.
+/// Returns the unit of the disk with index `place`: 4, 5, 9, 10, 11 or 12.
 fn unit_at(place: usize) -> u8
     ensures unit { result ≡ unit_at place }
 {
@@ -60,7 +61,7 @@ fn unit_at(place: usize) -> u8
     }
 }
 
-/// Returns what a fault of the system segment is about: its code file, or the program on unit 4.
+/// Returns the file that `fault` is about: the code file of the system, or the image on unit 4.
 fn system_about(fault: SystemFault) -> About
     ensures about { result ≡ system_about fault }
 {
@@ -70,7 +71,7 @@ fn system_about(fault: SystemFault) -> About
     }
 }
 
-/// Returns the volume of the image at an index, if there is an image.
+/// Opens `image`, which has index `place`, as a volume. Returns None if `image` is None.
 fn volume_of(image: Option<Vec<u8>>, place: usize) -> Result<Option<Volume>, BadImage>
     ensures volume { IfOk result (λ volume. volume ≡ option_map vec_items image) }
     ensures sound { OnOk result (disk_fault (option_map vec_items image) ≡ None) }
@@ -86,7 +87,7 @@ fn volume_of(image: Option<Vec<u8>>, place: usize) -> Result<Option<Volume>, Bad
     }
 }
 
-/// Returns the volumes of the images, or the first image that is no volume.
+/// Opens all images as volumes. Returns the volumes, or the first image that is no volume.
 fn volumes_of(disks: [Option<Vec<u8>>; 6]) -> Result<[Option<Volume>; 6], BadImage>
     ensures volumes { IfOk result (λ volumes. volumes ≡ images_of disks) }
     ensures sound { OnOk result (first_disk_fault (images_of disks) ≡ None) }
@@ -103,8 +104,8 @@ fn volumes_of(disks: [Option<Vec<u8>>; 6]) -> Result<[Option<Volume>; 6], BadIma
     Ok(volumes)
 }
 
-/// Returns the volume of unit 4, if there is one. If a code file of the system is given, the code file of the program
-/// gets the system segment.
+/// Returns the volume of unit 4, if it exists. If `system` is given, its system segment is added to the code file
+/// `name` of this volume.
 fn first_with(
     alloc: Global,
     volume: Option<Volume>,
@@ -125,7 +126,7 @@ fn first_with(
     Ok(Some(volume))
 }
 
-/// Returns the volumes with the system segment in the code file of the program, if a code file of the system is given.
+/// Returns `volumes`. If `system` is given, its system segment is added to the code file `name` of the first volume.
 fn with_system(
     alloc: Global,
     mut volumes: [Option<Volume>; 6],
@@ -141,7 +142,7 @@ fn with_system(
     Ok(volumes)
 }
 
-/// Creates the reason why no machine starts, with the file that it is about and the hint.
+/// Creates the reason why no machine starts: the refusal, the file that it is about, and the hint.
 fn no_start(refusal: Refusal, about: About, hint: Option<Hint>) -> NoStart
     ensures refusal { result.refusal ≡ refusal }
     ensures about { result.about ≡ Some about }
@@ -155,7 +156,7 @@ fn no_start(refusal: Refusal, about: About, hint: Option<Hint>) -> NoStart
     }
 }
 
-/// Returns the machine at the start of a program of unit 4, or the reason why there is none.
+/// Returns the machine at the start of the program `name` on unit 4, or the reason why no machine starts.
 fn boot(
     alloc: Global,
     disks: [Option<Vec<u8>>; 6],
@@ -195,7 +196,7 @@ fn boot(
     Ok(Err(no_start(Refusal::Boot(fault), About::Unit(4), hint)))
 }
 
-/// Creates the reason why no machine starts for a program in the input. It is about no file.
+/// Creates the reason why no machine starts on a program in the input. The refusal is about no file.
 fn no_bare_start(refusal: Refusal) -> NoStart
     ensures refusal { result.refusal ≡ refusal }
     ensures about { result.about ≡ None }
@@ -208,7 +209,7 @@ fn no_bare_start(refusal: Refusal) -> NoStart
     }
 }
 
-/// Returns the machine at the start of the program in the text, or the reason why there is none.
+/// Returns the machine at the start of the program in `text`, or the reason why no machine starts.
 fn load(alloc: Global, text: &[u8]) -> Result<Result<Machine, NoStart>, AllocError>
     ensures machine { IfOk result (λ machine. state_in machine ≡ loaded (hex_spelled text.now)) }
     ensures about { IfOk result (λ machine. IfErr machine (λ none. none.about ≡ None)) }
@@ -223,7 +224,7 @@ fn load(alloc: Global, text: &[u8]) -> Result<Result<Machine, NoStart>, AllocErr
     }
 }
 
-/// Returns the machine at its start, or the reason why there is none.
+/// Returns the machine at the start of the program `start`, or the reason why no machine starts.
 pub(crate) fn start_on(alloc: Global, start: Start) -> Result<Result<Machine, NoStart>, AllocError>
     ensures machine { IfOk result (λ machine. state_in machine ≡ machine_at start) }
     ensures about { IfOk result (λ machine. IfErr machine (λ none. none.about ≡ start_about start)) }

@@ -1,4 +1,4 @@
-//! Messages for the end of a run and for its position.
+//! Messages about the end of a run and about the position at which an error stopped it.
 use crate::stopped::Stopped;
 use pm_notes::system_name;
 use pm_opcode::row_at;
@@ -6,11 +6,11 @@ use pm_session::Ending;
 use pm_words::ExecError;
 use std::fmt;
 
-/// The hint for a call of the operating system.
+/// The hint for a run that fails because it calls a procedure of the operating system.
 const SYSTEM: &str =
     "CXP 0, n calls procedure n of the operating system, and --system PATH adds its segment";
 
-/// A procedure of the operating system: its number and, if it is known, its name.
+/// A procedure of the operating system, by its number. Its `Display` shows the number and, if it is known, the name.
 #[derive(Clone, Copy)]
 struct Procedure(u8);
 
@@ -24,7 +24,7 @@ impl fmt::Display for Procedure {
     }
 }
 
-/// Returns the unit of the system library whose segment has this number, in Apple Pascal 1.1.
+/// Returns the unit of the system library whose segment has number `segment`, as in Apple Pascal 1.1.
 fn unit_name(segment: u8) -> Option<&'static str> {
     match segment {
         20 => Some("TURTLEGRAPHICS"),
@@ -37,7 +37,7 @@ fn unit_name(segment: u8) -> Option<&'static str> {
     }
 }
 
-/// A call of a procedure in a segment that is missing or not valid.
+/// A call of a procedure whose segment is missing or not valid.
 #[derive(Clone, Copy)]
 struct Called {
     segment: u8,
@@ -60,7 +60,8 @@ impl fmt::Display for Called {
     }
 }
 
-/// Whether the code uses reals: an instruction on reals, a comparison of type 2, or a standard procedure on reals.
+/// Returns whether the instruction in `code` works on reals. Such an instruction operates on reals, compares values of
+/// type 2, or calls a standard procedure on reals.
 fn is_of_reals(code: [u8; 3]) -> bool {
     match row_at(code[0]).mnemonic {
         "ABR" | "ADR" | "DVR" | "FLO" | "FLT" | "MPR" | "NGR" | "SBR" | "SQR" => true,
@@ -70,18 +71,18 @@ fn is_of_reals(code: [u8; 3]) -> bool {
     }
 }
 
-/// The message for the end of a run: its meaning and a hint.
+/// The message for the end of a run: what the end means, and a hint.
 #[derive(Clone, Copy)]
 pub struct RunReason<'a> {
     pub ending: Ending,
-    /// The state in which an error stopped it.
+    /// The state in which an error stopped the run, if an error stopped it.
     pub stopped: Option<&'a Stopped>,
     /// Whether the system segment was added.
     pub has_system: bool,
 }
 
 impl RunReason<'_> {
-    /// Writes what is known in addition to the error, by the instruction that it stopped.
+    /// Writes what the instruction that was stopped shows in addition to `error`.
     fn write_more<W: fmt::Write>(
         &self,
         f: &mut fmt::Formatter<W>,
@@ -126,8 +127,8 @@ impl fmt::Display for RunReason<'_> {
     }
 }
 
-/// The message for the position at which an error stopped a run: the position in the code, and the line of a trace for
-/// the step that failed.
+/// The message for the position at which an error stopped a run: the position in the code, and the trace line of the
+/// step that failed.
 #[derive(Clone, Copy)]
 pub struct Whereabouts<'a>(pub &'a Stopped);
 

@@ -1,4 +1,5 @@
-//! The steps of a run. Their output is written, and a machine that waits gets the next byte of the input.
+//! Executes the steps of a run and writes their output. Each time that the machine waits, it gets the next byte of the
+//! input.
 ghost use Rattle.std.specs.Prelude.{◌≡◌, false, true, [], ◌++◌, drop, length, IfOk, IfErr, OnOk, OnErr};
 ghost use Rattle.std.specs.Io.KnownBytes.{Appends};
 ghost use Rattle.pm_machine.specs.Steps.{stepped};
@@ -15,13 +16,14 @@ use std::alloc::{AllocError, Global};
 /// The output of a run.
 #[derive(Clone, Copy)]
 pub enum Show {
-    /// A line for each selected step, and a last line with the reason of the end.
+    /// The trace: a line for each selected step, and a last line with the reason for the end.
     Trace(Selection),
     /// The bytes that the program writes to the console. `saving` selects the images that are saved.
     Console { saving: Saving },
 }
 
-/// Executes one step, on the fast path if possible.
+/// Executes one step and returns how it ended. It tries `pace` first, and calls `step` of the machine if `pace`
+/// executed nothing.
 fn next_step<P: Pace>(machine: &mut Machine, pace: &mut P) -> Result<Stop, AllocError>
     ensures next { IfOk result (λ stop. stepped machine.old.state ≡ (machine.new.state, stop)) }
 {
@@ -32,7 +34,7 @@ fn next_step<P: Pace>(machine: &mut Machine, pace: &mut P) -> Result<Stop, Alloc
     Ok(stop)
 }
 
-/// Executes one step. Its line is appended to the page if it is selected and the step does not wait.
+/// Executes one step. If `wanted` selects the step and the step does not wait, its trace line is appended to `page`.
 #[inline(never)]
 fn traced_step<P: Pace>(
     machine: &mut Machine,
@@ -54,7 +56,7 @@ fn traced_step<P: Pace>(
     Ok(stop)
 }
 
-/// Executes one step. The bytes that it writes to the console are appended to the page, unless the step waits.
+/// Executes one step. Unless the step waits, the bytes that it writes to the console are appended to `page`.
 fn console_step(machine: &mut Machine, page: &mut Vec<u8>) -> Result<Stop, AllocError>
     ensures next { IfOk result (λ stop. stepped machine.old.state ≡ (machine.new.state, stop)) }
     ensures page { IfOk result (λ stop. page.new.items
@@ -69,7 +71,7 @@ fn console_step(machine: &mut Machine, page: &mut Vec<u8>) -> Result<Stop, Alloc
     Ok(stop)
 }
 
-/// Executes one step. Its output is appended to the page.
+/// Executes one step. Its output, as selected by `show`, is appended to `page`.
 fn step<P: Pace>(
     machine: &mut Machine,
     show: Show,
@@ -87,7 +89,7 @@ fn step<P: Pace>(
     }
 }
 
-/// Executes at most `limit` steps without output, and returns their number, which can be 0.
+/// Executes at most `limit` steps that have no output. Returns the number of executed steps, which can be 0.
 fn unshown_steps<P: Pace>(machine: &mut Machine, show: Show, limit: u64, pace: &mut P) -> u64
     ensures unshown { Unshown show limit machine.old.state result machine.new.state }
 {
@@ -97,10 +99,10 @@ fn unshown_steps<P: Pace>(machine: &mut Machine, show: Show, limit: u64, pace: &
     }
 }
 
-/// The number of bytes of a full page of a trace.
+/// The number of bytes at which the page of a trace is full. A page is a buffer of output that is not yet written.
 const PAGE: usize = 65_536;
 
-/// Writes the page and clears it.
+/// Writes all bytes of `page` to `sink` and clears `page`.
 fn write_page<W: Sink>(sink: &mut W, page: &mut Vec<u8>) -> Result<(), Fault>
     requires well { (W.seen sink.old).failed ≡ false }
     ensures written { OnOk result (Appends (W.seen sink.old).contents (W.seen sink.new).contents page.old.items) }
@@ -114,7 +116,8 @@ fn write_page<W: Sink>(sink: &mut W, page: &mut Vec<u8>) -> Result<(), Fault>
     Ok(())
 }
 
-/// Writes the page and clears it if it is full. A trace is written by pages, and console bytes are written at once.
+/// Writes `page` to `sink` and clears it, if it must be written now. The page of a trace is written when it is full.
+/// Console bytes are written after each step that adds some.
 fn turn_page<W: Sink>(sink: &mut W, page: &mut Vec<u8>, show: Show) -> Result<(), Fault>
     requires well { (W.seen sink.old).failed ≡ false }
     ensures written { OnOk result (AppendsBut (W.seen sink.old).contents
@@ -134,14 +137,15 @@ fn turn_page<W: Sink>(sink: &mut W, page: &mut Vec<u8>, show: Show) -> Result<()
     Ok(())
 }
 
-/// Executes at most `limit` steps and writes their output, except the page that it returns. Each time that the machine
-/// waits, the page is written and the machine gets the next byte of the input.
+/// Executes at most `limit` steps and writes their output, except the bytes that are still in the page. Returns how the
+/// run ended, and this page. Each time that the machine waits, the page is written and the machine gets the next byte
+/// of `source`.
 ///
-/// `pace` is used for all steps of a trace, one at a time. In a run it is used for steps that write nothing to the
-/// console, any number at a time, but not for the first step.
+/// In a trace, `pace` executes all steps, one at a time. In a run, `pace` executes steps that write nothing to the
+/// console, any number at a time, but not the first step.
 ///
-/// Neither stream may have failed before. After a stream fault or out of memory, a prefix of the output of the steps
-/// was written.
+/// Neither stream may have failed before. If a stream fails or memory runs out, a prefix of the output of the steps was
+/// written.
 pub fn drive<R: Source, W: Sink, P: Pace>(
     alloc: Global,
     source: &mut R,

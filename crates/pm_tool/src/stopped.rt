@@ -1,4 +1,4 @@
-//! The state in which an error stopped a run.
+//! Records the state in which an execution error stopped a run.
 ghost use Rattle.std.specs.Prelude.{◌≡◌};
 ghost use Rattle.pm_tool.specs.Stops.{AreStops, IsStop, stop_of};
 
@@ -7,22 +7,22 @@ use pm_session::Ending;
 use pm_trace::trace_line;
 use std::alloc::Global;
 
-/// The state in which an error stopped a run. Its last step was not executed.
+/// The state in which an error stopped a run. The step that failed was not executed.
 #[derive(Drop)]
 pub struct Stopped {
-    /// The numbers of the segment and the procedure, and the offset of IPC in bytes from its entry, or `None` if SEG or
-    /// JTAB is odd.
+    /// The position: the numbers of the segment and the procedure, and the offset of IPC from the entry of the
+    /// procedure, in bytes. None if SEG or JTAB is odd.
     pub place: Option<CodePlace>,
-    /// The line of a trace for the step, if there was memory for it.
+    /// The trace line of the step that failed. None if memory was refused.
     pub step: Option<String>,
-    /// The three bytes at IPC.
+    /// The three bytes of memory from address IPC.
     pub code: [u8; 3],
     /// IORESULT, the result of the last input or output.
     pub ioresult: u16,
 }
 
 impl Stopped {
-    /// Returns the position of a machine and the step there.
+    /// Returns the state of `machine`, with the position and the trace line of its next step.
     fn at(alloc: Global, machine: &Machine) -> Stopped
         ensures stop { IsStop result machine.now.state }
     {
@@ -42,7 +42,7 @@ impl Stopped {
     }
 }
 
-/// Returns the state of a machine that an error stopped, if its run ended with an error.
+/// If `ending` is an error, returns the state of `machine`. Otherwise returns None.
 pub(crate) fn stopped_at(alloc: Global, machine: &Machine, ending: Ending) -> Option<Stopped>
     ensures stops { AreStops result (stop_of ending machine.now.state) }
 {

@@ -25,16 +25,16 @@ use pm_session::{Ending, LastLine};
 use pm_volume::Disk;
 use std::alloc::{AllocError, Global};
 
-/// The use of a machine.
+/// How a job uses a machine.
 #[derive(Drop)]
 pub(crate) enum Talk {
-    /// It runs for at most `limit` steps. The input is that of its console.
+    /// The machine runs for at most `limit` steps. The input of the job is the console input.
     Run { show: Show, limit: u64 },
     /// A debugger answers each line of the input. The bytes of `typed` are in the console input queue.
     Session { typed: Vec<u8> },
 }
 
-/// Ejects the disk of a unit and returns its image, if there is one.
+/// Ejects the disk of `unit` and returns its image. Returns None if the unit has no disk.
 fn taken(machine: &mut Machine, unit: u8) -> Option<Vec<u8>>
     ensures image { option_map vec_items result ≡ ejected_image unit machine.old.state.devices }
     ensures event { machine.new.state ≡ next machine.old.state (Eject unit) }
@@ -42,7 +42,7 @@ fn taken(machine: &mut Machine, unit: u8) -> Option<Vec<u8>>
     machine.eject(unit).map(Disk::into_bytes)
 }
 
-/// Ejects the disks of all units and returns their images.
+/// Ejects the disks of all units. Returns the image of unit 4, and the images of the other units.
 #[tactic(auto, using(crate::proofs::Ejected::left))]
 fn all_taken(machine: &mut Machine) -> (Option<Vec<u8>>, OtherImages)
     ensures first { option_map vec_items result.0 ≡ first_kept Saving.All machine.old.state.devices }
@@ -59,7 +59,7 @@ fn all_taken(machine: &mut Machine) -> (Option<Vec<u8>>, OtherImages)
     (first, others)
 }
 
-/// Ejects the disks whose images are to be saved, and returns the images.
+/// Ejects the disks whose images `saving` selects. Returns the image of unit 4, and the images of the other units.
 fn images_taken(machine: &mut Machine, saving: Saving) -> (Option<Vec<u8>>, OtherImages)
     ensures first { option_map vec_items result.0 ≡ first_kept saving machine.old.state.devices }
     ensures others { images_of result.1 ≡ others_kept saving machine.old.state.devices }
@@ -72,8 +72,8 @@ fn images_taken(machine: &mut Machine, saving: Saving) -> (Option<Vec<u8>>, Othe
     }
 }
 
-/// Returns the outcome of a run whose output is its console bytes: its last line, the printed bytes, and the images to
-/// be saved.
+/// Returns the outcome of a run that writes its console output. The outcome has the last line `last`, the printed
+/// bytes, and the images that `saving` selects.
 fn left_by_run(
     alloc: Global,
     machine: &mut Machine,
@@ -104,7 +104,7 @@ fn left_by_run(
     })
 }
 
-/// Writes the rest of the output of a run after the rest of the page, and returns the outcome of the run.
+/// Writes `page`, the output that is not yet written, and for a trace the last line. Returns the outcome of the run.
 fn tell<W: Sink>(
     alloc: Global,
     sink: &mut W,
@@ -143,7 +143,7 @@ fn tell<W: Sink>(
     }
 }
 
-/// Runs a machine: writes its output and returns the outcome.
+/// Runs `machine` for at most `limit` steps. Writes the output that `show` selects and returns the outcome.
 fn do_run<R: Source, W: Sink>(
     alloc: Global,
     source: &mut R,
@@ -171,7 +171,7 @@ fn do_run<R: Source, W: Sink>(
     Ok(outcome)
 }
 
-/// Appends bytes to the console input queue of a machine, in their order.
+/// Appends `bytes` to the console input queue of `machine`, in their order.
 fn type_into(machine: &mut Machine, bytes: &[u8]) -> Result<(), AllocError>
     ensures typed { OnOk result (machine.new.state ≡ typed_into bytes.now machine.old.state) }
 {
@@ -181,7 +181,7 @@ fn type_into(machine: &mut Machine, bytes: &[u8]) -> Result<(), AllocError>
     Ok(())
 }
 
-/// Answers the lines of the input with a debugger of a machine.
+/// Creates a debugger of `machine`, which answers each line of the input. Returns the outcome of the session.
 fn do_session<R: Source, W: Sink>(
     alloc: Global,
     source: &mut R,
@@ -205,7 +205,8 @@ fn do_session<R: Source, W: Sink>(
     Ok(Outcome::plain(alloc, Exit::Ended, String::new(alloc)))
 }
 
-/// Uses the machine that starts. If none starts, the job is refused and no input is read.
+/// Starts the machine of `start` and uses it as `talk` states. If no machine starts, the job is refused and no input is
+/// read.
 pub(crate) fn do_talk<R: Source, W: Sink>(
     alloc: Global,
     source: &mut R,

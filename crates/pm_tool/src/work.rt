@@ -1,4 +1,4 @@
-//! The kinds of jobs.
+//! Groups jobs by how they use their streams, and computes the group of a job.
 ghost use Rattle.std.specs.Prelude.{◌≡◌};
 ghost use Rattle.pm_batch.specs.Files.{opened_image};
 ghost use Rattle.pm_check.specs.Forms.{form_seen};
@@ -13,20 +13,20 @@ use pm_check::form_seen;
 use pm_filer::FileCommand;
 use pm_jobs::{DisOutput, Selection};
 
-/// A job by its kind.
+/// A job, grouped by how it uses its streams.
 #[derive(Drop)]
 pub(crate) enum Work {
-    /// The text of a program is read, and then its run is traced.
+    /// Reads a program as text, and then traces its run.
     Raw { limit: u64, selection: Selection },
-    /// The machine that starts is used interactively.
+    /// Starts a machine, and then runs it or debugs it.
     Talk(Start, Talk),
-    /// The output for a code file is written.
+    /// Writes the output for a code file.
     Dis(DisOutput),
-    /// Bytes are converted to bytes.
+    /// Converts bytes to bytes.
     Batch(Batch),
 }
 
-/// Creates the work for a machine that starts on a program.
+/// Creates the work that starts a machine on the program `name` of `disks` and uses it as `talk` states.
 fn talk(disks: [Option<Vec<u8>>; 6], name: String, system: Option<Vec<u8>>, talk: Talk) -> Work
     ensures work { result ≡ Work.Talk (Start.Booted disks name system) talk }
 {
@@ -38,21 +38,21 @@ fn talk(disks: [Option<Vec<u8>>; 6], name: String, system: Option<Vec<u8>>, talk
     Work::Talk(start, talk)
 }
 
-/// Creates a run with this output and at most `limit` steps.
+/// Creates the use of a machine that runs at most `limit` steps and writes the output `show`.
 fn run_of(show: Show, limit: u64) -> Talk
     ensures talk { result ≡ Talk.Run show limit }
 {
     Talk::Run { show, limit }
 }
 
-/// Creates the work for a run of the program in the input, of at most `limit` steps and with these selected lines.
+/// Creates the work that traces the program in the input for at most `limit` steps. `selection` selects the lines.
 fn traced(limit: u64, selection: Selection) -> Work
     ensures work { result ≡ Work.Raw limit selection }
 {
     Work::Raw { limit, selection }
 }
 
-/// Creates the work for a command on the volume of an image. If the image is no volume, its form is reported.
+/// Creates the work that executes `command` on the volume of `image`. If `image` is no volume, its form is reported.
 fn files(image: Vec<u8>, command: FileCommand) -> Work
     ensures work { result ≡ Work.Batch (Batch.Files (opened_image image.items) (form_seen image.items) command) }
 {
@@ -65,7 +65,7 @@ fn files(image: Vec<u8>, command: FileCommand) -> Work
     })
 }
 
-/// Returns the work of a job.
+/// Returns the work that executes `job`.
 pub(crate) fn work_of(job: Job) -> Work
     ensures work { result ≡ work_of job }
 {

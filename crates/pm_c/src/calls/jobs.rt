@@ -1,4 +1,4 @@
-//! The jobs on source texts, code files and bare code.
+//! Tests of the jobs on source texts, code files and bare code.
 use crate::calls::{Answer, answer};
 use crate::jobs::*;
 use std::alloc::Global;
@@ -7,7 +7,7 @@ use std::process::Abort;
 pub(super) const TEXT: &str =
     ".SEG 1 OK\n.PROC 1 0 0 0\nSLDO 1\nFJP L\nSLDC 5\nSRO 3\nL:\n.EXIT\nRBP 0\n.END\n";
 
-// The code, the attribute table and the dictionary of the segment, as on the page of the assembler.
+// The bytes of the segment: its code, its attribute table and its dictionary, as on the page of the assembler.
 const SEGMENT: [u8; 22] = [
     0xE8, 0xA1, 3, 5, 0xAB, 3, 0xC1, 0, 0, 0, 0, 0, 6, 0, 14, 0, 1, 0, 2, 0, 1, 1,
 ];
@@ -62,7 +62,7 @@ const BLOCKS: [&str; 6] = [
     "00006 RETURN FROM BASE",
 ];
 
-/// Returns the code file of the source text.
+/// Assembles the source text and returns the code file.
 pub(super) fn file(rt: &impl Abort, alloc: Global) -> Answer {
     answer!(rt, alloc, pmach_assemble, TEXT.as_bytes(), false)
 }
@@ -101,7 +101,7 @@ fn a_code_file_is_shown(rt: HostRuntime) {
     answer!(&rt, alloc, pmach_disassemble, b"short").says(&rt, 2, "refused code 1");
 }
 
-// With the names of a standard procedure and of a procedure of the system.
+// The source text with the names of a standard procedure and of a procedure of the system.
 const NAMED: [&str; 8] = [
     ".SEG 1 OK",
     ".PROC 1 0 0 0",

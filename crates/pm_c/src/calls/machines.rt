@@ -1,4 +1,4 @@
-//! Machines of handles, and sessions with them.
+//! Tests of machines in handles, and of their sessions.
 use crate::calls::volumes::{blank, with_program};
 use crate::calls::{Answer, NOTHING, NOWHERE, answer};
 use crate::disks::*;
@@ -11,22 +11,22 @@ use crate::starts::*;
 use std::alloc::Global;
 use std::process::Abort;
 
-/// SLDC 2, SLDC 3, ADI, XIT.
+/// A program with the instructions SLDC 2, SLDC 3, ADI and XIT.
 pub(super) const SUM: [u8; 4] = [2, 3, 0x82, 0xD6];
 
-/// Returns a program that writes OK to a unit.
+/// Returns a program that writes `OK` to unit `unit`.
 fn writes_to(unit: u8) -> [u8; 12] {
     [unit, 0xD0, 2, 79, 75, 0, 2, 0, 0, 0x9E, 6, 0xD6]
 }
 
-/// Creates a machine at its start on bare code.
+/// Creates a machine at the start of the bare code `code`.
 pub(super) fn raw(rt: &impl Abort, alloc: Global, code: &[u8]) -> Handle {
     let mut handle = Handle::empty();
     assert_eq!(rt; pmach_new(alloc, &mut handle, code), 0);
     handle
 }
 
-/// Creates the machine of the program.
+/// Creates the machine of the program that the test volume has.
 fn booted(rt: &impl Abort, alloc: Global) -> Handle {
     let mut handle = Handle::empty();
     assert_eq!(rt;
@@ -88,7 +88,7 @@ fn outputs_are_shown(rt: HostRuntime) {
     }
 }
 
-/// UNITREAD of one byte from the console to address 2000.
+/// A program that reads one byte from the console to address 2000, with UNITREAD.
 const READS: [u8; 12] = [1, 0xC7, 0xD0, 7, 0, 1, 0, 0, 0x9E, 5, 0xD6, 0];
 
 #[test]

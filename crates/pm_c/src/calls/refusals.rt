@@ -1,4 +1,4 @@
-//! Each number of the header that no whole job above returns, by a call that must return it.
+//! Tests of the numbers in the header that the tests of whole jobs do not cover. Each number is returned by a call.
 use crate::calls::machines::{SUM, raw};
 use crate::calls::volumes::blank;
 use crate::calls::{Answer, NOTHING, NOWHERE, answer};
@@ -55,7 +55,7 @@ fn an_empty_handle_shows_nothing(rt: HostRuntime) {
     answer!(&rt, alloc, pmach_printer, &mut h, 0).says(&rt, 8, "");
 }
 
-// SLDC 1, SLDC 0, DVI; and RNP 0.
+// Two programs: one with SLDC 1, SLDC 0 and DVI, and one with RNP 0.
 const BY_ZERO: [u8; 3] = [1, 0, 0x86];
 
 const RETURNS: [u8; 2] = [0xAD, 0];
@@ -71,7 +71,7 @@ fn errors_and_no_place_have_numbers(rt: HostRuntime) {
         (0, 106)
     );
     pmach_free(alloc, &mut h);
-    // The word at MSJTAB of its frame, to which RNP returns, is odd.
+    // RNP sets JTAB to the word MSJTAB of its frame. The test makes this word odd.
     let mut h = raw(&rt, alloc, &RETURNS);
     assert_eq!(rt; pmach_poke(alloc, &mut h, 65_496, 1025), 0);
     assert_eq!(rt; pmach_step(alloc, &mut h), 2);

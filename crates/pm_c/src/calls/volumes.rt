@@ -1,4 +1,4 @@
-//! The jobs on volumes. An image that a call returns is passed to the next call.
+//! Tests of the jobs on volumes. The image that a call returns is given to the next call.
 use crate::calls::{Answer, answer};
 use crate::debugger::pmach_debug;
 use crate::filing::*;
@@ -17,7 +17,7 @@ fn with_a(rt: &impl Abort, alloc: Global) -> Vec<u8> {
     answer!(rt, alloc, pmach_put, &blank(rt, alloc), b"A", 5, b"xyz").bytes
 }
 
-/// Checks the list of the files of an image.
+/// Checks that `image` has the given list of files.
 fn has_list(rt: &impl Abort, alloc: Global, image: &Answer, lines: &[&str]) {
     assert_eq!(rt; (image.status, image.bytes.len()), (0, 20_480));
     answer!(rt, alloc, pmach_list, &image.bytes).lists(rt, lines);
@@ -159,7 +159,7 @@ fn entries_are_changed(rt: HostRuntime) {
     );
 }
 
-/// Returns a volume with the program of the jobs.
+/// Returns a volume with the program that the tests of jobs assemble.
 pub(super) fn with_program(rt: &impl Abort, alloc: Global) -> Vec<u8> {
     let file = super::jobs::file(rt, alloc).bytes;
     answer!(rt, alloc, pmach_put, &blank(rt, alloc), b"OK", 2, &file).bytes

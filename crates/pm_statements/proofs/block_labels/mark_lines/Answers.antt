@@ -10,7 +10,7 @@ use Rattle.pm_statements.specs.Marks.{has}
 use Rattle.pm_statements.proofs.BlockLabelled.{line_step, lines_done}
 use Rattle.pm_statements.proofs.block_labels.mark_lines.Goals as goal
 
--- A value for an index after the end of the list.
+-- An arbitrary value, used for the element at an index after the end of a list.
 abbrev nothing : Line
 nothing = record { word = word.Plain leads.Nowhere; at = 0; behind = 0 }
 

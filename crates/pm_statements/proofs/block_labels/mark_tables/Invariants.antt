@@ -6,7 +6,7 @@ use Rattle.pm_statements.specs.BlockLabels.{table_places}
 use Rattle.pm_statements.specs.Marks.{has}
 use Rattle.pm_statements.proofs.block_labels.mark_tables.Given as goal
 
--- The offsets so far, and those of the remaining items, are all offsets.
+-- The offsets that are marked so far, and the offsets of the remaining items, are all offsets.
 abbrev pub invariant-loop-item : goal.invariant-loop-item
 invariant-loop-item l =
     (p : ℕ) → (has l.marks p || is_among (table_places (map placed_item (drop l.item-index l.items))) p)

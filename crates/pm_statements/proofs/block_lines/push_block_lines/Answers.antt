@@ -11,7 +11,7 @@ use Rattle.pm_statements.proofs.BlockLabelled.{calls_labelled}
 use Rattle.pm_statements.proofs.Blocked.{block_done, block_step}
 use Rattle.pm_statements.proofs.block_lines.push_block_lines.Goals as goal
 
--- A value for an index after the end of the list.
+-- An arbitrary value, used for the element at an index after the end of a list.
 abbrev nothing : Line
 nothing = record { word = word.Plain leads.Nowhere; at = 0; behind = 0 }
 

@@ -4,7 +4,7 @@ use Rattle.pm_statements.specs.BlockLines.{block_lines}
 use Rattle.pm_statements.specs.Marks.{has}
 use Rattle.pm_statements.proofs.block_lines.push_block_lines.Given as goal
 
--- The text so far, followed by that of the remaining lines, is the whole text.
+-- The text so far, followed by the text of the remaining lines, is the whole text.
 abbrev pub invariant-loop-line : goal.invariant-loop-line
 invariant-loop-line l =
     string_bytes l.out ++ block_lines l.depth l.behind_call (drop l.line-index l.lines) (map (relabelled (has l.marks)) l.statements) l.texts

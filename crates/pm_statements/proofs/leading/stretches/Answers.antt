@@ -8,7 +8,7 @@ use Rattle.pm_statements.specs.Leading.{next_place, stretches}
 use Rattle.pm_statements.proofs.Blocked.{stretches_done, stretches_none, stretches_step}
 use Rattle.pm_statements.proofs.leading.stretches.Goals as goal
 
--- A value for an index after the end of the list.
+-- An arbitrary value, used for the element at an index after the end of a list.
 abbrev nowhere : Left
 nowhere = record {
   leaves = leaves.Words 0;

@@ -9,7 +9,7 @@ use Rattle.pm_statements.specs.Texts.{line, lines}
 use Rattle.pm_statements.proofs.Listed.{lines_done, lines_none, lines_step}
 use Rattle.pm_statements.proofs.lines.push_lines.Goals as goal
 
--- A value for an index after the end of the list.
+-- An arbitrary value, used for the element at an index after the end of a list.
 abbrev nowhere : Left
 nowhere = record {
   leaves = leaves.Words 0;
@@ -18,7 +18,7 @@ nowhere = record {
   role = role.Call;
 }
 
--- No phrase remains.
+-- If no phrase remains, then the text is complete.
 pub returns-in_default : goal.returns-in_default
 returns-in_default c = record {
   text =
@@ -49,7 +49,7 @@ loop-left-preserved c =
     ∙ lines_step d b (drop i ls) (drop (i + 1) ls) c.loop-left.rest.now c.in-Some.more.now l s out front first
     ∙ c.loop-left.invariant
 
--- No statement remains.
+-- If no statement remains, then the text is complete.
 pub returns : goal.returns
 returns c = record {
   text =

@@ -3,7 +3,7 @@ use Rattle.pm_code.specs.Views.{placed_item, procedure_seen}
 use Rattle.pm_trees.specs.Parts.{labelled_places, parts, procedure_parts}
 use Rattle.pm_statements.proofs.procedure.parts_of.Given as goal
 
--- The parts so far, followed by those of the remaining items, are all parts.
+-- The parts so far, followed by the parts of the remaining items, are all parts.
 abbrev pub invariant-loop-item : goal.invariant-loop-item
 invariant-loop-item l =
     l.parts.items ++ parts l.known (labelled_places (procedure_seen l.procedure)) l.procedure.exit l.at

@@ -4,8 +4,8 @@ use Rattle.pm_disasm.specs.Offsets.{IsDecoded}
 use Rattle.pm_statements.specs.Files.{tables_text}
 use Rattle.pm_statements.proofs.shown.push_segment.Given as goal
 
--- The text so far, followed by that of the remaining procedures, is the whole text. The remaining text depends on the
--- attribute tables that were shown. The segment, if it was decoded, is this one.
+-- The text so far, followed by the text of the remaining procedures, is the whole text. The remaining text depends on
+-- the attribute tables that were already shown. If `decoded` has a segment, it is the segment whose text is appended.
 abbrev pub invariant-loop-done : goal.invariant-loop-done
 invariant-loop-done l = record {
   text : string_bytes l.text

@@ -5,7 +5,8 @@ use Rattle.pm_tool.specs.declared.outcome.Outcome.{Outcome}
 use Rattle.pm_batch.specs.declared.refusal.Refusal.{Refusal}
 use Rattle.pm_tool.proofs.outcome.conclude.Goals as goal
 
--- A refused input is also refused with a text.
+-- If a result is the outcome of a refused input, then it is also the outcome of a refused report, for any text of the
+-- report.
 with_text : (r : Result Outcome AllocError) (refusal : Refusal)
     → IfOk r (λ outcome. (unread : List ℕ) → IsOutcome outcome (refused refusal unread))
     → IfOk r (λ outcome. (text unread : List ℕ) → IsOutcome outcome (judged text (Some refusal) unread))

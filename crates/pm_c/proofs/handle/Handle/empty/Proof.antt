@@ -1,4 +1,4 @@
--- `empty`: the pointer is null, and nothing is owned.
+-- Proof of `empty`: the pointer is null, and the handle owns nothing.
 use Rattle.std.proofs.Common.{◌≡◌, [], ◌∷◌, refl}
 use Rattle.std.specs.Prelude.{Option, None}
 use mir.Syntax.{Fn}

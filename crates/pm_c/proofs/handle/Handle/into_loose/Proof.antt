@@ -1,4 +1,5 @@
--- `into_loose`: a null pointer is an empty handle. Any other pointer comes with the block that is owned.
+-- Proof of `into_loose`: a null pointer means that the handle is empty. With any other pointer, the handle owns a
+-- block.
 use Rattle.std.proofs.Common.{◌≡◌, List, [], ◌∷◌, ◌++◌, refl, sym, ap, ◌∙◌, lit<}
 use Rattle.std.specs.Prelude.{Option, Some, None, option_map}
 use mir.Syntax.{Fn}

@@ -1,4 +1,4 @@
--- `of_loose`: the handle takes the pointer and the block.
+-- Proof of `of_loose`: the handle takes the pointer and owns the block.
 use Rattle.std.proofs.Common.{◌≡◌, List, [], ◌∷◌, ◌++◌, refl}
 use Rattle.std.specs.Prelude.{Some}
 use mir.Syntax.{Fn}

@@ -1,4 +1,4 @@
--- `into_box`: the two parts are those of the box.
+-- Proof of `into_box`: the pointer and the allocator are those of the box.
 use Rattle.std.proofs.Common.{◌≡◌, List, [], ◌∷◌, ◌++◌, refl, sym, ap, subst}
 use mir.Syntax.{a_type, dcons, dnil}
 use mir.Val.{Val, vptr}

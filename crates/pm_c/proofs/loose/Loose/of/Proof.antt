@@ -1,4 +1,4 @@
--- `of`: the pointer of a box is never null, so its two parts are a block and an allocator.
+-- Proof of `of`: the pointer of a box is never null. So the two parts of the box are a block and an allocator.
 use Rattle.std.proofs.Common.{◌≡◌, List, [], ◌∷◌, ◌++◌, refl, sym, ap, ◌∙◌, subst}
 use mir.Syntax.{a_type, dcons, dnil}
 use mir.Raw.{raw as bare}

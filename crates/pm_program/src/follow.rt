@@ -347,8 +347,8 @@ fn printer_conflict<S: Store>(
     None
 }
 
-/// Returns whether writing the file at `path` would remove the file at the path `other`, which has the name of a
-/// temporary file. Returns `false` if `other` is `None`.
+/// Returns whether writing the file at `path` would remove the file at the path `other`. Returns `false` if `other` is
+/// `None`.
 fn takes<S: Store>(store: &S, path: &str, other: &Option<String>) -> bool
     ensures value { IfSome (S.beside store.now) (λ beside.
         result ≡ names_image beside path.now (option_map string_bytes other.now)) }

@@ -4,7 +4,7 @@ use std::alloc::Global;
 use std::io;
 use std::io::ErrorKind;
 
-/// A file, a folder or a symbolic link, independent of its names.
+/// A file, a folder or a symbolic link, without its names.
 #[derive(Drop)]
 pub struct Inode {
     pub bytes: Vec<u8>,

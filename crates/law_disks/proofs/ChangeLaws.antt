@@ -1,4 +1,4 @@
--- The bytes that names give after a `Change`.
+-- Lemmas for the bytes that names give after a `Change`. A name *gives* the bytes of the first file with this name.
 use Rattle.std.proofs.Common.{◌≡◌, ◌<◌, ◌≤◌, ℕ, ◌+◌, ◌-◌, Bool, true, false, cond, not, List, [], ◌∷◌, ◌++◌, ◌∙◌, ap, sym, refl, inl, inr, length, slice_set}
 use Rattle.std.proofs.Common.{Option, Some, None, Result, Ok, Err, arith, subst}
 use Rattle.std.proofs.lemmas.Bool.{cases_Bool}
@@ -23,7 +23,7 @@ use Rattle.law_disks.proofs.FoundFiles.{found_stays, position-within}
 use Rattle.law_disks.proofs.GivenLaws.{changed-ok, missed}
 use Rattle.law_disks.proofs.SameNames.{named-new, same-from_upper, same-right, upper-from_same}
 
--- The first file that passes the test `p` is the one at the position `slot`.
+-- If the first file that satisfies `p` is at the position `slot`, then `find` returns this file.
 found_at : (p : Entry → Bool) (n slot : ℕ) (xs : List Entry) (e : Entry) (ys : List Entry) → position_from p n (xs ++ e ∷ ys) ≡ Some slot → slot ≡ n + length xs
     → (p e ≡ true) × (find p (xs ++ e ∷ ys) ≡ Some e)
 found_at p n slot [] e ys found at = elim (cases_Bool (p e)) [
@@ -43,7 +43,7 @@ found_at p n slot (x ∷ xs) e ys found at = elim (cases_Bool (p x)) [
       rw on told
 ]
 
--- `find` returns the only file that passes the test `p`.
+-- If only one file satisfies `p`, then `find` returns it.
 found_only : (p : Entry → Bool) (xs : List Entry) (e : Entry) (ys : List Entry) → p e ≡ true → list_any p (xs ++ ys) ≡ false → find p (xs ++ e ∷ ys) ≡ Some e
 found_only p [] e ys here none = rw here refl
 found_only p (x ∷ xs) e ys here none = elim (cases_Bool (p x)) [
@@ -51,7 +51,7 @@ found_only p (x ∷ xs) e ys here none = elim (cases_Bool (p x)) [
   | inr on ↦ let rest : list_any p (xs ++ ys) ≡ false = rw on at none in rw on (found_only p xs e ys here rest)
 ]
 
--- Replacing a file that fails the test `p` by another one that fails it does not change what is found.
+-- If a file and its replacement both fail the test `p`, then `find` returns the same file after the replacement.
 found_past : (p : Entry → Bool) (xs : List Entry) (e e' : Entry) (ys : List Entry) → p e ≡ false → p e' ≡ false → find p (xs ++ e' ∷ ys) ≡ find p (xs ++ e ∷ ys)
 found_past p [] e e' ys stops stops' = rw (stops, stops') refl
 found_past p (x ∷ xs) e e' ys stops stops' = elim (cases_Bool (p x)) [
@@ -63,7 +63,7 @@ any_same : (p q : Entry → Bool) (es : List Entry) → ((e : Entry) → p e ≡
 any_same p q [] same = refl
 any_same p q (e ∷ es) same = rw (same e, any_same p q es same) refl
 
--- The facts that follow from a slot found for a `Change`.
+-- The slot `slot` is found for a `Change` from `old` to `new`, and the new name is valid and not used by another file.
 record IsSlot (directory old new : List ℕ) (slot : ℕ) : Type 0 where
   found : slot_named directory old ≡ Some slot
   named : is_new_name 15 new ≡ true
@@ -130,7 +130,7 @@ module _ (image old new other : List ℕ) (slot : ℕ) (v : IsVolume image) (s :
       ∙ ap (λ (i : ℕ). slice_set (front ++ file ∷ back) i named) (sym length-front)
       ∙ set-append_seam front file back named
 
-  -- The file had the old name and was the first one of that name.
+  -- The file had the old name, and was the first file with that name.
   was : (is_named old file ≡ true) × (find (is_named old) (front ++ file ∷ back) ≡ Some file)
   was =
       let found = rw parts at s.found in

@@ -1,4 +1,4 @@
--- Names that match a pattern, and the files that remain if those that match are removed.
+-- Lemmas for names that match a pattern, and for the files that remain after those that match are removed.
 use Rattle.std.proofs.Common.{◌≡◌, ◌≤◌, inl, inr, ℕ, zero, suc, ◌+◌, ◌-◌, Bool, true, false, not, List, [], ◌∷◌, ◌++◌, length}
 use Rattle.std.proofs.Common.{Some, None, Ok, take, drop, refl, sym, ap, subst, ◌∙◌, arith, append_assoc, append-nil}
 use Rattle.std.proofs.Math.Seq.{drop-append_seam, take-append_seam}
@@ -21,7 +21,7 @@ use Rattle.law_disks.proofs.SlotLaws.{takes_one}
 
 -- ---- patterns
 
--- The position of the first equals sign.
+-- The position of the first equals sign is the length of `begin`, if `begin` contains no equals sign.
 first_equals : (begin end : List ℕ) → has_equals begin ≡ false → position_or_len (λ c. c == 61) (begin ++ 61 ∷ end) ≡ length begin
 first_equals [] end none = refl
 first_equals (c ∷ begin) end none = elim (cases_Bool (c == 61)) [
@@ -79,7 +79,7 @@ nothing_dropped : (n : ℕ) → drop {A = ℕ} n [] ≡ []
 nothing_dropped zero = refl
 nothing_dropped (suc n) = refl
 
--- Dropping `n` and then `m` elements is dropping `n + m` elements.
+-- Dropping `n` and then `m` elements is the same as dropping `n + m` elements.
 dropped_twice : (n m : ℕ) (xs : List ℕ) → drop m (drop n xs) ≡ drop (n + m) xs
 dropped_twice zero m xs = let e : 0 + m ≡ m = omega arith in rw e refl
 dropped_twice (suc n) m [] = nothing_dropped m ∙ sym (nothing_dropped (suc n + m))
@@ -158,7 +158,8 @@ all_kept P keep (x ∷ xs) ys all = elim (cases_Bool (keep x)) [
   | inr off ↦ rw off (all_kept P keep xs ys (All-tail P x (xs ++ ys) all))
 ]
 
--- After the first `n` files, `front`, only those of them that do not match are left, with the bytes that they had.
+-- After the removal from the first `n` files, `front`, only those of `front` that do not match `pattern` remain. They
+-- have the bytes that they had before.
 record Leaves (pattern image : List ℕ) (n : ℕ) (front back : List Entry) : Type 0 where
   files : files_of (without_first pattern n image) ≡ unfit pattern front ++ back
   bytes : HaveBytesOf image (without_first pattern n image) (unfit pattern front ++ back)

@@ -1,4 +1,4 @@
--- The format that is seen in an image is the first format that is noted.
+-- Lemmas: the format that `form_seen` finds in an image is the first format that is noted.
 use Rattle.std.proofs.Common.{◌≡◌, inl, inr, ℕ, Bool, true, false, List, [], ◌∷◌, ◌++◌, Option, Some, None, refl, length}
 use Rattle.std.specs.Prelude.{if◌then◌else◌}
 use Rattle.pm_check.specs.Forms.{form_notes, form_seen, front_begin, front_form, front_notes, front_size, has_front, is_in_blocks}
@@ -26,7 +26,7 @@ nothing = (λ form same. gone form same, λ none. refl)
     gone : (form : Form) → None ≡ Some form → (rest : List Note) × ([] ≡ notes.Form form ∷ rest)
     gone form same = cc
 
--- The rule for three formats.
+-- The first of three possible formats that is seen is the first that is noted.
 of_three : (a b c : Bool) (x y z : Form) → IsFirstNoted (if a then Some x else (if b then Some y else (if c then Some z else None)))
     (note_if a (notes.Form x) ++ (note_if b (notes.Form y) ++ note_if c (notes.Form z)))
 of_three true b c x y z = first x (note_if b (notes.Form y) ++ note_if c (notes.Form z))
@@ -34,7 +34,7 @@ of_three false true c x y z = first y (note_if c (notes.Form z))
 of_three false false true x y z = first z []
 of_three false false false x y z = nothing
 
--- The rule for two formats before those that depend on a header.
+-- The same fact for the formats `Dos` and `Swapped` before the formats that depend on a header.
 of_all : (a b c : Bool) (seen : Option Form) (noted : List Note) → IsFirstNoted seen noted
     → IsFirstNoted (if a then Some Dos else (if b then Some Swapped else (if c then seen else None)))
     (note_if a (notes.Form Dos) ++ (note_if b (notes.Form Swapped) ++ (if c then noted else [])))

@@ -1,4 +1,4 @@
--- What is found in changed lists of files.
+-- Lemmas for what `find` returns on changed lists of files.
 use Rattle.std.proofs.Common.{◌≡◌, ◌<◌, ◌≤◌, ℕ, zero, suc, ◌+◌, ◌-◌, Bool, true, false, List, [], ◌∷◌, refl, inl, inr, length, Some, None, arith}
 use Rattle.std.proofs.lemmas.Bool.{cases_Bool}
 use Rattle.std.proofs.lemmas.List.Elements.{All-head, All-tail}
@@ -10,7 +10,7 @@ use Rattle.pm_volume.specs.declared.entry.Entry.{Entry}
 use Rattle.pm_filer.specs.Filed.{bytes_of_file}
 use Rattle.pm_filer.specs.Laws.{file_given}
 
--- If the files keep their bytes, what is found has the same bytes.
+-- If each file has the same bytes in `old` and `new`, then the file that `find` returns has the same bytes in both.
 pub found_stays : (p : Entry → Bool) (old new : List ℕ) (es : List Entry) → All (FileStays old new) es
     → bytes_of_file new (find p es) ≡ bytes_of_file old (find p es)
 found_stays p old new [] stay = refl
@@ -22,7 +22,8 @@ found_stays p old new (e ∷ es) stay = elim (cases_Bool (p e)) [
 pub given_stays : (old new : List ℕ) → files_of new ≡ files_of old → FilesStay old new → (name : List ℕ) → file_given new name ≡ file_given old name
 given_stays old new files stay name = rw files (found_stays (is_named name) old new (files_of old) stay)
 
--- If the files move with their bytes, what is found has the same bytes.
+-- If each file has moved together with its bytes, then the file that `find` returns has the same bytes in `old` and
+-- `new`.
 pub found_moved : (name old new : List ℕ) (from : ℕ) (es : List Entry) → AllZip (MovesFile old new) es (packed from es)
     → bytes_of_file new (find (is_named name) (packed from es)) ≡ bytes_of_file old (find (is_named name) es)
 unfolding packed
@@ -32,7 +33,7 @@ found_moved name old new from (e ∷ es) zip = elim (cases_Bool (is_named name e
   | inr on ↦ rw on (found_moved name old new (new_place from e + (e.end - e.first)) es zip.1)
 ]
 
--- A file inserted into the list is found if no other file passes the test.
+-- If no file satisfies `p`, and `e` satisfies `p` and is inserted into the list, then `find` returns `e`.
 pub found_new : (p : Entry → Bool) (es : List Entry) (k : ℕ) (e : Entry) → p e ≡ true → find p es ≡ None → find p (insert es k e) ≡ Some e
 found_new p es zero e here none = rw here refl
 found_new p [] (suc k) e here none = rw here refl
@@ -49,7 +50,8 @@ found_beside p (x ∷ es) (suc k) e on = elim (cases_Bool (p x)) [
   | inr next ↦ rw next (found_beside p es k e on)
 ]
 
--- Removing the first file that passes the test `q` does not change what the test `p` finds, if no file passes both.
+-- If no file satisfies both `p` and `q`, then removing the first file that satisfies `q` does not change what `find p`
+-- returns.
 pub found_left : (p q : Entry → Bool) (es : List Entry) (n slot : ℕ) → position_from q n es ≡ Some slot → ((e : Entry) → q e ≡ true → p e ≡ false)
     → find p (remove es (slot - n)) ≡ find p es
 found_left p q [] n slot found unlike = cc
@@ -79,7 +81,7 @@ found_left p q (e ∷ es) n slot found unlike = elim (cases_Bool (q e)) [
       | inr on ↦ let rest : position_from q (n + 1) es ≡ Some slot = rw on at found in omega (arith, position-after q (n + 1) es slot rest)
     ]
 
--- The position of the first file that passes is within the list.
+-- The position of the first file that satisfies `q` is a position of the list.
 pub position-within : (q : Entry → Bool) (n : ℕ) (es : List Entry) (slot : ℕ) → position_from q n es ≡ Some slot → (n ≤ slot) × (slot < n + length es)
 position-within q n [] slot found = cc
 position-within q n (e ∷ es) slot found = elim (cases_Bool (q e)) [

@@ -1,4 +1,4 @@
--- The free blocks after `Krunch` has moved the files together.
+-- Lemmas for the number of free blocks after `Krunch` has moved the files together.
 use Rattle.std.proofs.Common.{◌≡◌, arith, subst}
 use Rattle.pm_volume.specs.Packing.{krunched_image}
 use Rattle.pm_volume.specs.Space.{free_blocks, largest_gap}

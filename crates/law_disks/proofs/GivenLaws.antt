@@ -1,4 +1,4 @@
--- The bytes that names give after a command.
+-- Lemmas for the bytes that names give after a command. A name *gives* the bytes of the first file with this name.
 use Rattle.std.proofs.Common.{◌≡◌, ◌<◌, ◌≤◌, ℕ, ◌+◌, ◌-◌, Bool, true, false, cond, not, ltb, List, [], ◌∷◌, ◌∙◌, sym, refl, inl, inr, length, get_or, Option}
 use Rattle.std.proofs.Common.{Some, None, is_some, Result, Ok, Err, arith, subst}
 use Rattle.std.proofs.lemmas.Bool.{cases_Bool, ltb-false}
@@ -28,7 +28,7 @@ use Rattle.pm_filer.specs.Laws.{IsVolumeOfBytes, NamesAreKept, PutIsGot, Removal
 use Rattle.law_disks.proofs.FoundFiles.{found_beside, found_stays, found_left, found_moved, found_new, given_stays, position-within}
 use Rattle.law_disks.proofs.SameNames.{named-new, same-from_upper, same-right, upper-from_same}
 
--- A word of a directory of bytes is less than 65,536.
+-- If the elements of an image are bytes, then each word of its directory is less than 65,536.
 pub word_fits : (image : List ℕ) → IsVolumeOfBytes image → (place : ℕ) → place + 2 ≤ 2048 → word_in (directory_of image) place < 65536
 unfolding word_in
 word_fits image b place room =
@@ -63,7 +63,7 @@ none_from_test : (o : Option Entry) → is_some o ≡ false → o ≡ None
 none_from_test None h = refl
 none_from_test (Some e) h = cc
 
--- If `place_for` succeeds, no file has the name.
+-- If `place_for` succeeds for `name`, then no file has this name.
 pub not_there : (image name : List ℕ) (need : ℕ) (g : _) → place_for image name need ≡ Ok g → file_named image name ≡ None
 unfolding place_for
 not_there image name need g h =
@@ -93,7 +93,7 @@ module _ (image name : List ℕ) (kind : ℕ) (bytes : List ℕ) (day : ℕ) (g 
         date = dated;
       }
 
-  -- The new file is found by its name.
+  -- The new file is found by its own name, in upper or lower case.
   pub put_found : (other : List ℕ) → is_same_name name other ≡ true
       → file_named (mirrored (with_file image g.place (new_entry g name kind (length bytes) day) bytes)) other
       ≡ Some (new_entry g name kind (length bytes) day)
@@ -121,7 +121,8 @@ module _ (image name : List ℕ) (kind : ℕ) (bytes : List ℕ) (day : ℕ) (g 
             rw (unlike, c.files, at) (found_stays (is_named other) image new (files_of image) c.stay)
       ]
 
--- A file added under a name is found under it, and every other name gives what it gave before.
+-- If a file with the bytes `bytes` is added under `name`, then `name` gives `bytes`, and every other name gives what it
+-- gave before.
 pub added_given : (image name : List ℕ) (kind : ℕ) (bytes : List ℕ) (day : ℕ) (new : List ℕ) → IsVolumeOfBytes image
     → day < 65536 → added image name kind bytes day ≡ Ok new
     → (other : List ℕ) → file_given new other ≡ cond (is_same_name name other) (Some bytes) (file_given image other)
@@ -131,7 +132,7 @@ added_given image name kind bytes day new b dated made other =
     subst (λ new. file_given new other ≡ cond (is_same_name name other) (Some bytes) (file_given image other)) parts.2
     (put_given image name kind bytes day parts.0 b parts.1 dated other)
 
--- The entry of the added file is the new one, in some gap.
+-- If a file is added under `name`, then the first file with this name is the new entry, in some gap.
 pub added_found : (image name : List ℕ) (kind : ℕ) (bytes : List ℕ) (day : ℕ) (new : List ℕ) → IsVolumeOfBytes image
     → day < 65536 → added image name kind bytes day ≡ Ok new
     → (g : _) × (file_named new name ≡ Some (new_entry g name kind (length bytes) day))

@@ -1,4 +1,4 @@
--- A file that was copied from another volume, and a file whose kind was set.
+-- Lemmas for a file that was copied from another volume, and for a file whose kind was set.
 use Rattle.std.proofs.Common.{◌≡◌, ◌<◌, ◌≤◌, ℕ, zero, suc, ◌+◌, ◌-◌, ◌*◌, ◌%◌, Bool, true, false, cond, List, [], ◌∷◌, ◌++◌, ◌∙◌}
 use Rattle.std.proofs.Common.{ap, sym, refl, subst, inl, inr, length, arith, Option, Some, None, Result, Ok, Err}
 use Rattle.std.proofs.Math.Seq.{set-append_seam}
@@ -52,7 +52,7 @@ IsCopied-from_ok : (image name from : List ℕ) (entry : Option Entry) (fault : 
 IsCopied-from_ok image name from entry None new h = with_entry image name from entry new h
 IsCopied-from_ok image name from entry (Some fault) new h = cc
 
--- An entry that is found among slots of bytes consists of bytes.
+-- If the elements of a directory are bytes, then an entry found in it has only byte values.
 found-bytes : (directory : List ℕ) → Small directory → (p : Entry → Bool) (n left : ℕ) (e : Entry)
     → find p (entries_from directory n left) ≡ Some e → IsOfBytes e
 unfolding entries_from
@@ -95,7 +95,7 @@ kinded-ok : (image : List ℕ) (kind : ℕ) (chosen : Option ℕ) (new : List �
 kinded-ok image kind (Some slot) new h = (slot, refl, cc)
 kinded-ok image kind None new h = cc
 
--- The first file of a name is still found by it after its kind is set.
+-- If the kind of the first file with a name is set, then this file is still the first file with the name.
 found_kinded : (p : Entry → Bool) (n : ℕ) (front : List Entry) (e x : Entry) (back : List Entry)
     → position_from p n (front ++ e ∷ back) ≡ Some (n + length front) → p x ≡ p e
     → (find p (front ++ x ∷ back) ≡ Some x) × (find p (front ++ e ∷ back) ≡ Some e)
@@ -115,7 +115,7 @@ bytes_kinded : (image : List ℕ) (e : Entry) (kind : ℕ) → file_bytes image 
 unfolding file_bytes
 bytes_kinded image e kind = refl
 
--- Every name gives the bytes that it gave before.
+-- If only the kind of a file changes, then every name gives the bytes that it gave before.
 given_kinded : (name old new : List ℕ) (front : List Entry) (e : Entry) (kind : ℕ) (back : List Entry)
     → All (FileStays old new) (front ++ e ∷ back)
     → bytes_of_file new (find (is_named name) (front ++ (record e { kind = kind }) ∷ back))

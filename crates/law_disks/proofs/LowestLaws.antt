@@ -1,4 +1,4 @@
--- A file is put into the lowest free blocks that hold it.
+-- Lemmas: a file is put into the lowest range of free blocks that is large enough.
 use Rattle.std.proofs.Common.{◌≡◌, ◌≤◌, ◌⊎◌, ℕ, ◌+◌, List, ◌∙◌, sym, refl, inl, inr, length, Some, Result, Ok, Err, arith, subst}
 use Rattle.std.proofs.lemmas.List.Elements.{All-weaker}
 use Rattle.pm_volume.specs.Changes.{blocks_for, new_entry, place_for}

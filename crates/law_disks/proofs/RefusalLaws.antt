@@ -1,4 +1,4 @@
--- Of several refusals, the first one in the order of the checks is given.
+-- Lemmas: if several refusals apply, a command returns the first one in the order of the checks.
 use Rattle.std.proofs.Common.{◌≡◌, ◌==◌, ◌⊎◌, inl, inr, ℕ, ◌+◌, ◌/◌, ◌%◌, Bool, true, false, leb, ltb, ◌||◌, List, []}
 use Rattle.std.proofs.Common.{◌∷◌, ◌++◌, length}
 use Rattle.std.proofs.Common.{Option, Some, None, refl, ap, ◌∙◌, arith}
@@ -24,7 +24,7 @@ use Rattle.law_disks.specs.Refusals.{ImagesTellFirst, IsRefused, PutsTellFirst}
 
 -- ---- changes
 
--- A new file that passes all earlier checks is refused with `NoRoom`, or it succeeds.
+-- If a new file passes all earlier checks, then the command is refused with `NoRoom`, or it succeeds.
 room_or_done : (image name : List ℕ) (kind : ℕ) (bytes : List ℕ) (date : ℕ) (o : Option _)
     → IsRefused NoRoom (changed (added_in image name kind bytes date (ok_or o NoRoom)))
     ⊎ IsOk (changed (added_in image name kind bytes date (ok_or o NoRoom)))

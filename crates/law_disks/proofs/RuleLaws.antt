@@ -1,4 +1,4 @@
--- An image opens as a volume if and only if no fault of it is found.
+-- Lemmas: an image opens as a volume if and only if `image_findings` finds no fault in it.
 use Rattle.std.proofs.Common.{◌≡◌, ◌==◌, ◌<◌, ◌≤◌, ◌⊎◌, inl, inr, ℕ, zero, suc, ◌+◌, ◌-◌, ◌/◌, ◌%◌, Bool, true, false, ltb, not, ◌||◌, ◌&&◌}
 use Rattle.std.proofs.Common.{List, [], ◌∷◌, ◌++◌, length, min, refl, arith}
 use Rattle.std.specs.Prelude.{slice_index, if◌then◌else◌}

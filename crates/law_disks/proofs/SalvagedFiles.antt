@@ -1,4 +1,4 @@
--- The files that a saved volume has for the entries that are valid by themselves.
+-- Lemmas: a salvaged volume has a file for each entry that is valid by itself.
 use Rattle.std.proofs.Common.{◌≡◌, ◌<◌, ◌≤◌, ℕ, zero, suc, ◌+◌, ◌-◌, ◌*◌, ◌/◌, Bool, true, false, cond, not, leb, ltb, List, [], ◌∷◌, ◌++◌, ap, subst}
 use Rattle.std.proofs.Common.{refl, inl, inr}
 use Rattle.std.proofs.Common.{length, drop, take, get_or, Option, Some, None, Result, Ok, Err, arith}
@@ -95,7 +95,7 @@ new_so_far image name volume blocks fits h =
 
 -- ---- the entries
 
--- Each element of a list is a byte, and so is the default value after its end.
+-- Each element of `xs` is less than 256.
 abbrev pub Small : List ℕ → Type 0
 Small xs = (k : ℕ) → get_or xs k 0 < 256
 
@@ -139,7 +139,7 @@ inside_test : (lowest blocks length first end bytes : ℕ)
     → leb end first ≡ false → (bytes ≤ 512) × (end ≤ blocks) × (1 ≤ end)
 inside_test lowest blocks length first end bytes h more = (grind (arith, nat_tests), grind (arith, nat_tests), grind (arith, nat_tests))
 
--- An entry that could be in an image has its bytes in the image.
+-- If the blocks of an entry can be in an image, then the entry has bytes in the image.
 there : (image : List ℕ) (lowest : ℕ) (e : Entry) → could_stand lowest (image_blocks image) e ≡ true → (bytes : List ℕ) × (file_bytes image e ≡ Some bytes)
 unfolding file_bytes is_sound_entry
 there image lowest e h = elim (cases_Bool (leb e.end e.first)) [

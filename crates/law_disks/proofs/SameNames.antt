@@ -1,4 +1,4 @@
--- Names that are equal in upper or lower case.
+-- Lemmas for names that are equal if upper and lower case are considered equal.
 use Rattle.std.proofs.Common.{◌≡◌, ◌==◌, ℕ, ◌-◌, true, List, [], ◌∷◌, ◌∙◌, ap, sym, refl, inl, inr, length, map, replicate, arith}
 use Rattle.std.proofs.lemmas.Bool.{and_parts, cases_Bool, eqb-true}
 use Rattle.std.proofs.lemmas.Bool.Decides.{nat_tests}
@@ -50,7 +50,7 @@ same-from_upper a b same =
     size : (c : List ℕ) → length (upper c) ≡ length c
     size c = length-map c to_ascii_uppercase
 
--- Two names with the same upper case equal the same names.
+-- If two names have the same upper case, then they equal the same names.
 pub same-left : (a a' b : List ℕ) → upper a ≡ upper a' → is_same_name a b ≡ is_same_name a' b
 same-left a a' b same = elim (cases_Bool (is_same_name a b)) [
   | inl yes' ↦ yes' ∙ sym (same-from_upper a' b (sym same ∙ upper-from_same a b yes'))
@@ -79,12 +79,12 @@ upper-upper (c ∷ cs) =
     let rest : upper (upper cs) ≡ upper cs = upper-upper cs in
     rw (first, rest) refl
 
--- The characters of the field of a new name are the name in upper case.
+-- The characters in the field of a new name are the name in upper case.
 pub characters-field : (most : ℕ) (name : List ℕ) → characters_of (name_field most name) ≡ upper name
 unfolding characters_of name_field upper
 characters-field most name = take_at (map to_ascii_uppercase name) (replicate (most - length name) 0) (length name) (length-map name to_ascii_uppercase)
 
--- A file with a new name has exactly the names that equal it in upper or lower case.
+-- A file with the new name `name` has the name `other` if and only if both are equal in upper or lower case.
 pub named-new : (most : ℕ) (name other : List ℕ) → is_same_name (characters_of (name_field most name)) other ≡ is_same_name name other
 named-new most name other =
     let own = characters-field most name in

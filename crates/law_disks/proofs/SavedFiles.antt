@@ -1,4 +1,4 @@
--- A file that is saved, and the files that were saved before it.
+-- Lemmas for one file that `salvage` saves after other files.
 use Rattle.std.proofs.Common.{◌≡◌, ◌<◌, ◌≤◌, ℕ, zero, suc, ◌-◌, ◌*◌, Bool, true, false, List, [], ◌∷◌, ◌∙◌, ap, sym, subst, refl, inl, inr}
 use Rattle.std.proofs.Common.{length, map, Some, None, is_some, Ok, arith}
 use Rattle.std.specs.Prelude.{unwrap_or}
@@ -29,14 +29,14 @@ use Rattle.law_disks.proofs.SameNames.{characters-field, same-from_upper, upper,
 use Rattle.law_disks.proofs.SavedNames.{IsLowestNumber, lowest_number, own_free, upper-good, upper-numbered}
 use Rattle.law_disks.specs.SalvageLaws.{HasFileOfEach, HasOwnName, IsFileOf, name_of, own_name}
 
--- An entry of a directory of bytes whose blocks are in the image.
+-- The entry `e` is in a directory of bytes, and its blocks are in `image`.
 pub record IsGood (image : List ℕ) (e : Entry) : Type 0 where
   pub kind : e.kind < 16
   pub date : e.date < 65536
   pub contents : List ℕ
   pub had : file_bytes image e ≡ Some contents
 
--- The state after the entries `done` have been saved.
+-- The state of `salvage` after it has saved the files of the entries `done` in `volume`.
 pub record SavedSoFar (image volume : List ℕ) (done : List Entry) : Type 0 where
   pub volume_there : IsVolume volume
   pub small : length volume ≤ 512 * 65535
@@ -80,7 +80,8 @@ none-any key (e ∷ es) h = let first = h.0 in rw first (none-any key es h.1)
 
 -- ---- names
 
--- A file with the name of its own entry is not found by the different name of another entry.
+-- If the files `x` and `e` have different names, made valid, then the file of `x` without a number is not found by the
+-- name of `e`.
 unlike : (e x f : Entry) → HasOwnName x f → bytes_eq (own_name e) (own_name x) ≡ false → is_named (own_name e) f ≡ false
 unlike e x f own differ = elim (cases_Bool (is_named (own_name e) f)) [
   | inl same ↦

@@ -1,4 +1,4 @@
--- The names of saved files.
+-- Lemmas for the names of the files that `salvage` saves.
 use Rattle.std.proofs.Common.{◌≡◌, ◌<◌, ◌≤◌, ℕ, zero, suc, ◌+◌, ◌-◌, ◌^◌, Bool, true, false, List, [], ◌∷◌, ◌++◌, ◌∙◌, ap, subst, refl, inl, inr}
 use Rattle.std.proofs.Common.{length, map, take, replicate, Option, Some, None, is_some, arith}
 use Rattle.std.specs.Prelude.{◌==◌, if◌then◌else◌}
@@ -73,7 +73,7 @@ upper-numbered name (suc n) fits =
 
 -- ---- the lowest number that is free
 
--- The number of a name: with each lower number, another file has the name.
+-- `found` is the name with the lowest number that no file has: with each lower number, a file of `volume` has the name.
 pub record IsLowestNumber (volume name : List ℕ) (found : List ℕ) : Type 0 where
   pub number : ℕ
   pub small : number ≤ 77
@@ -102,7 +102,7 @@ lowest_from volume name n (suc left) fits below = elim (cases_Bool (is_none (fil
 pub lowest_number : (volume name : List ℕ) → IsLowestNumber volume name (free_from volume name 0 77)
 lowest_number volume name = lowest_from volume name 0 77 (omega arith) (λ other less. absurd (omega arith))
 
--- A name that no file has is used without a number.
+-- If no file of `volume` has the name `name`, made valid, then this name is used without a number.
 pub own_free : (volume name : List ℕ) → file_named volume (good_name name) ≡ None → free_from volume name 0 77 ≡ good_name name
 unfolding free_from numbered
 own_free volume name none = rw none refl

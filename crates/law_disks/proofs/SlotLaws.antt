@@ -1,4 +1,4 @@
--- A file of the list, by its slot.
+-- Lemmas for a file of the list that is selected by its slot.
 use Rattle.std.proofs.Common.{◌≡◌, ◌≤◌, inl, inr, ℕ, zero, suc, ◌+◌, ◌-◌, Bool, true, false, cond, leb, List, [], ◌∷◌, ◌++◌, length}
 use Rattle.std.proofs.Common.{Some, None, Ok, Err, not, refl, sym, ap, ◌∙◌, arith}
 use Rattle.std.proofs.lemmas.Bool.{cases_Bool}
@@ -25,7 +25,7 @@ use Rattle.law_disks.specs.Slots.{ChangeNamesOne, EmptySlotsAreRefused, HaveByte
 
 -- ---- lists
 
--- There is only one way to split a list at a position.
+-- Two ways to split a list at the same position are equal.
 record AreSame (xs xs' : List Entry) (e e' : Entry) (ys ys' : List Entry) : Type 0 where
   front : xs ≡ xs'
   one : e ≡ e'
@@ -50,7 +50,7 @@ length_split : (xs : List Entry) (e : Entry) (ys : List Entry) → length (xs ++
 length_split [] e ys = omega arith
 length_split (x ∷ xs) e ys = omega (arith, length_split xs e ys)
 
--- The first file of a name is at the position after the files without it.
+-- If no file in `xs` satisfies `p` and `e` does, then the first file that satisfies `p` is at the position after `xs`.
 first_at : (p : Entry → Bool) (n : ℕ) (xs : List Entry) (e : Entry) (ys : List Entry) → list_any p xs ≡ false → p e ≡ true
     → position_from p n (xs ++ e ∷ ys) ≡ Some (n + length xs)
 first_at p n [] e ys none here = let same : n + 0 ≡ n = omega arith in rw (here, same) refl
@@ -70,7 +70,7 @@ all_beside P [] e ys all = All-tail P e ys all
 all_beside P (x ∷ xs) e ys all =
     All-cons P x (xs ++ ys) (All-head P x (xs ++ e ∷ ys) all) (all_beside P xs e ys (All-tail P x (xs ++ e ∷ ys) all))
 
--- A list has at most `n` elements if it has none at position `n`.
+-- If a list has no element at the position `n`, then it has at most `n` elements.
 past : (es : List Entry) (n : ℕ) → slice_get es n ≡ None → length es ≤ n
 past [] n none = omega arith
 past (e ∷ es) zero none = cc
@@ -106,7 +106,7 @@ module _ (image : List ℕ) (before after : List Entry) (e : Entry) (files : fil
   name_beside : (new : List ℕ) → is_named_beside (directory_of image) (length before + 1) new ≡ list_any (is_named new) (before ++ after)
   name_beside new = ap (list_any (is_named new)) beside
 
-  -- Which slot gets a new name, or the refusal.
+  -- States which slot gets a new name, or the refusal.
   to_rename : (new : List ℕ) (b : Bool) → list_any (is_named new) (before ++ after) ≡ b
       → slot_to_rename (directory_of image) (slot_numbered (directory_of image) (length before + 1)) new
       ≡ cond (not (is_new_name 15 new)) (Err BadName) (cond b (Err Duplicate) (Ok (length before + 1)))
@@ -119,7 +119,7 @@ module _ (image : List ℕ) (before after : List Entry) (e : Entry) (files : fil
       let at : 1 + length before ≡ length before + 1 = omega arith in
       ap (position_from (is_named name) 1) files ∙ first_at (is_named name) 1 before e after none here ∙ ap Some at
 
--- The file of a slot is removed from the list.
+-- `slot_removed` succeeds for the slot after `before`, and the new image has the files `before` and `after`.
 pub record TakesOne (image : List ℕ) (before after : List Entry) : Type 0 where
   pub new : List ℕ
   pub made : slot_removed image (length before + 1) ≡ Ok new
@@ -171,7 +171,7 @@ slot_changes_tell_first image before after e new files = record {
   done = λ good none. rw (to_rename image before after e files new false none, good) refl;
 }
 
--- No slot number is found for a slot without a file.
+-- If the slot `slot` has no file, then `slot_numbered` returns `None`.
 unnumbered : (image : List ℕ) (slot : ℕ) → file_in_slot image slot ≡ None → slot_numbered (directory_of image) slot ≡ None
 unnumbered image zero none = refl
 unnumbered image (suc n) none =

@@ -1,4 +1,4 @@
--- The slots of a code file with a system segment.
+-- Lemmas for the slots of a code file with a system segment.
 use Rattle.byteorder.specs.Endian.{little_bytes}
 use Rattle.std.proofs.Common.{◌≡◌, ◌<◌, ◌≤◌, ◌⊎◌, inl, inr, ℕ, ◌+◌, ◌-◌, ◌*◌, ◌%◌, Bool, true, false, ◌&&◌, List, ◌++◌, ◌∙◌, ap}
 use Rattle.std.proofs.Common.{length, get_or, replicate, None, Some, cond, eqb, ltb, refl, arith, length-append}
@@ -26,7 +26,7 @@ behind : (k : ℕ) (name : List ℕ) → length name ≡ 8 → (k < 64) ⊎ (72 
 behind k name eight (inl low) = inl low
 behind k name eight (inr high) = inr (omega arith)
 
--- A byte of a dictionary that does not belong to slot 0 is unchanged.
+-- If a byte of the dictionary does not belong to slot 0, then it is unchanged.
 get_said : (xs : List ℕ) (b s : ℕ) (name rest : List ℕ) (k : ℕ) → 72 ≤ length xs → length name ≡ 8 → 4 ≤ k
     → (k < 64) ⊎ (72 ≤ k) → k < length xs
     → get_or (written (written (written xs 0 (little_bytes 2 b)) 2 (little_bytes 2 s)) 64 name ++ rest) k 0 ≡ get_or xs k 0
@@ -58,7 +58,7 @@ second_false : (a b : Bool) → (a && b) ≡ false → a ≡ true → b ≡ fals
 second_false true b h e = h
 second_false false b h e = cc
 
--- A segment of a slot without a fault is within its file.
+-- If a slot has no fault and is not empty, then its segment is within the file.
 within : (file : List ℕ) (n : ℕ) → slot_fault file n ≡ None → eqb (length_in file n) 0 ≡ false
     → 512 * block_in file n + length_in file n ≤ length file
 unfolding slot_fault
@@ -218,7 +218,7 @@ module _ (file segment : List ℕ) (slot : Slot) (code : IsCodeFile file) (few :
       lost : slot.length ≡ 0 → 0 < slot.length → ⊥
       lost e l = omega arith
 
-  -- Slot 0 has no fault.
+  -- If the length of the segment is even, then slot 0 has no fault.
   zero_sound : slot.length % 2 ≡ 0 → slot_fault (with_segment file slot segment) 0 ≡ None
   unfolding slot_fault
   zero_sound even =
@@ -228,7 +228,7 @@ module _ (file segment : List ℕ) (slot : Slot) (code : IsCodeFile file) (few :
       let fits = le-ltb (length (with_segment file slot segment)) (512 * blocks_for (length file) + slot.length) (omega arith) in
       rw (zero_length, zero_block, even, some, fits) refl
 
-  -- No other slot has a fault.
+  -- No slot from 1 to 15 has a fault.
   same_sound : (n : ℕ) → 1 ≤ n → n < 16 → slot_fault (with_segment file slot segment) n ≡ None
   unfolding slot_fault
   same_sound n from low =

@@ -1,4 +1,4 @@
--- A text that was put is returned by `GetText`.
+-- Lemma: `GetText` returns the text that `PutText` has put.
 use Rattle.std.proofs.Common.{◌≡◌, ℕ, false, ltb, List, refl, length, Option, Some, None, Ok, arith}
 use Rattle.std.proofs.lemmas.Bool.Decides.{nat_tests}
 use Rattle.pm_textfile.proofs.RoundTrip.{length-text_file, text_of-text_file}
@@ -17,7 +17,7 @@ text-faultless : (image name text : List ℕ) (f : Filed) → filed image (PutTe
 unfolding filed
 text-faultless image name text f done = faultless image name text (text_fault text) f done
 
--- To put a text is to put its text file.
+-- If `PutText` succeeds, then `Put` of the bytes of the text file with kind 3 gives the same result.
 put-text : (image name text : List ℕ) (f : Filed) → filed image (PutText name text) ≡ Ok f → filed image (Put name 3 (text_file text)) ≡ Ok f
 unfolding filed
 put-text image name text f done =

@@ -1,4 +1,4 @@
--- A new directory, and the largest gap of a volume.
+-- Lemmas for a new directory, and for the largest gap of a volume.
 use Rattle.byteorder.specs.Endian.{little_bytes}
 use Rattle.std.proofs.Common.{◌≡◌, ◌==◌, ◌≤◌, ◌<◌, ◌⊎◌, inl, inr, ℕ, ◌+◌, ◌-◌, Bool, true, false, cond, leb, List, [], ◌∷◌, ◌∙◌}
 use Rattle.std.proofs.Common.{None, Ok, Err}
@@ -95,7 +95,7 @@ zero_keeps_the_volume image name f b done =
 
 -- ---- the largest gap
 
--- The result of the fold is at least its initial value.
+-- The result of the fold is at least its initial value `a`.
 keeps_most : (a : ℕ) (gs : List _) → a ≤ fold (λ most gap. max most (gap_size gap)) a gs
 keeps_most a [] = omega arith
 keeps_most a (g ∷ gs) =
@@ -103,7 +103,7 @@ keeps_most a (g ∷ gs) =
     let more = le-max_left a (gap_size g) in
     omega (arith, rest, more)
 
--- The greater of two numbers is one of them.
+-- The greater of two numbers equals one of them.
 max_cases : (a b : ℕ) → (max a b ≡ a) ⊎ (max a b ≡ b)
 max_cases a b =
     let same = sub-add-eq-max a b in
@@ -112,7 +112,7 @@ max_cases a b =
       | inr more ↦ let gt = leb-false a b more in inl (omega (arith, same, gt))
     ]
 
--- The entries of files in order begin at block `from` or later.
+-- If the entries of files are in order from the block `from` on, then each of them begins at `from` or later.
 later : (blocks from : ℕ) (es : List Entry) → AreInOrder blocks from es → All (λ (e : Entry). from ≤ e.first) es
 unfolding AreInOrder
 later blocks from [] order = All-nil (λ (e : Entry). from ≤ e.first)
@@ -123,7 +123,7 @@ later blocks from (e ∷ es) order =
     All-cons (λ (x : Entry). from ≤ x.first) e es after
     (All-weaker (λ (x : Entry). e.end ≤ x.first) (λ (x : Entry). from ≤ x.first) (λ x far. omega (arith, far, order_of, after)) es rest)
 
--- Blocks from `from` on and before `blocks` are free among the entries `es`: `size` blocks that follow each other.
+-- Between the blocks `from` and `blocks`, a range of `size` blocks is free of the entries `es`.
 record IsFree (blocks from : ℕ) (es : List Entry) (size : ℕ) : Type 0 where
   pub begin : ℕ
   pub after : from ≤ begin
@@ -162,7 +162,7 @@ free_behind blocks from size e es order free =
 most_in : ℕ → ℕ → ℕ → ℕ → List Entry → ℕ
 most_in a blocks n from es = fold (λ most gap. max most (gap_size gap)) a (gaps blocks n from es)
 
--- The greatest size is the initial value, or it is the size of a free range of blocks.
+-- The greatest size is the initial value `a`, or it is the size of a free range of blocks.
 found : (a blocks n from : ℕ) (es : List Entry) → AreInOrder blocks from es → from ≤ blocks
     → (most_in a blocks n from es ≡ a) ⊎ IsFree blocks from es (most_in a blocks n from es)
 unfolding gaps most_in AreInOrder
@@ -183,7 +183,7 @@ found a blocks n from (e ∷ es) order room = elim (found (max a (e.first - from
   | inr free ↦ inr (free_behind blocks from (most_in (max a (e.first - from)) blocks (n + 1) e.end es) e es order free)
 ]
 
--- No gap holds more blocks than the greatest size.
+-- If `need` is greater than the greatest size, then no gap has `need` blocks.
 no_more : (need count a blocks n from : ℕ) (es : List Entry) → 1 ≤ need → most_in a blocks n from es < need
     → find (serves need count) (gaps blocks n from es) ≡ None
 unfolding gaps most_in

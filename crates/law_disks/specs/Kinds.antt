@@ -1,4 +1,6 @@
--- Laws of a file that was copied from another volume, and of a file whose kind was set.
+-- Laws of a file that was copied from another volume, and of a file whose kind was set. In comments, a *volume of
+-- bytes* is a volume whose elements are all below 256. A name *gives* the bytes of the first file with this name, or
+-- nothing if no file has the name. Upper and lower case of a name are equal.
 use Rattle.std.specs.Prelude.{◌≡◌, ◌%◌, ℕ, List, Some, Ok, if◌then◌else◌}
 use Rattle.pm_volume.specs.Directory.{IsVolume}
 use Rattle.pm_volume.specs.Files.{file_named}
@@ -7,8 +9,8 @@ use Rattle.pm_volume.specs.declared.entry.Entry.{Entry}
 use Rattle.pm_filer.specs.Filed.{Copy, Filed, Kind, filed}
 use Rattle.pm_filer.specs.Laws.{IsVolumeOfBytes, file_given}
 
--- After a successful `Copy` between volumes of bytes, the name, in upper or lower case, gives what it gives on the
--- volume `from`. Every other name gives what it gave before.
+-- After a successful `Copy` from a volume of bytes `from` to another volume of bytes, the name `name` gives what it
+-- gives on `from`. Every other name gives what it gave before.
 abbrev pub CopyIsGot : Type 0
 CopyIsGot =
     (image name from : List ℕ) (f : Filed) → IsVolumeOfBytes image → IsVolumeOfBytes from
@@ -16,13 +18,13 @@ CopyIsGot =
     → (other : List ℕ) → file_given f.image other
     ≡ (if is_same_name name other then file_given from name else file_given image other)
 
--- The files `one` and `other` have the same kind and the same date.
+-- The entries `one` and `other` have the same kind and the same date.
 pub record AreAlike (one other : Entry) : Type 0 where
   pub kind : one.kind ≡ other.kind
   pub date : one.date ≡ other.date
 
--- After a successful `Copy`, the first file of the name has the kind and the date of the first file of this name on the
--- volume `from`.
+-- After a successful `Copy`, the first file with the name `name` has the kind and the date of the first file with this
+-- name on the volume `from`.
 abbrev pub CopyKeepsKind : Type 0
 CopyKeepsKind =
     (image name from : List ℕ) (f : Filed) → IsVolumeOfBytes image → IsVolumeOfBytes from
@@ -30,8 +32,8 @@ CopyKeepsKind =
     → (there here : Entry) → file_named from name ≡ Some there → file_named f.image name ≡ Some here
     → AreAlike here there
 
--- After a successful `Kind`, the first file of the name has the given kind, modulo 16, and its entry is otherwise
--- unchanged.
+-- After a successful `Kind`, the first file with the name `name` has the kind `kind`, modulo 16, and its entry is
+-- otherwise unchanged.
 abbrev pub KindIsSet : Type 0
 KindIsSet =
     (image name : List ℕ) (kind : ℕ) (f : Filed) → IsVolume image → filed image (Kind name kind) ≡ Ok f

@@ -1,4 +1,5 @@
--- Which refusal a command or an image gives if several conditions hold: the first one in a fixed order.
+-- Laws that state which refusal a command or an image has if several conditions hold: the first refusal in a fixed
+-- order.
 use Rattle.std.specs.Prelude.{◌≡◌, ◌≢◌, ◌<◌, ◌≤◌, ◌⊎◌, ◌+◌, ◌/◌, ◌%◌, ℕ, true, false, List, [], ◌∷◌, ◌++◌, length}
 use Rattle.std.specs.Prelude.{Some, None, Result, Err, IsOk}
 use Rattle.pm_volume.specs.Changes.{slot_named, is_named_beside}
@@ -18,14 +19,14 @@ use Rattle.pm_filer.specs.Filed as order
 use Rattle.pm_filer.specs.declared.fault.FilerFault.{FilerFault}
 use Rattle.pm_filer.specs.declared.fault.FilerFault.TheVariants.{Volume}
 
--- The outcome of a command is the refusal with this fault of the volume.
+-- Is true if `outcome` is the refusal with the fault `fault` of the volume.
 abbrev pub IsRefused : VolumeFault → Result Filed FilerFault → Type 0
 IsRefused fault outcome = outcome ≡ Err (Volume fault)
 
 -- ---- changes
 
--- The refusals of a `Put`, in the order of the checks: the name is invalid; a file has it; there are at least 77 files;
--- no gap holds the bytes.
+-- `outcome` is the outcome of a `Put`. Its refusals are checked in this order: the name is invalid; a file has the
+-- name; the volume has at least 77 files; no range of free blocks is large enough.
 pub record PutTellsFirst (image name : List ℕ) (outcome : Result Filed FilerFault) : Type 0 where
   pub bad_name : is_new_name 15 name ≡ false → IsRefused BadName outcome
   pub there : is_new_name 15 name ≡ true → (e : Entry) → file_named image name ≡ Some e → IsRefused Duplicate outcome
@@ -38,8 +39,8 @@ abbrev pub PutsTellFirst : Type 0
 PutsTellFirst =
     (image name : List ℕ) (kind : ℕ) (bytes : List ℕ) → PutTellsFirst image name (filed image (Put name kind bytes))
 
--- The refusals of a `Change`, in the order of the checks: no file has the old name; the new name is invalid; another
--- file has the new name.
+-- `outcome` is the outcome of a `Change`. Its refusals are checked in this order: no file has the old name; the new
+-- name is invalid; another file has the new name.
 pub record ChangeTellsFirst (image old new : List ℕ) (outcome : Result Filed FilerFault) : Type 0 where
   pub no_file : slot_named (directory_of image) old ≡ None → IsRefused NoFile outcome
   pub bad_name : (slot : ℕ) → slot_named (directory_of image) old ≡ Some slot → is_new_name 15 new ≡ false
@@ -52,8 +53,8 @@ pub record ChangeTellsFirst (image old new : List ℕ) (outcome : Result Filed F
 abbrev pub ChangesTellFirst : Type 0
 ChangesTellFirst = (image old new : List ℕ) → ChangeTellsFirst image old new (filed image (Change old new))
 
--- The refusals of a `Duplicate`, in the order of the checks: the volume has fewer than 10 blocks; a file begins before
--- block 10.
+-- `outcome` is the outcome of a `Duplicate`. Its refusals are checked in this order: the volume has fewer than 10
+-- blocks; a file begins before block 10.
 pub record DoublingTells (image : List ℕ) (outcome : Result Filed FilerFault) : Type 0 where
   pub small : block_count (directory_of image) < 10 → IsRefused BadHeader outcome
   pub occupied : 10 ≤ block_count (directory_of image) → (good : List Entry) (e : Entry) (rest : List Entry)
@@ -64,13 +65,13 @@ DoublingTellsFirst = (image : List ℕ) → DoublingTells image (filed image ord
 
 -- ---- directories and images
 
--- The block after the last of these files, or `from` if there are none.
+-- Returns the block after the last of the files, or `from` if the list is empty.
 abbrev pub end_of : ℕ → List Entry → ℕ
 end_of from [] = from
 end_of from (e ∷ es) = end_of e.end es
 
--- The fault of an entry `e` after valid entries, in the order of the checks: the entry is not sound; it ends after the
--- last block of the volume.
+-- States the fault of the entry `e`, which follows the valid entries `good`. The conditions are checked in this order:
+-- the entry is not sound; the entry ends after the last block of the volume.
 pub record EntryTellsFirst (blocks n from : ℕ) (good : List Entry) (e : Entry) (rest : List Entry) : Type 0 where
   pub unsound : is_sound_entry (end_of from good) e ≡ false
       → entries_fault blocks n from (good ++ e ∷ rest) ≡ Some (BadEntry (n + length good))
@@ -82,8 +83,9 @@ EntriesTellFirst =
     (blocks n from : ℕ) (good : List Entry) (e : Entry) (rest : List Entry) → AreInOrder blocks from good
     → EntryTellsFirst blocks n from good e rest
 
--- The fault of a directory in an image of `blocks` blocks, in the order of the checks: its header is not sound; it
--- states more blocks than the image has; it states more than 77 files; its entries have a fault.
+-- States the fault of a directory in an image of `blocks` blocks. The conditions are checked in this order: the header
+-- is not sound; the directory states more blocks than the image has; it states more than 77 files; its entries have a
+-- fault.
 pub record DirectoryTellsFirst (directory : List ℕ) (blocks : ℕ) : Type 0 where
   pub header : is_header directory ≡ false → directory_fault directory blocks ≡ Some BadHeader
   pub past_end : is_header directory ≡ true → blocks < block_count directory

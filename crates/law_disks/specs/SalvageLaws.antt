@@ -1,4 +1,4 @@
--- Which files a volume made by `salvage` has.
+-- Laws of the files in a volume that `salvage` creates.
 use Rattle.std.specs.Prelude.{◌≡◌, ◌<◌, ℕ, true, Bool, List, map, is_some, Some, Ok}
 use Rattle.std.specs.List.{All, AllZip, IsDistinct}
 use Rattle.std.specs.List.Sorted.{IsPermutation}
@@ -10,9 +10,9 @@ use Rattle.pm_check.specs.Contents.{believed_of}
 use Rattle.pm_check.specs.Naming.{good_name, numbered}
 use Rattle.pm_check.specs.Saving.{Saved, salvaged}
 
--- The file `f` of `volume` is that of the entry `e` of `image`: it has the kind and the date of `e`, and the bytes that
--- `e` has in the image. Its name is the name of the entry, made valid, with a number; number 0 adds nothing. For each
--- lower number, a file of the volume has the name with that number.
+-- The file `f` of `volume` is the file of the entry `e` of `image`: it has the kind and the date of `e`, and the bytes
+-- that `e` has in `image`. Its name is the name of `e`, made valid, with a number. The number 0 adds nothing to the
+-- name. For each lower number, a file of `volume` has the name with the lower number.
 pub record IsFileOf (image volume : List ℕ) (e f : Entry) : Type 0 where
   pub kind : f.kind ≡ e.kind
   pub date : f.date ≡ e.date
@@ -24,21 +24,21 @@ pub record IsFileOf (image volume : List ℕ) (e f : Entry) : Type 0 where
   pub lowest : (other : ℕ) → other < number
       → is_some (file_named volume (numbered (characters_of e.name) other)) ≡ true
 
--- The characters of the name of an entry.
+-- Returns the characters of the name of the entry `f`.
 abbrev pub name_of : Entry → List ℕ
 name_of f = characters_of f.name
 
--- The name of the entry `e`, made valid.
+-- Returns the name of the entry `e`, made valid.
 abbrev pub own_name : Entry → List ℕ
 own_name e = good_name (name_of e)
 
--- The file `f` has the name of the entry `e`, made valid, without a number.
+-- Is true if the file `f` has the name of the entry `e`, made valid, without a number.
 abbrev pub HasOwnName : Entry → Entry → Type 0
 HasOwnName e f = name_of f ≡ own_name e
 
--- The files of `volume` are, in some order, those of the `entries` of `image`, one file for each entry. No two files
--- have the same name, in upper or lower case. If the names of the entries, made valid, all differ, each file has the
--- name of its entry without a number.
+-- The files of `volume` are, in some order, the files of the `entries` of `image`: one file for each entry. No two
+-- files have the same name, even if upper and lower case are considered equal. If the names of the entries, made valid,
+-- all differ, then each file has the name of its entry without a number.
 pub record HasFileOfEach (image volume : List ℕ) (entries : List Entry) : Type 0 where
   pub order : List Entry
   pub all : IsPermutation entries order
@@ -46,8 +46,8 @@ pub record HasFileOfEach (image volume : List ℕ) (entries : List Entry) : Type
   pub differ : IsDistinct is_same_name (map name_of (files_of volume))
   pub names : IsDistinct bytes_eq (map own_name entries) → AllZip HasOwnName order (files_of volume)
 
--- A volume that `salvaged` makes from an image of bytes, by either copy of the directory, has one file for each entry
--- of this copy that is valid by itself.
+-- If `salvaged` creates a volume from an image whose elements are bytes, then the volume has one file for each entry
+-- that is valid by itself in the selected copy of the directory.
 abbrev pub EntriesAreSaved : Type 0
 EntriesAreSaved = (image : List ℕ) (second : Bool) (s : Saved) → All (λ b. b < 256) image
     → salvaged image second ≡ Ok s → HasFileOfEach image s.volume (believed_of image second)

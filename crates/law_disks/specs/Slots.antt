@@ -1,5 +1,5 @@
--- How `RemoveSlot` and `ChangeSlot` change the list of files. The slot of a file is one more than the number of files
--- before it in the list.
+-- Laws of how `RemoveSlot` and `ChangeSlot` change the list of files. The slot of a file is one more than the number of
+-- files before it in the list.
 use Rattle.std.specs.Prelude.{◌≡◌, ◌+◌, ℕ, true, false, List, ◌∷◌, ◌++◌, length, None, Result, Ok, IsOk}
 use Rattle.std.specs.List.{All, list_any}
 use Rattle.pm_volume.specs.Directory.{IsVolume}
@@ -11,28 +11,28 @@ use Rattle.pm_filer.specs.Filed.{Done, Filed, Remove, Change, RemoveSlot, Change
 use Rattle.pm_filer.specs.declared.fault.FilerFault.{FilerFault}
 use Rattle.law_disks.specs.Refusals.{IsRefused}
 
--- The entries `files` have the same bytes in the images `old` and `new`.
+-- Is true if the entries `files` have the same bytes in the images `old` and `new`.
 abbrev pub HaveBytesOf : List ℕ → List ℕ → List Entry → Type 0
 HaveBytesOf old new files = All (λ (e : Entry). file_bytes new e ≡ file_bytes old e) files
 
--- A command succeeds with the answer `Done`. The list of files is then `list`, and the entries `stay` have the bytes
--- that they had.
+-- A command on the image `old` succeeds with the answer `Done`. The list of files is then `list`, and the entries
+-- `stay` have the same bytes as before.
 pub record LeavesFiles (old : List ℕ) (outcome : Result Filed FilerFault) (list stay : List Entry) : Type 0 where
   pub new : List ℕ
   pub done : outcome ≡ Ok (record { image = new; answer = Done })
   pub files : files_of new ≡ list
   pub bytes : HaveBytesOf old new stay
 
--- `RemoveSlot` with the slot of a file of a volume succeeds. The list then lacks this file. All other files are in it,
--- in the order and with the bytes that they had, whatever their names.
+-- `RemoveSlot` with the slot of a file of a volume succeeds. The list of files is then the old list without this file.
+-- All other files have the same order and the same bytes as before, for any names.
 abbrev pub RemovalTakesOne : Type 0
 RemovalTakesOne =
     (image : List ℕ) (before after : List Entry) (e : Entry) → IsVolume image → files_of image ≡ before ++ e ∷ after
     → LeavesFiles image (filed image (RemoveSlot (length before + 1))) (before ++ after) (before ++ after)
 
 -- `ChangeSlot` with the slot of a file of a volume succeeds if the new name is valid and no other file has it. The file
--- then has the new name at the same position of the list. Nothing else in the list changes, and all files have the
--- bytes that they had.
+-- then has the new name at the same position of the list. Nothing else in the list changes. All files have the bytes
+-- that they had before.
 abbrev pub ChangeNamesOne : Type 0
 ChangeNamesOne =
     (image : List ℕ) (before after : List Entry) (e : Entry) (new : List ℕ) → IsVolume image
@@ -41,7 +41,8 @@ ChangeNamesOne =
     → LeavesFiles image (filed image (ChangeSlot (length before + 1) new))
     (before ++ record e { name = name_field 15 new } ∷ after) (before ++ e ∷ after)
 
--- The refusals of a `ChangeSlot`, in the order of the checks: the new name is invalid; another file has it.
+-- `outcome` is the outcome of a `ChangeSlot`. Its refusals are checked in this order: the new name is invalid; another
+-- file has the new name.
 pub record SlotChangeTellsFirst (before after : List Entry) (new : List ℕ) (outcome : Result Filed FilerFault) : Type 0
   where
     pub bad_name : is_new_name 15 new ≡ false → IsRefused BadName outcome

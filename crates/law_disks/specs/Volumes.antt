@@ -1,4 +1,4 @@
--- What `Zero` keeps of a volume, and what its largest gap is.
+-- Laws of a volume after `Zero`, and of the largest gap of a volume.
 use Rattle.std.specs.Prelude.{◌≡◌, ◌≤◌, ◌+◌, ℕ, List, [], Ok}
 use Rattle.pm_volume.specs.Directory.{IsVolume, block_count, directory_of, files_begin}
 use Rattle.pm_volume.specs.Files.{files_of}
@@ -18,7 +18,7 @@ abbrev pub ZeroKeepsTheVolume : Type 0
 ZeroKeepsTheVolume =
     (image name : List ℕ) (f : Filed) → IsVolumeOfBytes image → filed image (Zero name) ≡ Ok f → IsEmptied image f.image
 
--- Some `size` blocks that follow each other are free, and no greater number of blocks that follow each other are free.
+-- Some range of `size` blocks is free, and no range of more blocks is free.
 pub record IsLargestGap (directory : List ℕ) (size : ℕ) : Type 0 where
   pub begin : ℕ
   pub free : AreFree directory begin (begin + size)

@@ -1,5 +1,5 @@
-//! Laws of volumes, of the commands that change them, of checks, and of code files with a system segment. A law states
-//! a fact about definitions. The functions do nothing.
+//! Laws of volumes, of the commands that change volumes, of `check`, and of code files with a system segment. A law
+//! states a fact about definitions. Each function has an empty body.
 #![tactic(auto)]
 
 pub mod check;

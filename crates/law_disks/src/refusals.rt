@@ -1,4 +1,5 @@
-//! Laws that state which refusal a call gives if several conditions hold: the first one in a fixed order.
+//! Laws that state which refusal a call returns if several conditions hold: the first refusal in a fixed order. Each
+//! function has an empty body.
 
 ghost use Rattle.law_disks.specs.Refusals as refusals;
 
@@ -24,16 +25,17 @@ pub fn doubling_tells_first()
     ensures law { refusals.DoublingTellsFirst }
 {}
 
-/// Take an entry of a directory after entries that are all valid. If the entry is not sound after them, the fault is
-/// `BadEntry` with its number. Otherwise, if it ends after the last block of the volume, the fault is `PastEnd`.
+/// If all earlier entries of a directory are valid, then the fault of the next entry is `BadEntry` with its number if
+/// the entry is not sound, as `is_sound_entry` states. Otherwise the fault is `PastEnd` if the entry ends after the
+/// last block of the volume.
 #[tactic(auto, using(crate::proofs::RefusalLaws::entries_tell_first))]
 pub fn entries_tell_first()
     ensures law { refusals.EntriesTellFirst }
 {}
 
 /// The fault of a directory is `BadHeader` if its header is not sound. Otherwise it is `PastEnd` if the directory
-/// states more blocks than the image has. Otherwise it is `TooManyFiles` if it states more than 77 files. Otherwise it
-/// is the fault of its entries, if they have one.
+/// states more blocks than the image has. Otherwise it is `TooManyFiles` if the directory states more than 77 files.
+/// Otherwise it is the fault of its entries, if they have one.
 #[tactic(auto, using(crate::proofs::RefusalLaws::directories_tell_first))]
 pub fn directories_tell_first()
     ensures law { refusals.DirectoriesTellFirst }

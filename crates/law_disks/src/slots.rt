@@ -1,17 +1,18 @@
-//! Laws of how a removal or a new name, by slot or by pattern, changes the list of files.
+//! Laws of how removing or renaming a file, which is selected by slot or by pattern, changes the list of files. Each
+//! function has an empty body.
 
 ghost use Rattle.law_disks.specs.Fitting as fitting;
 ghost use Rattle.law_disks.specs.Slots as slots;
 
-/// `RemoveSlot` with the slot of a file of a volume succeeds. The list of files then lacks this file. All other files,
-/// even those of the same name, are in the list in the same order, with the bytes that they had.
+/// `RemoveSlot` with the slot of a file of a volume succeeds. The list of files is then the old list without this file.
+/// All other files, even files with the same name, have the same order and the same bytes as before.
 pub fn removal_takes_one()
     ensures law { slots.RemovalTakesOne }
 {}
 
 /// `ChangeSlot` with the slot of a file of a volume succeeds if the new name is valid and no other file has it. The
-/// file then has the new name, at the same position of the list, and is otherwise unchanged. All other files, even
-/// those of its old name, are unchanged, and all files have the bytes that they had.
+/// file then has the new name at the same position of the list, and is otherwise unchanged. All other files, even files
+/// with its old name, are unchanged. All files have the bytes that they had before.
 pub fn change_names_one()
     ensures law { slots.ChangeNamesOne }
 {}
@@ -33,16 +34,17 @@ pub fn names_are_slots()
     ensures law { slots.NamesAreSlots }
 {}
 
-/// A pattern that contains `=` matches exactly the names that have three parts: the characters before its first `=`,
-/// any characters, and the characters after this `=`. A pattern without `=` matches exactly the names that equal it.
-/// Upper and lower case are equal.
+/// A pattern that contains `=` matches exactly the names with three parts: the characters before its first `=`, any
+/// characters, and the characters after this `=`. A pattern without `=` matches exactly the names that equal the
+/// pattern. Upper and lower case are equal.
 pub fn equals_is_anything()
     ensures law { fitting.EqualsIsAnything }
     ensures name { fitting.PatternIsName }
 {}
 
-/// `RemoveFitting` on a volume succeeds if some file matches the pattern. The files that do not match are then the list
-/// of files, in the same order, with the bytes that they had. If no file matches, the command is refused with `NoFile`.
+/// `RemoveFitting` on a volume succeeds if some file matches the pattern. The list of files is then the old list
+/// without the files that match. The other files have the same order and the same bytes as before. If no file matches,
+/// the command is refused with `NoFile`.
 pub fn removal_leaves_unfit()
     ensures law { fitting.RemovalLeavesUnfit }
     ensures refused { fitting.UnfitIsRefused }

@@ -1,4 +1,5 @@
-//! Laws of a volume whose files were all removed, and of its largest gap.
+//! Laws of a volume after `Zero`, and of the largest gap of a volume. Each function has an empty body. In comments, a
+//! *volume of bytes* is a volume whose elements are all below 256.
 
 ghost use Rattle.law_disks.specs.Volumes.{LargestIsAGap, ZeroKeepsTheVolume};
 
@@ -8,8 +9,7 @@ pub fn zero_keeps_the_volume()
     ensures law { ZeroKeepsTheVolume }
 {}
 
-/// On a volume, `largest_gap` is a number of free blocks that follow each other, and no greater number of free blocks
-/// follow each other.
+/// On a volume, `largest_gap` is the size of a range of free blocks, and no range of free blocks is larger.
 pub fn largest_is_a_gap()
     ensures law { LargestIsAGap }
 {}

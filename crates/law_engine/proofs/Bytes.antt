@@ -1,4 +1,4 @@
--- The parts of an image of bytes are bytes, and its numbers are words.
+-- Lemmas: if the elements of an image are bytes, then so are its parts, and its block numbers are less than 65,536.
 use Rattle.std.proofs.Common.{◌≡◌, ◌<◌, ℕ, ◌+◌, ◌-◌, ◌*◌, Bool, true, false, cond, nat_lt, nat_le, List, [], length, get_or, slice_range, slice_index, Some}
 use Rattle.std.proofs.Common.{None, inl, inr, subst, arith}
 use Rattle.std.specs.List.{All}
@@ -33,7 +33,7 @@ word_fits : (bs : List ℕ) (k : ℕ) → AreBytes bs → word_in bs k < 65536
 unfolding word_in
 word_fits bs k h = let low = byte_fits bs k h in let high = byte_fits bs (k + 1) h in omega (arith, low, high)
 
--- An entry that is found ends at a block whose number is a word.
+-- If an entry is found in an image of bytes, then the number of its end block is less than 65,536.
 pub end_fits : (image name : List ℕ) (entry : Entry) (file : List ℕ) → IsImage image → IsFound image name entry file → entry.end < 65536
 end_fits image name entry file is f =
     let lies = found_all (IsWithin (files_begin (directory_of image)) (block_count (directory_of image))) (is_named name) (files_of image) entry
@@ -42,7 +42,7 @@ end_fits image name entry file is f =
     let count = word_fits (directory_of image) 14 (range_fits image 1024 3072 is.bytes) in
     omega (arith, within, count)
 
--- The file of an entry consists of bytes.
+-- If the elements of an image are bytes, then the bytes of the file of an entry are bytes.
 two_parts : (a b : Bool) (xs file : List ℕ) → AreBytes xs → cond a (Some []) (cond b (Some xs) None) ≡ Some file → AreBytes file
 two_parts true b xs file fits h = let same : [] ≡ file = cc in subst AreBytes same (All-nil (λ b. b < 256))
 two_parts false true xs file fits h = let same : xs ≡ file = cc in subst AreBytes same fits

@@ -1,4 +1,4 @@
--- The SP after a call and its return.
+-- Lemmas for the SP after a call and its return.
 use Rattle.std.proofs.Common.{◌≡◌, ◌≤◌, ℕ, ◌+◌, ◌-◌, ◌*◌, ◌/◌, ◌%◌, ◌==◌, ◌&&◌, Bool, not, nat_lt, nat_le}
 use Rattle.std.proofs.Common.{List, length, Option, Some, None, Ok, refl, sym, ap, ◌∙◌, arith}
 use Rattle.std.specs.Prelude.{slice_get}
@@ -24,7 +24,7 @@ use Rattle.pm_calls.proofs.ReturnLaws.{bound, control_kept, control_written, fra
 use Rattle.pm_calls.proofs.ReturnLaws.{return_read, standing_memory}
 use Rattle.law_engine.specs.CallEffects.{CallsAreTheMachines, MovesByTable, kept_sp}
 
--- A table that is found has an even size of parameters.
+-- If an attribute table is found, then its size of parameters is even.
 even_parameters : (m : List ℕ) (s p : ℕ) (t : Table) → attributes m s p ≡ Ok t → t.parameters % 2 ≡ 0
 unfolding attributes
 even_parameters m s p t h =
@@ -40,7 +40,7 @@ even_parameters m s p t h =
     let same : u.parameters ≡ t.parameters = ap (λ (x : Table). x.parameters) (ok_same u t sizes.1) in
     rw (sym same) is_so
 
--- A return leaves its words below the SP that its frame saves.
+-- If a return of `results` words succeeds, then these words end at the SP that the frame has saved.
 leaves_below : (c e : Parts) (results : ℕ) (base : Bool) → returned c results base ≡ Ok e → e.registers.sp + 2 * results ≡ kept_sp c
 unfolding returned
 leaves_below c e results base h =
@@ -53,7 +53,7 @@ leaves_below c e results base h =
     let at : above - 2 * results ≡ e.registers.sp = ap (λ (p : Parts). p.registers.sp) (ok_same _ _ third.1) in
     omega (arith, room, at)
 
--- The frame of a call saves the SP above the parameters.
+-- If a call creates a frame, then the frame saves the SP above the parameters.
 frame_stays : (m n : List ℕ) (s loaded static : ℕ) (r inner : Registers) (base : Bool) (t : Table) → IsMemory m → inner.mp % 2 ≡ 0
     → framed m s loaded r base t static ≡ Ok (n, inner) → word_at n (inner.mp + 10) ≡ r.sp + t.parameters
 frame_stays m n s loaded static r inner base t is even made =
@@ -70,7 +70,8 @@ frame_stays m n s loaded static r inner base t is even made =
     ap (λ ws. word_at ws (inner.mp + 10)) x.1.memory
     ∙ ap (λ a. word_at (with_old_base base (with_frame m f static r t.parameters) f r.base) (a + 10)) at ∙ kept.sp
 
--- A call of a procedure in a segment that was reached.
+-- If a call of a procedure in the reached segment `at` and a later return succeed, then SP moves by the effect of the
+-- procedure.
 at_moves : (c d b e : Parts) (call : Call) (code : Option (List ℕ)) (at : Reached) (results : ℕ) (base : Bool) → Reaches c call code at
     → IsMemory at.memory → called_at c call at ≡ Ok d → b.registers.mp ≡ d.registers.mp → kept_sp b ≡ kept_sp d
     → returned b results base ≡ Ok e → MovesByTable c call code results e

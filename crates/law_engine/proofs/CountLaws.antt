@@ -1,4 +1,4 @@
--- Each segment with an address has at least one call or keep.
+-- Lemmas: each segment with an address has at least one call or keep.
 use Rattle.std.proofs.Common.{◌≡◌, ◌<◌, inl, inr, ℕ, ◌+◌, ◌-◌, ◌||◌, nat_lt, List, [], ◌∷◌, replicate, Option, Some, None, arith}
 use Rattle.std.specs.Prelude.{slice_get, slice_set, slice_index_or, option_and_then, position}
 use Rattle.std.specs.List.{All}
@@ -43,7 +43,7 @@ load_counts : (places : Places) (n s : ℕ) → slice_get places n ≡ Some None
     → AreCounted (slice_set places n (Some (record { place = s; count = 1; keeps = 0 })))
 load_counts places n s is h = All-set IsCounted places n (Some (record { place = s; count = 1; keeps = 0 })) (first_one s) h
 
--- A segment that still has an address after it lost one call has a call or a keep.
+-- If a segment still has an address after it lost one call, then it has a call or a keep.
 less_counts : (o : Option SegmentPlace) → IsCounted (option_and_then one_call_less o)
 less_counts None = tt
 less_counts (Some p) = elim (cases_Bool (nat_lt 1 p.count || nat_lt 0 p.keeps)) [
@@ -84,7 +84,7 @@ kept_counts : (c : Parts) (n : ℕ) (code : Option (List ℕ)) → AreCounted c.
 unfolding segment_kept
 kept_counts c n code h = keep_slot_counts c n code (slice_get c.places n) h
 
--- A segment that still has an address after it lost one keep has a call or a keep.
+-- If a segment still has an address after it lost one keep, then it has a call or a keep.
 less_kept_counts : (p : SegmentPlace) → IsCounted (less_kept p)
 less_kept_counts p = elim (cases_Bool (nat_lt 1 p.keeps || nat_lt 0 p.count)) [
   | inl e ↦ let left : 0 < p.count + (p.keeps - 1) = grind (arith, nat_tests, e) in rw e left

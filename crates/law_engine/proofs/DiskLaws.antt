@@ -1,4 +1,4 @@
--- A disk stores what is written to it.
+-- Lemma: a disk stores what is written to it.
 use Rattle.std.proofs.Common.{◌≡◌, ℕ, ◌+◌, ◌-◌, ◌*◌, ◌≤◌, List, length, take, drop, slice_range, ◌++◌, arith}
 use Rattle.std.proofs.lemmas.Bool.Decides.{nat_tests}
 use Rattle.std.proofs.lemmas.List.{length-take-le}
@@ -8,7 +8,7 @@ use Rattle.pm_volume.specs.Words.{written}
 use Rattle.law_engine.specs.UnitsLaws.{DisksKeep}
 use Rattle.pm_units.specs.Transfers.{named_bytes}
 
--- Items that are written into a list are the items at these positions.
+-- If `ys` is written into `xs` from the index `i` on, then the elements from `i` on are `ys`.
 part-written : (xs ys : List ℕ) (i n : ℕ) → length ys ≡ n → i + n ≤ length xs → slice_range (written xs i ys) i (i + n) ≡ ys
 unfolding written
 part-written xs ys i n size room =

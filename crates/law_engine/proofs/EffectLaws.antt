@@ -1,4 +1,4 @@
--- The SP after each row.
+-- Lemmas for the SP after each row, in terms of the table of effects.
 use Rattle.std.proofs.Common.{◌≡◌, ◌≤◌, inl, inr, ℕ, ◌+◌, ◌-◌, ◌*◌, ◌/◌, ◌%◌, ◌&&◌, ◌||◌, ◌==◌, Bool, true, false, not, max, min}
 use Rattle.std.proofs.Common.{cond, nat_lt, nat_le, List, [], ◌∷◌, ◌++◌, length, take, drop, get_or, Result, Ok, Err, refl, sym, ap, ◌∙◌, arith}
 use Rattle.std.specs.Prelude.{int_lt}
@@ -68,12 +68,12 @@ step g s (Err e) f h = tt
 above : (m : List ℕ) (sp : ℕ) (p : Popped) → pop m sp ≡ Ok p → p.above ≡ sp + 2
 above m sp p h = (popped m sp p h).above
 
--- A word is popped off a stack on which `g` is `k` words from SP.
+-- If `g` is `k + 1` words above `sp`, then after one word is popped it is `k` words above the new SP.
 pops : (g : ℕ) (s : Share) (m : List ℕ) (sp k : ℕ) (f : Popped → Result (List ℕ × ℕ) ExecError) → sp + 2 * (k + 1) ≡ g
     → ((a : Popped) → a.above + 2 * k ≡ g → EndsAt g s (f a)) → EndsAt g s (pop m sp >>= f)
 pops g s m sp k f e h = step g s (pop m sp) f (λ a p. let up = above m sp a p in h a (omega (arith, e, up)))
 
--- One word is pushed.
+-- If one word is pushed, then the word ends at the SP before the push.
 one : (g : ℕ) (m : List ℕ) (sp np w : ℕ) → sp + 2 * 0 ≡ g → EndsAt g (so_many 1) (push m sp np w)
 one g m sp np w e = elim (cases_Bool (nat_lt sp (np + 2))) [
   | inl l ↦ rw l tt
@@ -94,7 +94,7 @@ several g m ws sp np k count e = step g (so_many k) (demand (nat_le (np + 2 * le
     let room = fits np (length ws) sp (held (nat_le (np + 2 * length ws) sp) StackOverflow u h) in
     omega (arith, room, e, count))
 
--- The first of several words that are written.
+-- If words are written from the address `a` on, then the word at `a` is the first of them.
 pub first : (ws vs : List ℕ) (a w : ℕ) → a / 2 ≤ length ws → word_at (with_words ws a (w ∷ vs)) a ≡ w
 unfolding word_at with_words
 first ws vs a w room =
@@ -111,7 +111,7 @@ a_set g m ws sp np memory low e = step g share.Set (demand (nat_le (np + 2 * len
     first m ws (sp - 2 * length (with_length ws)) (length ws) (omega (arith, low, size)) in
     rw count (omega (arith, room, e)))
 
--- The SP after a word is popped, and after a set is popped.
+-- If a word is popped, or a set is popped, then the SP after it is at most 65,504.
 pub below_word : (m : List ℕ) (sp : ℕ) (p : Popped) → pop m sp ≡ Ok p → p.above ≤ 65504
 below_word m sp p h =
     let is = popped m sp p h in
@@ -199,7 +199,7 @@ literal_moves (literal.String start) m sp np = one (sp + 2 * 0) m sp np _ refl
 literal_moves (literal.Characters start) m sp np = one (sp + 2 * 0) m sp np _ refl
 literal_moves (literal.Words start count) m sp np = words_move start (count / 2 % 256) m sp np
 
--- The address after a set at the top of the stack and `more` words below it.
+-- Returns the address after a set at the top of the stack and `more` words below it.
 abbrev set_end : List ℕ → ℕ → ℕ → ℕ
 set_end m sp more = sp + 2 * ((word_at m sp + 1) + more)
 

@@ -1,4 +1,4 @@
--- The memory that EXIT leaves.
+-- Lemmas for the memory that EXIT leaves.
 use Rattle.std.proofs.Common.{◌≡◌, ◌≢◌, ◌<◌, ℕ, zero, suc, ◌+◌, ◌%◌, Bool, true, false, not, List, length, Option, Some, None}
 use Rattle.std.proofs.Common.{Result, Ok, Err, refl, sym, ap, ◌∙◌, arith, inl, inr}
 use Rattle.std.proofs.lemmas.Bool.{cases_Bool, cases_lt}
@@ -20,7 +20,7 @@ use Rattle.pm_calls.proofs.WalkLaws.{stops}
 pub some_same : (x y : ℕ) → Some x ≡ Some y → x ≡ y
 some_same x y h = cc
 
--- If nothing is found, nothing passes.
+-- If no number up to `n` satisfies the test `t`, then no number below `n` satisfies it, and `n` does not either.
 none_at : (t : ℕ → Bool) (n : ℕ) (o : Option ℕ) (b : Bool) → least_below t n ≡ o → t n ≡ b → or_else_if o b n ≡ None
     → (least_below t n ≡ None) × (t n ≡ false)
 none_at t n (Some k) b found here h = cc
@@ -37,7 +37,7 @@ none_passes t (suc n) h i l =
       | inr more ↦ let same : i ≡ n = omega (arith, l, more) in rw same both.1
     ]
 
--- The found number is less than the bound and passes, and no lower number passes.
+-- `k` is less than `n`, satisfies the test `t`, and no lower number satisfies it.
 pub record IsLeast (t : ℕ → Bool) (n k : ℕ) : Type 0 where
   pub below : k < n
   pub passes : t k ≡ true
@@ -60,7 +60,7 @@ found_is_least t (suc n) k h = found_at t n k (least_below t n) (t n) refl refl 
 
 -- ---- the frames of a walk that ended
 
--- The walk continues at the frames before `k`, and finds the named procedure at frame `k`.
+-- The frames before the frame `k` are not the one that EXIT searches, and the frame `k` is.
 pub record IsWalk (m : List ℕ) (p : Wanted) (a k : ℕ) : Type 0 where
   pub before : (i : ℕ) → i < k → met m p (frame_up m a i) ≡ Ok false
   pub there : met m p (frame_up m a k) ≡ Ok true
@@ -95,7 +95,7 @@ last_is_walk m p a k h =
       there = off (met m p (frame_up m a k)) x.1 x.2 least.passes;
     }
 
--- The address of each frame that was met is even.
+-- If a word is loaded from an address, then the address is even.
 loaded_even : (m : List ℕ) (a w : ℕ) → load m a ≡ Ok w → a % 2 ≡ 0
 loaded_even m a w h = elim (cases_Bool (is_even a)) [ inl e ↦ grind (arith, nat_tests, e) | inr e ↦ cc ]
 
@@ -124,7 +124,7 @@ size-with_exits m a (suc n) =
 abbrev pub AreEven : List ℕ → ℕ → ℕ → Type 0
 AreEven m a n = (i : ℕ) → i < n → frame_up m a i % 2 ≡ 0
 
--- A word that is no saved IPC is unchanged.
+-- If `x` is not the address of a saved IPC of the `n` frames, then the word at `x` is unchanged.
 pub others_stay : (m : List ℕ) (a n x : ℕ) → AreEven m a n → x % 2 ≡ 0 → ((i : ℕ) → i < n → x ≢ (frame_up m a i + 8) % 65536)
     → word_at (with_exits m a n) x ≡ word_at m x
 unfolding with_exits
@@ -135,7 +135,8 @@ others_stay m a (suc n) x even here apart =
     (omega (arith, f)) here (apart n (omega arith))
     ∙ others_stay m a n x (λ i l. even i (omega (arith, l))) here (λ i l. apart i (omega (arith, l)))
 
--- A saved IPC that no later frame has becomes the exit address of its procedure.
+-- If no later frame saves its IPC in the same word, then the saved IPC of the frame `i` becomes the exit address of its
+-- procedure.
 pub saved_stands : (m : List ℕ) (a n i : ℕ) → length m ≡ 32768 → AreEven m a n → i < n →
     ((j : ℕ) → i < j → j < n → (frame_up m a i + 8) % 65536 ≢ (frame_up m a j + 8) % 65536)
     → word_at (with_exits m a n) ((frame_up m a i + 8) % 65536) ≡ exit_code m (control m (frame_up m a i) 4)
@@ -156,7 +157,7 @@ saved_stands m a (suc n) i size even l apart =
 
 -- ---- EXIT
 
--- The memory after EXIT is that with `count` frames left.
+-- The memory after EXIT is the memory in which `count` frames are left.
 pub record IsExited (m n : List ℕ) (p : Wanted) (a : ℕ) (here : Bool) (count : ℕ) : Type 0 where
   pub frames : frames_left here m p a ≡ Ok count
   pub even : AreEven m a count

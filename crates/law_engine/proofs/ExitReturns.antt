@@ -1,4 +1,4 @@
--- The frames to which the returns after EXIT lead.
+-- Lemmas for the frames to which the returns after EXIT lead.
 use Rattle.std.proofs.Common.{◌≡◌, ◌≢◌, ◌<◌, ◌≤◌, ℕ, zero, suc, ◌+◌, ◌-◌, ◌*◌, ◌/◌, ◌%◌, ◌==◌, ◌&&◌, ◌||◌, not, Bool, true, false, List, [], ◌∷◌}
 use Rattle.std.proofs.Common.{nat_le, length, Result, Ok, refl, sym, ap, ◌∙◌, subst, arith, add-one, inl, inr}
 use Rattle.std.proofs.lemmas.Bool.{and_parts, cases_Bool, cases_lt}
@@ -53,7 +53,7 @@ went_back e g words base h =
 
 -- ---- the frames that EXIT leaves
 
--- A frame that is left ends below the next one.
+-- If a frame is left by EXIT, then its control words end below the next frame.
 below : (c : Parts) (n i : ℕ) → AreStacked c n → i < n → frame_up c.memory c.registers.mp i + 12 ≤ frame_up c.memory c.registers.mp (suc i)
 below c n i h l =
     let here = h i l in
@@ -73,7 +73,7 @@ ascend c n i (suc j) h l k = elim (cases_lt i j) [
       (below c n j h (omega (arith, k)))
 ]
 
--- A word is less than 65,536.
+-- If the memory is valid, then each of its words is less than 65,536.
 fits : (m : List ℕ) (a : ℕ) → IsMemory m → a < 65536 → word_at m a < 65536
 unfolding word_at
 fits m a h l = h.fits (a / 2) 0 (omega (arith, h.size))
@@ -84,7 +84,7 @@ ends c n i memory h l =
     let low = fits c.memory ((frame_up c.memory c.registers.mp i + 10) % 65536) memory (mod-lt (frame_up c.memory c.registers.mp i + 10) (omega arith)) in
     omega (arith, words, low)
 
--- EXIT writes no control word of the frames up to the last one, except the saved IPC.
+-- A control word of a frame other than its saved IPC is not at the address of a saved IPC.
 apart : (f g t : ℕ) → t < 12 → t ≢ 8 → g + 12 < 65536 → (f ≡ g) → f + t ≢ (g + 8) % 65536
 apart f g t low other room same = λ e. other (omega (arith, low, room, same, e))
 
@@ -108,7 +108,7 @@ stays c n i t memory even h l low other et ef =
     others_stay c.memory c.registers.mp n (frame_up c.memory c.registers.mp i + t) even (omega (arith, et, ef))
     (λ j k. not_written c n i j t memory h l k low other)
 
--- A control word of a frame that is in memory.
+-- If a control word is in memory, then it is at the address of the frame plus its offset.
 control_at : (m : List ℕ) (f t : ℕ) → f + t < 65536 → word_at m (f + t) ≡ control m f t
 control_at m f t l = ap (word_at m) (sym (small (f + t) l))
   where
@@ -129,7 +129,7 @@ saved c n i memory even h l =
     let high = ends c n j memory h k in
     λ e. omega (arith, room, next, high, e))
 
--- EXIT writes words.
+-- If a memory is valid, then the memory after EXIT is valid.
 exits_are_words : (m : List ℕ) (a n : ℕ) → IsMemory m → IsMemory (with_exits m a n)
 unfolding with_exits
 exits_are_words m a zero h = h
@@ -138,7 +138,7 @@ exits_are_words m a (suc n) h =
 
 -- ---- the procedures that are left
 
--- The table and the segment of the procedure `n` callers up.
+-- `jtab_of` and `seg_of` return the table and the segment of the procedure `n` callers up.
 jtab_of : Parts → ℕ → ℕ
 jtab_of c zero = c.registers.jtab
 jtab_of c (suc n) = control c.memory (frame_up c.memory c.registers.mp n) 4
@@ -169,7 +169,8 @@ below_count n k l = grind (arith, nat_tests)
 at_count : (n k : ℕ) → n ≡ k → (n == k) ≡ true
 at_count n k e = grind (arith, nat_tests)
 
--- Of the procedures from the running one up to that of the last frame, only the last one is the named procedure.
+-- Of the procedures from the running procedure to that of the last frame, only the last is the procedure that EXIT
+-- names.
 wanted_last : (c : Parts) (p : Wanted) (k n : ℕ) → is_wanted c.memory p c.registers.seg c.registers.jtab ≡ Ok false
     → IsWalk c.memory p c.registers.mp k → n ≤ suc k → is_wanted c.memory p (seg_of c n) (jtab_of c n) ≡ Ok (n == suc k)
 unfolding seg_of jtab_of
@@ -211,7 +212,7 @@ record IsStage (c : Parts) (count n : ℕ) (e : Parts) : Type 0 where
   pub seg : e.registers.seg ≡ seg_of c n
   pub ipc : e.registers.ipc ≡ exit_code c.memory (jtab_of c n)
 
--- A control word that the return of this stage reads.
+-- A control word that the return after `n` returns reads is the word before EXIT.
 word_of : (c e g : Parts) (count n t words : ℕ) (base : Bool) → IsMemory c.memory → AreEven c.memory c.registers.mp count → AreStacked c count →
     IsStage c count n e → n ≤ count → IsBack e g words base → t < 12 → t ≢ 8 → t % 2 ≡ 0
     → word_at e.memory (e.registers.mp + t) ≡ control c.memory (frame_up c.memory c.registers.mp n) t

@@ -1,4 +1,4 @@
--- Segments with keeps.
+-- Lemmas for segments with keeps.
 use Rattle.std.proofs.Common.{◌≡◌, ◌≢◌, ◌<◌, inl, inr, ℕ, ◌+◌, ◌-◌, ◌==◌, ◌||◌, Bool, true, false, cond, nat_lt, List, [], ◌∷◌, length, replicate}
 use Rattle.std.proofs.Common.{Option, Some, None, Result, Ok, Err, refl, sym, ap, ◌∙◌, subst, arith, get_or}
 use Rattle.std.specs.Prelude.{slice_get, slice_set, slice_index_or, option_and_then, position}
@@ -53,7 +53,8 @@ inside places n p is = elim (cases_Bool (nat_lt n (length places))) [
       absurd (cc)
 ]
 
--- The slots after one of them is set.
+-- If the slot `m` is set to `x`, then the slot `n` still has the segment `p`, provided that `x` has this segment if `m`
+-- is `n`.
 set_at : (places : Places) (m n : ℕ) (x : Option SegmentPlace) (p : SegmentPlace) → StandsAs p (get_or places n None) → (m ≡ n → StandsAs p x)
     → StandsAs p (get_or (slice_set places m x) n None)
 set_at places m n x p h k = elim (cases_Bool (m == n)) [
@@ -67,7 +68,7 @@ set_at places m n x p h k = elim (cases_Bool (m == n)) [
       rw other h
 ]
 
--- The slot that is set is the slot of the segment.
+-- If the slot that is set is the slot `n` of the segment `p`, then its old entry has the address and the keeps of `p`.
 at_slot : (places : Places) (m n : ℕ) (q p : SegmentPlace) → get_or places m None ≡ Some q → StandsAs p (get_or places n None) → m ≡ n → StandsAs p (Some q)
 at_slot places m n q p is h same = subst (StandsAs p) (subst (λ i. get_or places i None ≡ Some q) same is) h
 
@@ -96,7 +97,7 @@ kept_more p q h =
       keeps = (let keeps : q.keeps ≡ h.now.keeps = ap (λ (x : SegmentPlace). x.keeps) same in let few = h.keeps in omega (arith, keeps, few));
     }
 
--- A slot without an address is another slot.
+-- A slot without an address is not the slot of a segment with an address.
 apart : (places : Places) (m n : ℕ) (p : SegmentPlace) → get_or places m None ≡ None → StandsAs p (get_or places n None) → m ≡ n → ⊥
 apart places m n p none h same =
     let no : None ≡ Some h.now = sym (subst (λ i. get_or places i None ≡ None) same none) ∙ h.there in cc
@@ -223,7 +224,7 @@ released_unkept s places h = lessened_unkept (position (stands_at s) places) pla
 no_places : AreUnkept (replicate 16 None)
 no_places = All-replicate IsUnkept 16 None tt
 
--- A return removes the same as that of the machine without keeps.
+-- If a segment has no keep, then a return removes the same as in the machine without keeps.
 less_same : (o : Option SegmentPlace) → IsUnkept o → option_and_then one_call_less o ≡ option_and_then plain_less o
 less_same None h = refl
 less_same (Some p) h = elim (cases_Bool (nat_lt 1 p.count)) [

@@ -1,4 +1,4 @@
--- The address of code that standard procedure 21 loads, and the bytes of it on the disks now.
+-- Lemmas for the code that standard procedure 21 loads, from the code file and from the present bytes of the disks.
 use Rattle.std.proofs.Common.{◌≡◌, ◌==◌, ◌<◌, ◌≤◌, ℕ, ◌+◌, ◌-◌, false, List, length, drop, get_or, Option, Some, None, Result, Ok, Err, refl, sym, ap, ◌∙◌}
 use Rattle.std.proofs.Common.{subst, arith}
 use Rattle.std.specs.Prelude.{slice_get}
@@ -79,7 +79,7 @@ slot_stands c d n code None none memory bytes low made = absurd (cc)
 slot_stands c d n code (Some (Some p)) none memory bytes low made = absurd (cc)
 slot_stands c d n code (Some None) none memory bytes low made = loading_stands c d n code memory bytes low made
 
--- The row of procedure 21, if the code of the slot exists.
+-- If the code of the slot `n` exists and procedure 21 succeeds, then the code is in memory below the SP after the pop.
 row_stays : (n : ℕ) (code : List ℕ) (s u : Reach) → IsMemory s.memory → word_at s.memory s.registers.sp ≡ n → placed s.places n ≡ None
     → slot_code n s.places s.rows s.devices ≡ Ok (Some code) → All (λ b. b < 256) code → keep_row s ≡ Ok u
     → bytes_at u.memory (s.registers.sp + 2 - length code) (length code) ≡ code
@@ -103,7 +103,7 @@ row_stays n code s u memory slot none needed bytes made =
 
 -- ---- a step
 
--- A successful step of procedure 21 has the memory that its row returned.
+-- If a step of procedure 21 succeeds, then it has the memory that its rule returned.
 went_keeping : (s t : State) (r : Result Reach ExecError) (P : List ℕ → Type 0) → (settled s (or_fails r >>= λ u. Ok (with_reach u t))).1 ≡ Went
     → ((u : Reach) → r ≡ Ok u → P u.memory) → P (settled s (or_fails r >>= λ u. Ok (with_reach u t))).0.memory
 went_keeping s t (Ok u) P h k = k u refl
@@ -124,7 +124,7 @@ step_stays s n code memory none h goes needed bytes =
     rw same (went_keeping s t (keep_row (reach t)) (λ m. bytes_at m (s.registers.sp + 2 - length code) (length code) ≡ code) (rw same at goes)
     (λ u made. row_stays n code (reach t) u memory h.slot none needed bytes made))
 
--- A step of procedure 21 without code to load does not succeed.
+-- If the slot `n` has no code to load, then procedure 21 does not succeed.
 row_fails : (n : ℕ) (s u : Reach) → word_at s.memory s.registers.sp ≡ n → placed s.places n ≡ None → slot_code n s.places s.rows s.devices ≡ Ok None
     → keep_row s ≡ Ok u → ⊥
 unfolding keep_row segment_kept

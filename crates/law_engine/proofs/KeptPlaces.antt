@@ -1,4 +1,4 @@
--- Procedure 22 immediately after procedure 21.
+-- Lemmas for standard procedure 22 immediately after standard procedure 21.
 use Rattle.std.proofs.Common.{◌≡◌, ◌<◌, ◌≤◌, ℕ, ◌+◌, ◌-◌, ◌%◌, ◌==◌, ◌||◌, true, nat_lt}
 use Rattle.std.proofs.Common.{List, length, get_or, Option, Some, None, Ok, refl, sym, ap, ◌∙◌, subst, arith}
 use Rattle.std.specs.Prelude.{slice_get, slice_set}
@@ -14,13 +14,13 @@ use Rattle.pm_calls.specs.Keeps.{keep_loading, keep_slot, keep_standing, segment
 use Rattle.pm_calls.specs.Laws.{IsUsed, UnkeepGivesBack}
 use Rattle.pm_calls.proofs.ReturnLaws.{has_room, ok_same, passed}
 
--- The slot that was set.
+-- If the slot `n` is set to `x`, then it is `x`.
 set_slot : (places : List (Option SegmentPlace)) (n : ℕ) (x : Option SegmentPlace) → n < length places → slice_get (slice_set places n x) n ≡ Some x
 set_slot places n x low =
     let size : length (slice_set places n x) ≡ length places = length-set places n x in
     slice_get-get_or (slice_set places n x) n None (omega (arith, low, size)) ∙ ap Some (get_or-set_same places n x None low)
 
--- A slot that is set twice, the second time to its old entry.
+-- If a slot is set to `x` and then to its old entry, then the slots are the old ones.
 set_back : (places : List (Option SegmentPlace)) (n : ℕ) (x old : Option SegmentPlace) → get_or places n None ≡ old
     → slice_set (slice_set places n x) n old ≡ places
 set_back places n x old was = set-set places n x old ∙ ap (slice_set places n) (sym was) ∙ set-get_or places n None

@@ -1,4 +1,4 @@
--- The address of loaded code.
+-- Lemmas for the memory in which loaded code is stored.
 use Rattle.std.proofs.Common.{◌≡◌, ◌<◌, ℕ, List, Option, Some, None, Result, Ok, Err, refl, sym, ap, ◌∙◌, subst, arith}
 use Rattle.std.specs.Prelude.{slice_get}
 use Rattle.std.proofs.lemmas.List.{length-replicate}
@@ -47,7 +47,7 @@ done x = Ok x
 same_entry : (r : Result (Entry × List ℕ) BootFault) (x y : Entry × List ℕ) → r ≡ Ok x → r ≡ Ok y → x ≡ y
 same_entry r x y h k = ok_same x y (sym h ∙ k)
 
--- The rows of a machine that was booted from a file, after any events.
+-- The rows of the dictionary of a machine that was booted from `file` are the same after any events.
 pub booted_rows : (images : List (Option (List ℕ))) (unit : ℕ) (name : List ℕ) (clock : ℕ) (s t : State) (es : List Event) (entry : Entry) (file : List ℕ) →
     boot_start images unit name clock ≡ Ok s → code_file images unit name ≡ Ok (entry, file) → t ≡ after_all s es → t.rows ≡ rows_below unit entry.first file 16
 booted_rows images unit name clock s t es entry file h found now =
@@ -55,7 +55,7 @@ booted_rows images unit name clock s t es entry file h found now =
     let same = same_entry (code_file images unit name) (is.entry, is.file) (entry, file) is.found found in
     ap (λ (k : State). k.rows) now ∙ (events_keep_shape s es).rows ∙ is.rows ∙ ap (λ (k : Entry × List ℕ). rows_below unit k.0.first k.1 16) same
 
--- A call that must load a segment and gets no code fails.
+-- If a call must load a segment and no code exists for it, then the call fails.
 none_fails : (c d : Parts) (call : calls.Call) (n : ℕ) (slot : Option (Option SegmentPlace)) → place_in slot ≡ None → called_slot c call n None slot ≡ Ok d → ⊥
 none_fails c d call n None none h = cc
 none_fails c d call n (Some (Some p)) none h = cc
@@ -80,7 +80,8 @@ needed_same r a b h k = let e : okay a ≡ okay b = sym h ∙ k in cc
 pub after_same : (d : Parts) (t u : State) → done (with_parts d t) ≡ Ok u → d.memory ≡ u.memory
 after_same d t u h = let same : with_parts d t ≡ u = cc h in ap (λ (k : State). k.memory) same
 
--- The row of a CXP, if the code that it needs is the segment.
+-- If the code that a CXP needs is the segment of the file, and the CXP succeeds, then the segment is below the SP
+-- before the call.
 row_loads : (file : List ℕ) (n p : ℕ) (t u : State) → IsMemory t.memory → IsCode (segment_in file n) → placed t.places n ≡ None →
     code_needed (Cxp n p) t.places t.rows t.devices ≡ Ok (segment_in file n) → call_row (Cxp n p) t ≡ Ok u → StandsBelow file n t.registers.sp u.memory
 unfolding call_row
@@ -91,7 +92,7 @@ row_loads file n p t u memory code none needed made =
     let call : called (parts t) (Cxp n p) (segment_in file n) ≡ Ok y.0 = ap (called (parts t) (Cxp n p)) (sym is) ∙ y.1 in
     subst (StandsBelow file n t.registers.sp) (after_same y.0 t u y.2) (stands_below (parts t) y.0 n p file (segment_in file n) refl memory code none call)
 
--- A successful step has the memory that its row returned.
+-- If a step succeeds, then it has the memory that its rule returned.
 pub went : (s : State) (r : Result State ExecError) (P : List ℕ → Type 0) → (settled s (or_fails r)).1 ≡ Went → ((u : State) → r ≡ Ok u → P u.memory)
     → P (settled s (or_fails r)).0.memory
 went s (Ok u) P h k = k u refl

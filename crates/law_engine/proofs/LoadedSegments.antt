@@ -1,4 +1,4 @@
--- The loaded code is the segment of the code file.
+-- Lemmas: the code that is loaded is the segment of the code file.
 use Rattle.std.proofs.Common.{◌≡◌, inl, inr, ◌≤◌, ◌<◌, ◌==◌, ℕ, zero, suc, ◌+◌, ◌-◌, ◌*◌, ◌%◌, Bool, true, false, cond, not, nat_lt, nat_le, ◌&&◌}
 use Rattle.std.proofs.Common.{List, [], ◌∷◌, length, take, drop, get_or, slice_range, Option, Some, None, is_none, is_some, Result, Ok, refl, sym}
 use Rattle.std.proofs.Common.{◌∙◌, ap, subst, arith, take-take, drop-drop}
@@ -27,7 +27,7 @@ use Rattle.pm_machine.specs.Boot.{code_file, image_of, row_of, rows_below, some_
 use Rattle.pm_stdproc.specs.Loads.{code_needed, code_of_row}
 use Rattle.law_engine.specs.EventLaws.{LoadsGiveSegments}
 
--- A part of a part.
+-- A range of a range of `xs` is the range of `xs` at the sum of the offsets.
 part-of_part : (xs : List ℕ) (a c b l : ℕ) → a + b + l ≤ c → slice_range (slice_range xs a c) b (b + l) ≡ slice_range xs (a + b) (a + b + l)
 part-of_part xs a c b l within =
     let count : b + l - b ≡ l = omega arith in
@@ -37,7 +37,7 @@ part-of_part xs a c b l within =
     ap (λ k. drop b (take k (drop a xs))) whole ∙ drop-take b (c - (a + b)) (drop a xs) ∙ ap (take (c - (a + b))) (drop-drop b a xs) in
     rw (count, other, cut) (take-take l (c - (a + b)) (drop (a + b) xs) (omega arith))
 
--- A property of all entries is one of the entry that is found.
+-- If all entries have the property `P`, then the entry that is found has it.
 pub found_all : (P : Entry → Type 0) (p : Entry → Bool) (xs : List Entry) (x : Entry) → All P xs → find p xs ≡ Some x → P x
 found_all P p [] x all h = cc
 found_all P p (y ∷ ys) x all h = go (p y) h (λ is. found_all P p ys x (λ k d l. all (suc k) d (omega (arith, l))) is)
@@ -64,7 +64,7 @@ no_fault (Some f) h = cc
 abbrev ok : Entry × List ℕ → Result (Entry × List ℕ) BootFault
 ok x = Ok x
 
--- A program that was found: its entry, and the bytes of its file, which is valid.
+-- The program `name` was found in `image`: `entry` is its entry, and `file` is its bytes, which are a valid code file.
 pub record IsFound (image name : List ℕ) (entry : Entry) (file : List ℕ) : Type 0 where
   pub named : file_named image name ≡ Some entry
   pub bytes : file_bytes image entry ≡ Some file
@@ -181,7 +181,7 @@ part_there image file e h long =
       bytes = t.2;
     }
 
--- The blocks of a slot are before the end of the file, so no number wraps.
+-- The blocks of slot `n` are in the image, and the sum of the block numbers is less than 65,536.
 record IsPlaced (image file : List ℕ) (e : Entry) (n : ℕ) : Type 0 where
   pub fits : (e.first + block_in file n) % 65536 ≡ e.first + block_in file n
   pub lies : nat_le (512 * (e.first + block_in file n) + length_in file n) (length image) ≡ true

@@ -1,4 +1,4 @@
--- The bytes after a move.
+-- Lemmas for the bytes after a move.
 use Rattle.std.proofs.Common.{◌≡◌, ℕ, zero, suc, ◌+◌, ◌<◌, ◌≤◌, ◌⊎◌, List, refl, sym, ◌∙◌, arith, inl, inr, ⊎_elim}
 use Rattle.std.proofs.lemmas.Bool.{cases_lt, cases_eq}
 use Rattle.pm_words.specs.Words.{IsMemory, byte_at, moved_down, moved_up, with_byte}
@@ -18,7 +18,7 @@ byte_at-below ws a h l =
     let bytes = AreMemoryBytes-bytes_of ws h in
     bytes.fits a 0 (omega (arith, bytes.size))
 
--- All other bytes are unchanged.
+-- Bytes outside the destination of a move are unchanged.
 up_stays : (n : ℕ) (ws : List ℕ) (from to x : ℕ) → IsMemory ws → from + n ≤ 65536 → to + n ≤ 65536 → (x < to) ⊎ (to + n ≤ x)
     → byte_at (moved_up ws from to n) x ≡ byte_at ws x
 unfolding moved_up
@@ -44,7 +44,7 @@ down_stays (suc n) ws from to x h source room outside =
 pub moves_stay_inside : MovesStayInside
 moves_stay_inside m from to n x h source room outside = (up_stays n m from to x h source room outside, down_stays n m from to x h source room outside)
 
--- A byte that was written equals the byte at its source after the write.
+-- If the byte at `from` is written at `to`, then both bytes are equal after the write.
 with_byte-same : (ws : List ℕ) (from to : ℕ) → IsMemory ws → from < 65536 → to < 65536 → byte_at (with_byte ws to (byte_at ws from)) to
     ≡ byte_at (with_byte ws to (byte_at ws from)) from
 with_byte-same ws from to h l k =

@@ -1,4 +1,4 @@
--- Words as signed numbers.
+-- Lemmas for words as signed numbers.
 use Rattle.std.proofs.Common.{◌≡◌, ◌≢◌, ◌<◌, ◌≤◌, ◌⊎◌, inl, inr, ℕ, zero, suc, ◌+◌, ◌-◌, ◌*◌, ◌%◌, ◌/◌, ◌==◌, ◌&&◌, Bool, true, false, cond, nat_lt, nat_le}
 use Rattle.std.proofs.Common.{List, Ok, refl, sym, ap, ◌∙◌, arith}
 use Rattle.std.specs.Prelude.{ℤ, pos, negsuc, ◌+ℤ◌, ◌-ℤ◌, neg_ℤ, int_le, int_lt, int_div, int_rem, unsigned_abs}
@@ -105,7 +105,7 @@ sign_is (negsuc a) d = negative (suc a % unsigned_abs d)
     negative zero = inl refl
     negative (suc r) = inr refl
 
--- Numbers from -32,768 on and less than 32,768 are the signed numbers of their words.
+-- If a number is at least -32,768 and less than 32,768, then it is the signed number of its word.
 word_up : (n : ℕ) → n < 32768 → signed (word (pos n)) ≡ pos n
 word_up n h = let same : n % 65536 ≡ n = omega arith in ap signed same ∙ signed_low n h
 
@@ -120,7 +120,7 @@ word_within : (z : ℤ) → unsigned_abs z < 32768 → signed (word z) ≡ z
 word_within (pos n) h = word_up n h
 word_within (negsuc n) h = word_down (suc n) (omega (arith, h))
 
--- A quotient is in the range, except that of -32,768 by -1.
+-- A quotient of signed words is in this range, except that of -32,768 divided by -1.
 quotient_both : (a b : ℕ) → suc a ≤ 32768 → (a ≡ 32767 → b ≡ 0 → ⊥) → suc a / suc b < 32768
 quotient_both a zero h other = let whole : suc a / 1 ≡ suc a = omega arith in rw whole (elim (cases_eq a 32767)
     [ inl e ↦ absurd (other e refl) | inr n ↦ omega (arith, h, n) ])

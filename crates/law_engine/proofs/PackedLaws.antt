@@ -1,4 +1,4 @@
--- An element of a packed array is stored and loaded.
+-- Lemmas: an element of a packed array that is stored is loaded again.
 use Rattle.std.proofs.Common.{◌≡◌, ◌≢◌, ◌<◌, ◌≤◌, ◌⊎◌, inl, inr, ℕ, ◌+◌, ◌-◌, ◌*◌, ◌/◌, ◌%◌, ◌&&◌, ◌==◌, Bool, true, false}
 use Rattle.std.proofs.Common.{length-set, subst, not, nat_lt, nat_le, cond, List, [], ◌∷◌, length, Result, Ok, Err, refl, sym, ap, ◌∙◌, arith}
 use Rattle.std.proofs.Math.Nat.{div-add-mod', div-le_self, mod-lt, mul-le-mul_right}
@@ -49,7 +49,7 @@ pushes m sp down np w even room e =
 
 -- ---- words written below SP
 
--- Three words pushed on the stack, the first one at the top.
+-- Writing three words at once is the same as writing them one after the other.
 three : (m : List ℕ) (at r k x : ℕ) → length m ≡ 32768 → at % 2 ≡ 0 → at + 6 ≤ 65536 →
     with_words m at (r ∷ k ∷ x ∷ []) ≡ with_word (with_word (with_word m (at + 4) x) (at + 2) k) at r
 three m at r k x size even room =
@@ -61,7 +61,7 @@ three m at r k x size even room =
     with_words-before m (k ∷ x ∷ []) (at + 2) at r (omega arith) (omega arith) (omega (arith, size)) in
     sym (ap (λ n. with_word (with_word n (at + 2) k) at r) one ∙ ap (λ n. with_word n at r) two ∙ all)
 
--- Memory `n` equals memory `m`, except for the four words from `b` on.
+-- Memory `n` equals memory `m`, except for the four words from the address `b` on.
 record IsOver (m n : List ℕ) (b : ℕ) : Type 0 where
   pub size : length n ≡ 32768
   pub same : (x : ℕ) → x % 2 ≡ 0 → IsOffStack (b + 8) x → word_at n x ≡ word_at m x
@@ -118,7 +118,7 @@ three_pushed m b np r k x size even heap room =
     ∙ ap (λ (t : ℕ). with_word (with_word (with_word m t x) (b + 2 + 2) k) (b + 2) r) six
     ∙ ap (λ (t : ℕ). with_word (with_word (with_word m (b + 6) x) t k) (b + 2) r) four)
 
--- The operands of IXP become the word and the field of an element on the stack.
+-- The operands of IXP are replaced by the address of the word and the position of the field of the element.
 record IsIndexed (m : List ℕ) (b np per_word width base i : ℕ) : Type 0 where
   pub n : List ℕ
   pub is : indexed per_word width base i m (b + 8) np ≡ Ok (n, b + 2)
@@ -233,7 +233,8 @@ store_row_is m b np r k x v w h place some field zeroth first second third word 
     ∙ next (load m x) _ w (loads m x w place word)
     ∙ next (store m x (with_field w r k v)) _ (with_word m x (with_field w r k v)) (stores m x (with_field w r k v) place)
 
--- The memory after an element is stored: its new word, over a memory with other operands.
+-- The memory after an element is stored: the memory `below`, in which only the operands differ from `m`, with the new
+-- word.
 record IsElementStored (m : List ℕ) (b np per_word width base i v : ℕ) : Type 0 where
   pub below : List ℕ
   pub over : IsOver m below b
@@ -284,7 +285,7 @@ fields_apart p q k l =
     let more : (p + 1) * k ≤ q * k = mul-le-mul_right k (omega arith) in
     omega arith
 
--- Two elements are in two words, or apart in one word.
+-- The elements `i` and `j` are in different words, or in different fields of one word.
 abbrev AreApart : ℕ → ℕ → ℕ → ℕ → ℕ → Type 0
 AreApart n k base i j =
     (element_at n base j ≢ element_at n base i)
@@ -317,7 +318,7 @@ are_apart n k base i j some li lj other =
 
 -- ---- the law
 
--- The field of an element after another one was stored.
+-- If another element is stored, then the field of the element `j` is unchanged.
 field_stays : (m below : List ℕ) (b n k base i j v : ℕ) → IsOver m below b → base % 2 ≡ 0 → IsOffStack (b + 8) (element_at n base j) → AreApart n k base i j
     → field_of (word_at (with_word below (element_at n base i) (with_field (word_at m (element_at n base i)) (i % n * k) k v)) (element_at n base j))
     (j % n * k) k

@@ -1,4 +1,4 @@
--- The slots after a return that immediately follows its call.
+-- Lemmas for the slots after a return that immediately follows its call.
 use Rattle.std.proofs.Common.{◌≡◌, ◌≢◌, ◌<◌, ◌≤◌, inl, inr, ℕ, ◌+◌, ◌-◌, ◌*◌, ◌==◌, ◌&&◌, ◌||◌, Bool, true, false, cond}
 use Rattle.std.proofs.Common.{nat_lt, nat_le, List, length, get_or, Option, Some, None, Ok, refl, sym, ap, ◌∙◌, arith}
 use Rattle.std.specs.Prelude.{slice_get, slice_set, slice_index_or, position, option_and_then}
@@ -45,7 +45,7 @@ found_again places s n count keeps low some first =
     let test : nat_lt (position_or_len (stands_at s) new) (length new) ≡ true = grind (arith, nat_tests, is, inside) in
     rw test (ap Some is)
 
--- A slot that gets one more call and then one call less is the old slot.
+-- If a slot gets one more call and then loses one call, then its entry is the old one.
 slot_back : (places : List (Option SegmentPlace)) (s n count keeps : ℕ) (old : Option SegmentPlace) → n < length places → 0 < count → IsFirstAt s n places
     → get_or places n None ≡ old →
     one_call_less (record { place = s; count = count; keeps = keeps }) ≡ old
@@ -76,7 +76,7 @@ return_places c e words base h =
     sym (ap (λ (p : Parts). p.places) same)
     ∙ ap (λ k. cond (k == c.registers.seg) c.places (released c.registers.seg c.places)) (ap (λ (p : Parts). p.registers.seg) same)
 
--- A return of any kind gives back the segment of the caller.
+-- If a return follows its call, then the running segment is the segment of the caller again.
 frame_segment : (m : List ℕ) (s f static words : ℕ) (r : Registers) (base back : Bool) (t : Table) (places : List (Option SegmentPlace)) (e : Parts) →
     IsMemory m → r.sp + t.parameters ≤ 65504 → f + 12 + t.parameters ≤ 65504 → kept_below base ≤ f →
     returned (record {

@@ -1,4 +1,4 @@
--- Properties of the slots of a state, and of the slots after a row.
+-- Lemmas for properties of the slots: a property that each rule preserves holds after any events.
 use Rattle.std.proofs.Common.{◌≡◌, ◌≢◌, refl, inl, inr, ℕ, ◌+◌, ◌*◌, ◌==◌, ◌&&◌, Bool, true, false, cond, nat_lt, nat_le, List, length}
 use Rattle.std.proofs.Common.{replicate, Option, Some, None, Result, Ok, Err, ap, ◌∙◌, subst, arith}
 use Rattle.std.specs.Prelude.{slice_get, slice_set}
@@ -56,7 +56,7 @@ use Rattle.law_engine.proofs.ShapeLaws.{bound, chosen, ok_same, parts_there}
 abbrev pub Places : Type 0
 Places = List (Option SegmentPlace)
 
--- The slots that the part of a row returns have property `P`. It is true of each error.
+-- If the result is `Ok`, then its slots have the property `P`. Any error satisfies the definition.
 abbrev pub Holds : {A E : Type 0} → (Places → Type 0) → (A → Places) → Result A E → Type 0
 Holds P of (Ok x) = P (of x)
 Holds P of (Err e) = Unit {0}
@@ -113,7 +113,7 @@ procedure_holds P procedure.Keep s a b h = absurd (a refl)
 procedure_holds P procedure.Unkeep s a b h = absurd (b refl)
 procedure_holds P procedure.Unimplemented s a b h = tt
 
--- A standard procedure, by the result of its row.
+-- If the rule of a standard procedure preserves the property `P`, then the step of this procedure does.
 pub standard_holds : (P : Places → Type 0) (n : ℕ) (s : State) → Holds P of_reach (procedure_row (procedure_numbered n) (reach s))
     → Holds P of_state (standard_row n s)
 standard_holds P n s h = after P of_reach of_state (procedure_row (procedure_numbered n) (reach s)) _ h (λ t k. k)
@@ -249,7 +249,7 @@ module _ (P : Places → Type 0)
       after P of_parts of_state (returned (parts s) (words_of_return r) (is_base_return r)) _
       (returned_holds (parts s) (words_of_return r) (is_base_return r) h) (λ p k. k)
 
-  -- An operation, by the result of its standard procedure.
+  -- If the standard procedure of an operation preserves the property `P`, then the operation does.
   performed_holds : (o : Operation) (s : State) → P s.places → ((n : ℕ) → o ≡ operation.Standard n → Holds P of_state (standard_row n s))
       → Holds P of_state (performed o s)
   performed_holds (operation.Arithmetic o) s h k = stack_holds P s (arithmetic_row o s.memory s.registers.sp s.registers.np) h
@@ -270,7 +270,7 @@ module _ (P : Places → Type 0)
   settled_holds s (Err (Fails e)) h k = h
   settled_holds s (Err Waits) h k = h
 
-  -- The property after each standard procedure that may be at IPC.
+  -- If the instruction at IPC is a standard procedure, then the property `P` holds after it.
   abbrev pub StandardHolds : State → Result Instr ExecError → Type 0
   StandardHolds s r = (i : Instr) (n : ℕ) → r ≡ Ok i → operation_of i ≡ operation.Standard n → Holds P of_state (standard_row n (past_instruction i s))
 

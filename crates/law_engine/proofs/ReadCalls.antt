@@ -1,4 +1,5 @@
--- Calls and returns in two memories that agree on the bytes that they read.
+-- Lemmas for calls and returns in two memories that agree on the bytes that they read. Two memories *changed alike* if
+-- each byte is the same in both new memories, or unchanged in both.
 use Rattle.std.proofs.Common.{◌≡◌, ◌<◌, ◌≤◌, ◌⊎◌, inl, inr, ℕ, ◌+◌, ◌-◌, ◌*◌, ◌/◌, ◌%◌, ◌==◌, ◌&&◌, Bool, true, false, nat_le, nat_lt}
 use Rattle.std.proofs.Common.{List, [], ◌∷◌, ◌++◌, length, Option, Some, None, Result, Ok, Err, refl, sym, ap, ◌∙◌, subst, arith}
 use Rattle.std.specs.List.{All}
@@ -57,7 +58,7 @@ loaded_word m a w h = elim (cases_Bool (is_even a)) [
     none : (let r : Result ℕ ExecError = Err InvalidMemory in r ≡ Ok w) → w ≡ word_at m a
     none k = cc
 
--- The word of a stretch of two bytes.
+-- If two memories agree on the two bytes from the even address `a` on, then they have the same word at `a`.
 pub here_same : (m n : List ℕ) (a : ℕ) → Same m n a 2 → a % 2 ≡ 0 → word_at n a ≡ word_at m a
 here_same m n a same even = word_same m n a 2 a same even (omega arith) (omega arith)
 
@@ -138,11 +139,11 @@ static_same (Cxp k p) m n r level agree = of (int_le level (pos 0)) agree
 
 -- ---- frames
 
--- One more word is written.
+-- If two memories changed alike, then they have changed alike after the same word is written to both.
 more_alike : (m p n q : List ℕ) (a w : ℕ) → length p ≡ 32768 → length q ≡ 32768 → ChangeAlike m p n q → ChangeAlike m (with_word p a w) n (with_word q a w)
 more_alike m p n q a w first second h = then_alike m p (with_word p a w) n q (with_word q a w) h (word_alike_sized p q a w first second)
 
--- Memories of 32,768 words that changed alike.
+-- `p` and `q` have 32,768 words, and `m` and `n` changed alike to `p` and `q`.
 record Pair (m p n q : List ℕ) : Type 0 where
   pub first : length p ≡ 32768
   pub second : length q ≡ 32768
@@ -219,17 +220,17 @@ entered_alike m n s loaded r call memory other agree =
     framed_alike m n s loaded r (is_base call t.level) t static memory other
     (first_same r.sp t.parameters (static_link_read call m r t.level) m n rest))))
 
--- The parts are the same, except for the memory, which changed alike.
+-- `e` equals `d` except for the memory, and both memories changed alike.
 pub record PartsAlike (m n : List ℕ) (d e : Parts) : Type 0 where
   pub memory : List ℕ
   pub same : e ≡ record d { memory = memory }
   pub alike : ChangeAlike m d.memory n memory
 
--- The same parts with another memory.
+-- Returns `c` with the memory `n`.
 abbrev pub parts_in : Parts → List ℕ → Parts
 parts_in c n = record c { memory = n }
 
--- A segment that was reached in both memories.
+-- A call reached the same segment in both memories, which changed alike.
 pub record ReachedAlike (m n : List ℕ) (d e : Reached) : Type 0 where
   pub memory : List ℕ
   pub same : e ≡ record d { memory = memory }
@@ -289,7 +290,7 @@ none : (code : List ℕ) (r : Registers) (u : Unit {0}) → (let x : Result (Uni
     → r.sp - length code + length code ≤ 65536
 none code r u k = cc
 
--- Code that fits below SP ends in memory.
+-- If code fits below SP, then it ends at or before the end of memory.
 pub code_room : (r : Registers) (code : List ℕ) (u : Unit {0}) → r.sp ≤ 65504 → code_fits r code ≡ Ok u → r.sp - length code + length code ≤ 65536
 code_room r code u top h = elim (cases_Bool (nat_lt 0 (length code))) [
   | inl e ↦ (elim (cases_Bool (nat_le (r.np + length code) r.sp)) [
@@ -333,7 +334,7 @@ near_alike : (c : Parts) (n : List ℕ) (call : Call) → IsMemory c.memory → 
     → Both (PartsAlike c.memory n) (called_at c call (here c)) (called_at (parts_in c n) call (here (parts_in c n)))
 near_alike c n call memory other agree = at_alike c n call (here c) n (unchanged c.memory n) memory other agree
 
--- The stretches that a call reads, with the code that it must load.
+-- Returns the ranges of memory that a call reads, with the code that it must load.
 abbrev pub called_read : Parts → Call → Option (List ℕ) → List Stretch
 called_read c call code = reached_read call c.registers (called_reached call c code)
 

@@ -1,4 +1,4 @@
--- EXIT in two memories that agree on the bytes that it reads.
+-- Lemmas for EXIT in two memories that agree on the bytes that EXIT reads.
 use Rattle.std.proofs.Common.{◌≡◌, ◌<◌, ◌≤◌, inl, inr, ℕ, zero, suc, ◌+◌, ◌%◌, ◌==◌, ◌||◌, Bool, true, false, add-one}
 use Rattle.std.proofs.Common.{List, [], ◌∷◌, ◌++◌, length, Result, Ok, Err, refl, sym, ap, ◌∙◌, subst, arith}
 use Rattle.std.specs.Prelude.{not}
@@ -27,7 +27,7 @@ use Rattle.law_engine.proofs.ReadCalls.{PartsAlike, here_same, loaded_even, load
 pub asked_same : (m n : List ℕ) (p : Wanted) (s j : ℕ) → Same m n s 2 → Same m n j 2 → is_wanted n p s j ≡ is_wanted m p s j
 asked_same m n p s j first second = rw (load_same m n s 2 s first (omega arith) (omega arith), load_same m n j 2 j second (omega arith) (omega arith)) refl
 
--- The control words of a frame that EXIT leaves, and the words to which they lead.
+-- Both memories agree on the control words of a frame that EXIT leaves, and on the words to which they lead.
 pub record LeftSame (m n : List ℕ) (f : ℕ) : Type 0 where
   pub caller : Same m n ((f + 2) % 65536) 2
   pub jtab : Same m n ((f + 4) % 65536) 2
@@ -102,7 +102,7 @@ frames_same (suc k) i m n a l agree = elim (cases_lt i k) [
       rw same (left_same m n (frame_up m a k) (left_agree (left_read m (frame_up m a k)) (frames_read m a k) m n agree))
 ]
 
--- The walk met the first `k` frames.
+-- Both memories agree on the first `k` frames from the frame `a` on.
 pub record IsMet (m n : List ℕ) (a k : ℕ) : Type 0 where
   pub left : (i : ℕ) → i < k → LeftSame m n (frame_up m a i)
   pub even : (i : ℕ) → i < k → MetEven m (frame_up m a i)
@@ -118,7 +118,7 @@ frame_same (suc i) m n a k l is =
 exit_code_same : (m n : List ℕ) (j : ℕ) → Same m n (minus j 4) 2 → j % 2 ≡ 0 → exit_code n j ≡ exit_code m j
 exit_code_same m n j same even = rw (here_same m n (minus j 4) same (omega (arith, even))) refl
 
--- Memories of 32,768 words that changed alike.
+-- `p` and `q` have 32,768 words, and `m` and `n` changed alike to `p` and `q`.
 record Pair (m p n q : List ℕ) : Type 0 where
   pub first : length p ≡ 32768
   pub second : length q ≡ 32768

@@ -1,4 +1,4 @@
--- A step depends only on the bytes that its instruction reads.
+-- Lemmas: a step depends only on the bytes that its instruction reads.
 use Rattle.std.proofs.Common.{◌≡◌, ℕ, ◌+◌, ◌*◌, ◌%◌, true, List, ◌∷◌, ◌++◌, Option, Result, Ok, Err, refl, sym, ap, ◌∙◌, subst, arith}
 use Rattle.std.specs.Prelude.{IfOk, slice_get, length}
 use Rattle.std.proofs.lemmas.Bool.{and_parts}
@@ -76,13 +76,13 @@ use Rattle.law_engine.proofs.ReadSame.{row_names}
 
 -- ---- standard procedures
 
--- The results of standard procedures are the same, except for the memory, which changed alike.
+-- `u` equals `t` except for the memory, and both memories changed alike.
 record ReachAlike (m n : List ℕ) (t u : Reach) : Type 0 where
   pub memory : List ℕ
   pub same : u ≡ record t { memory = memory }
   pub alike : ChangeAlike m t.memory n memory
 
--- The state that a standard procedure reaches, with another memory.
+-- Returns `c`, the part of the state that a standard procedure changes, with the memory `n`.
 abbrev reach_in : Reach → List ℕ → Reach
 reach_in c n = record c { memory = n }
 
@@ -251,7 +251,7 @@ operation_alike operation.End s n x plain other agree code =
     record { other = _; made = refl; like = record { memory = n; same = refl; alike = unchanged s.memory n } }
 operation_alike operation.Unimplemented s n x plain other agree code = tt
 
--- A fetched instruction is encoded there, so the bytes that it names are in memory.
+-- A fetched instruction has operands in range, and its bytes are in memory.
 record IsRanged (i : Instr) : Type 0 where
   pub ranges : in_range (form_of i.op) i ≡ true
   pub lies : lies_within (form_of i.op) i 65536 ≡ true
@@ -292,7 +292,7 @@ executed_alike s n plain other has =
     row_alike s n (fetched s.memory s.registers.ipc) (fetched n s.registers.ipc) plain other has.instruction
     (λ i h. fetched_ranged s.memory s.registers.ipc i plain.memory h) (λ i h x low high. has.named i x h low high) has.bytes
 
--- The words that are not named are unchanged in the other memory too.
+-- Words that the instruction does not write are unchanged in the other memory too.
 rest_kept : (s t : State) (n : List ℕ) → IsPlain s → IsPlain (in_memory s n) → HoldsWhatIsRead s n → executed s ≡ Ok t
     → IfMade (λ (v : State). Kept (written s) n v.memory) (executed (in_memory s n))
 unfolding executed read written

@@ -1,4 +1,5 @@
--- Two runs of a row, in two memories that agree on the bytes that it reads.
+-- Definitions and lemmas for two executions of a rule, in two memories `m` and `n` that agree on the bytes that the
+-- rule reads. Memories *change alike* if each byte is the same in both new memories, or unchanged in both.
 use Rattle.std.proofs.Common.{◌≡◌, ◌<◌, ◌≤◌, ◌⊎◌, inl, inr, ⊎_elim, ℕ, ◌+◌, ◌-◌, ◌*◌, ◌/◌, ◌%◌, ◌||◌, Bool, true, false, nat_lt}
 use Rattle.std.proofs.Common.{List, [], ◌∷◌, ◌++◌, length, drop, get_or, set, Result, Ok, Err, refl, sym, ap, ◌∙◌, arith}
 use Rattle.std.specs.List.{All, list_any}
@@ -16,7 +17,7 @@ use Rattle.law_engine.specs.ReadLaws.{ChangeAlike}
 
 -- ---- memories that agree
 
--- Each byte that one of the stretches touches is the same in both memories.
+-- Each byte in one of the ranges `ss` is the same in both memories.
 abbrev pub Agree : List Stretch → List ℕ → List ℕ → Type 0
 Agree ss m n = (x : ℕ) → list_any (touches x 1) ss ≡ true → byte_at n x ≡ byte_at m x
 
@@ -84,13 +85,13 @@ pop_same m n a k x same low high = rw (load_same m n a k x same low high) refl
 
 -- ---- both runs, step by step
 
--- The other run has a result that is related to the result of the first run.
+-- The second execution succeeds with a result `other`, which is related to the first result `x` by `Q`.
 pub record Made {A E : Type 0} (Q : A → A → Type 0) (x : A) (r : Result A E) : Type 0 where
   pub other : A
   pub made : r ≡ Ok other
   pub like : Q x other
 
--- If the first run succeeds, the second one succeeds too.
+-- If the first execution succeeds, then the second succeeds too, and `Q` relates the results.
 abbrev pub Both : {A E : Type 0} → (A → A → Type 0) → Result A E → Result A E → Type 0
 Both Q (Ok x) r = Made Q x r
 Both Q (Err e) r = Unit {0}
@@ -102,7 +103,7 @@ both Q (Err e) u f g same h = tt
 
 -- ---- the words that are written
 
--- All of the result of a row except the memory is the same, and the memory changed alike.
+-- The results are equal except for the memories, which changed alike.
 abbrev pub RowAlike : {A : Type 0} → List ℕ → List ℕ → (List ℕ × A) → (List ℕ × A) → Type 0
 RowAlike m n t u = (u.1 ≡ t.1) × ChangeAlike m t.0 n u.0
 
@@ -115,7 +116,7 @@ unchanged m n = λ x. inr (refl, refl)
 pub done : {A : Type 0} (m n p q : List ℕ) (a : A) → ChangeAlike m p n q → RowsAlike m n (Ok (p, a)) (Ok (q, a))
 done m n p q a h = record { other = (q, a); made = refl; like = (refl, h) }
 
--- Words that change alike are bytes that change alike.
+-- If words change alike, then the bytes change alike.
 abbrev WordsAlike : List ℕ → List ℕ → List ℕ → List ℕ → Type 0
 WordsAlike m p n q = (i : ℕ) → (get_or q i 0 ≡ get_or p i 0) ⊎ ((get_or p i 0 ≡ get_or m i 0) × (get_or q i 0 ≡ get_or n i 0))
 
@@ -142,7 +143,7 @@ by_words m p n q h = λ x. ⊎_elim (λ e. low x e (h (x / 2))) (λ e. high x (o
       byte_at-odd q x e ∙ ap (λ (w : ℕ). w / 256) stay.1 ∙ sym (byte_at-odd n x e),
     )
 
--- A word that is written is the same in both memories.
+-- If the same word is written to both memories, then they change alike.
 pub word_alike_sized : (m n : List ℕ) (a w : ℕ) → length m ≡ 32768 → length n ≡ 32768 → ChangeAlike m (with_word m a w) n (with_word n a w)
 unfolding with_word
 word_alike_sized m n a w memory other = by_words m (set m (a / 2) w) n (set n (a / 2) w) (λ i. ⊎_elim (λ e. inl (here i e))
@@ -175,7 +176,7 @@ pushed_alike m n sp np w memory other = elim (cases_Bool (nat_lt sp (np + 2))) [
   | inr e ↦ rw e (stored_alike m n (sp - 2) w (sp - 2) memory other)
 ]
 
--- Bytes that are written.
+-- If the same bytes are written to both memories, then they change alike.
 pub bytes_alike : (m n bs : List ℕ) (a : ℕ) → IsMemory m → IsMemory n → a + length bs ≤ 65536 → All (λ b. b < 256) bs
     → ChangeAlike m (with_bytes m a bs) n (with_bytes n a bs)
 bytes_alike m n bs a memory other room fit = λ x. ⊎_elim (λ low. away x (inl low)) (λ from. ⊎_elim
@@ -187,7 +188,7 @@ bytes_alike m n bs a memory other room fit = λ x. ⊎_elim (λ low. away x (inl
         ⊎ ((byte_at (with_bytes m a bs) x ≡ byte_at m x) × (byte_at (with_bytes n a bs) x ≡ byte_at n x))
     away x far = inr (byte_at-with_bytes_other m bs a x memory room fit far, byte_at-with_bytes_other n bs a x other room fit far)
 
--- The bytes of a stretch that both memories have.
+-- If both memories agree on a range, then they have the same bytes in each part of it.
 pub bytes_same : (m n : List ℕ) (a k from count : ℕ) → Same m n a k → IsMemory m → IsMemory n → a ≤ from → from + count ≤ a + k → from + count ≤ 65536
     → bytes_at n from count ≡ bytes_at m from count
 unfolding bytes_at byte_at
@@ -199,7 +200,7 @@ bytes_same m n a k from count same memory other low high room =
     item : (p : List ℕ) (i : ℕ) → i < count → get_or (bytes_at p from count) i 0 ≡ get_or (bytes_of p) (from + i) 0
     item p i l = get_or-take count (drop from (bytes_of p)) i 0 l ∙ get_or-drop from (bytes_of p) i 0
 
--- A copy of bytes that both memories have.
+-- If both memories agree on the source, then copying its bytes changes them alike.
 pub copy_alike : (m n : List ℕ) (from to count : ℕ) → Same m n from count → IsMemory m → IsMemory n → from + count ≤ 65536 → to + count ≤ 65536
     → ChangeAlike m (copied m from to count) n (copied n from to count)
 unfolding copied
@@ -212,7 +213,7 @@ copy_alike m n from to count same memory other source room =
 over : (p ws : List ℕ) (k i : ℕ) → k + length ws ≤ length p → k ≤ i → i < k + length ws → get_or (overwritten p k ws) i 0 ≡ get_or ws (i - k) 0
 over p ws k i room from high = grind (arith, places)
 
--- Words that are written from an even address on.
+-- If the same words are written to both memories from an even address on, then they change alike.
 pub words_alike : (m n ws : List ℕ) (a : ℕ) → IsMemory m → IsMemory n → a / 2 + length ws ≤ 32768 → ChangeAlike m (with_words m a ws) n (with_words n a ws)
 unfolding with_words
 words_alike m n ws a memory other room = by_words m (overwritten m (a / 2) ws) n (overwritten n (a / 2) ws) (λ i. ⊎_elim
@@ -230,7 +231,7 @@ words_alike m n ws a memory other room = by_words m (overwritten m (a / 2) ws) n
     inside : (p : List ℕ) (i : ℕ) → length p ≡ 32768 → a / 2 ≤ i → i < a / 2 + length ws → get_or (overwritten p (a / 2) ws) i 0 ≡ get_or ws (i - a / 2) 0
     inside p i size from high = over p ws (a / 2) i (omega (arith, size, room)) from high
 
--- The words from an even address on that both memories have.
+-- If both memories agree on a range, then they have the same words in each part of it that begins at an even address.
 pub words_same : (m n : List ℕ) (a k from count : ℕ) → Same m n a k → IsMemory m → IsMemory n → from % 2 ≡ 0 → a ≤ from → from + 2 * count ≤ a + k
     → from + 2 * count ≤ 65536 → words_at n from count ≡ words_at m from count
 unfolding words_at word_at
@@ -250,18 +251,18 @@ pub as_before : {A E : Type 0} (Q : A → A → Type 0) (r u : Result A E) → (
 as_before Q (Ok x) u like same = record { other = x; made = same; like = like x }
 as_before Q (Err e) u like same = tt
 
--- Both runs check the same condition first.
+-- If both executions check the same condition first, then it is enough that they agree after the check.
 pub demanded : {B : Type 0} (Q : B → B → Type 0) (b : Bool) (e : ExecError) (f g : Unit {0} → Result B ExecError) → (b ≡ true → Both Q (f tt) (g tt))
     → Both Q (demand b e >>= f) (demand b e >>= g)
 demanded Q true e f g h = h refl
 demanded Q false e f g h = tt
 
--- If the first steps are the same, and each next step is, the whole is the same.
+-- If the first steps are equal, and the following steps are equal for each result, then both executions are equal.
 pub bind_same : {A B E : Type 0} (r u : Result A E) (f g : A → Result B E) → u ≡ r → ((x : A) → r ≡ Ok x → g x ≡ f x) → (u >>= g) ≡ (r >>= f)
 bind_same (Ok x) u f g same h = rw same (h x refl)
 bind_same (Err e) u f g same h = rw same refl
 
--- The next steps, if the first steps are related.
+-- If the first steps are related by `P`, and the following steps by `Q`, then both executions are related by `Q`.
 pub andthen : {A B E : Type 0} (P : A → A → Type 0) (Q : B → B → Type 0) (r u : Result A E) (f g : A → Result B E) → Both P r u
     → ((x y : A) → r ≡ Ok x → P x y → Both Q (f x) (g y)) → Both Q (r >>= f) (u >>= g)
 andthen P Q (Ok x) u f g first h = rw first.made (h x first.other refl first.like)
@@ -279,7 +280,7 @@ then_alike m p z n q y first second = λ x. of x (first x) (second x)
     of x (inl same) (inr stay) = inl (stay.1 ∙ same ∙ sym stay.0)
     of x (inr was) (inr stay) = inr (stay.0 ∙ was.0, stay.1 ∙ was.1)
 
--- Bytes that are the same remain so.
+-- If two memories change alike, and agree on a range before, then they agree on it after the change.
 pub still_same : (m p n q : List ℕ) (a k : ℕ) → ChangeAlike m p n q → Same m n a k → Same p q a k
 still_same m p n q a k alike same = λ x low high. of x (alike x) (same x low high)
   where

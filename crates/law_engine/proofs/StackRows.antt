@@ -1,4 +1,4 @@
--- The words that rows on the stack write.
+-- Lemmas for the words that rows on the stack write.
 use Rattle.std.proofs.Common.{◌≡◌, ◌≢◌, ◌<◌, ◌≤◌, ◌⊎◌, inl, inr, ℕ, ◌+◌, ◌-◌, ◌*◌, ◌/◌, ◌%◌, ◌&&◌, ◌||◌, ◌==◌, Bool, true, false, not, max, min}
 use Rattle.std.proofs.Common.{cond, nat_lt, nat_le, List, [], ◌∷◌, ◌++◌, length, take, drop, get_or, Result, Ok, Err, refl, sym, ap, ◌∙◌, subst, arith}
 use Rattle.std.specs.Prelude.{reverse, int_lt}
@@ -58,7 +58,7 @@ step : {A : Type 0} (m : List ℕ) (p : Pushed) (r : Result A ExecError) (f : A 
 step m p (Ok x) f h = h x refl
 step m p (Err e) f h = tt
 
--- A row that stores.
+-- For a row that stores, nothing is stated.
 any : (m : List ℕ) (r : Result (List ℕ × ℕ) ExecError) → WritesWhatItPushes m stores r
 any m (Ok t) = tt
 any m (Err e) = tt
@@ -76,14 +76,14 @@ stored m a w = elim (cases_Bool (is_even a)) [
     evenly : (a : ℕ) → is_even a ≡ true → a % 2 ≡ 0
     evenly a e = grind (arith, nat_tests)
 
--- One word is pushed.
+-- If one word is pushed, then only this word is written.
 one : (m : List ℕ) (sp np w : ℕ) → WritesWhatItPushes m (so_many 1) (push m sp np w)
 one m sp np w = elim (cases_Bool (nat_lt sp (np + 2))) [
   | inl e ↦ rw e tt
   | inr e ↦ rw e (stored m (sp - 2) w)
 ]
 
--- Words written next to a word leave it unchanged.
+-- If words are written that do not include the word at `x`, then the word at `x` is unchanged.
 beside : (ws vs : List ℕ) (a x : ℕ) → a % 2 ≡ 0 → a / 2 + length vs ≤ length ws → x % 2 ≡ 0 → (x < a) ⊎ (a + 2 * length vs ≤ x)
     → word_at (with_words ws a vs) x ≡ word_at ws x
 unfolding word_at with_words
@@ -102,7 +102,7 @@ beside ws vs a x even room here (inr high) =
     kept i k ws vs room (inl h) = grind (arith, places)
     kept i k ws vs room (inr h) = grind (arith, places)
 
--- The first of several words that are written.
+-- If words are written from the address `a` on, then the word at `a` is the first of them.
 first : (ws vs : List ℕ) (a w : ℕ) → a / 2 ≤ length ws → word_at (with_words ws a (w ∷ vs)) a ≡ w
 unfolding word_at with_words
 first ws vs a w room =
@@ -149,7 +149,7 @@ a_set_is_pushed m ws sp np memory top = step m a_set (demand (nat_le (np + 2 * l
     longer : (ws : List ℕ) → length ws + 1 ≡ length (length ws ∷ ws)
     longer ws = omega arith
 
--- The SP after a word is popped, and after a set is popped.
+-- If a word is popped, or a set is popped, then the SP after it is even and at most 65,504.
 above_word : (m : List ℕ) (sp : ℕ) (p : Popped) → pop m sp ≡ Ok p → IsTop p.above
 above_word m sp p h =
     let is = popped m sp p h in

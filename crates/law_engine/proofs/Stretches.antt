@@ -1,4 +1,5 @@
--- Words that no stretch touches.
+-- Definitions and lemmas for words that no range of memory touches. `stretch a n` is the range of the `n` bytes from
+-- `a` on.
 use Rattle.std.proofs.Common.{◌≡◌, ◌≢◌, ◌<◌, ◌≤◌, ◌⊎◌, inl, inr, ⊎_elim, ℕ, ◌+◌, ◌-◌, ◌*◌, ◌/◌, ◌%◌, ◌&&◌, ◌||◌, Bool, false, nat_lt}
 use Rattle.std.proofs.Common.{List, [], ◌∷◌, Result, Ok, Err, refl, sym, ap, ◌∙◌, subst, arith}
 use Rattle.std.specs.List.{list_any}
@@ -12,7 +13,7 @@ use Rattle.pm_machine.specs.Written.{Stretch, stretch, stretch_to, touches}
 
 -- ---- the words that a stretch does not touch
 
--- The two bytes at `x` do not meet the `n` bytes at `a`: there are no such bytes, or they are before or after them.
+-- The two bytes from `x` on are not among the `n` bytes from `a` on: `n` is 0, or they are before or after these bytes.
 abbrev pub IsAway : ℕ → ℕ → ℕ → Type 0
 IsAway x a n = (n ≡ 0) ⊎ ((x + 1 < a) ⊎ (a + n ≤ x))
 
@@ -28,7 +29,7 @@ apart x a n h = ⊎_elim
 pub away : (x a n : ℕ) → list_any (touches x 2) (stretch a n ∷ []) ≡ false → IsAway x a n
 away x a n h = apart x a n (or_parts (touches x 2 (stretch a n)) false h).0
 
--- A word is the same if both of its bytes are the same.
+-- If two memories have the same two bytes at `x` and `x + 1`, then they have the same word at the even address `x`.
 word_same : (m n : List ℕ) (x : ℕ) → x % 2 ≡ 0 → byte_at n x ≡ byte_at m x → byte_at n (x + 1) ≡ byte_at m (x + 1) → word_at n x ≡ word_at m x
 word_same m n x even low high =
     word_at-bytes n x even ∙ ap (λ (b : ℕ). b + 256 * byte_at n (x + 1)) low ∙ ap (λ (b : ℕ). byte_at m x + 256 * b) high ∙ sym (word_at-bytes m x even)
@@ -45,17 +46,18 @@ high_byte_away x a n (inr (inr high)) = inr (omega (arith, high))
 
 -- ---- rows that leave all words unchanged, except those of stretches
 
--- Every word that the stretches do not touch is unchanged.
+-- Every word that none of the ranges `ss` touches is the same in `m` and `n`.
 abbrev pub Kept : List Stretch → List ℕ → List ℕ → Type 0
 Kept ss m n = (x : ℕ) → x % 2 ≡ 0 → list_any (touches x 2) ss ≡ false → word_at n x ≡ word_at m x
 
--- Bytes outside a stretch are unchanged.
+-- If all bytes outside a range are unchanged, then every word that the range does not touch is unchanged.
 pub bytes_kept : (m n : List ℕ) (a k : ℕ) → ((y : ℕ) → (y < a) ⊎ (a + k ≤ y) → byte_at n y ≡ byte_at m y) → Kept (stretch a k ∷ []) m n
 bytes_kept m n a k same = λ x even none.
     let far = away x a k none in
     word_same m n x even (same x (low_byte_away x a k far)) (same (x + 1) (high_byte_away x a k far))
 
--- Words outside a stretch of some bytes are unchanged.
+-- If all words outside a range of at least one byte are unchanged, then every word that the range does not touch is
+-- unchanged.
 pub words_kept : (m n : List ℕ) (a k : ℕ) → 0 < k → ((x : ℕ) → x % 2 ≡ 0 → (x + 1 < a) ⊎ (a + k ≤ x) → word_at n x ≡ word_at m x)
     → Kept (stretch a k ∷ []) m n
 words_kept m n a k some same = λ x even none. same x even (outside x (away x a k none))
@@ -64,7 +66,7 @@ words_kept m n a k some same = λ x even none. same x even (outside x (away x a 
     outside x (inl none) = absurd (omega (arith, none, some))
     outside x (inr far) = far
 
--- A word that is written at an even or odd address `a` leaves each word unchanged, except the one that has byte `a`.
+-- If a word is written at the address `a`, then each word that does not contain the byte at `a` is unchanged.
 pub word_kept : (m : List ℕ) (a w x : ℕ) → x % 2 ≡ 0 → (x + 1 < a) ⊎ (a < x) → word_at (with_word m a w) x ≡ word_at m x
 unfolding word_at with_word
 word_kept m a w x even far = get_or-set_other m (a / 2) (x / 2) w 0 (differs far)
@@ -80,18 +82,18 @@ stored_kept m a w = words_kept m (with_word m a w) a 2 (omega arith) (λ x even 
     further x (inl low) = inl low
     further x (inr high) = inr (omega (arith, high))
 
--- A stretch of `n` bytes that ends at `end` is complete if `n` is at most `end`.
+-- If `n` is at most `end`, then the range of `n` bytes that ends at `end` is complete.
 pub all_stand : (end n : ℕ) → n ≤ end → stretch_to end n ≡ stretch (end - n) n
 all_stand end n room = ap (λ (k : ℕ). stretch (end - n) k) (min-eq_left room)
 
 pub kept_to : (end n : ℕ) (m p : List ℕ) → n ≤ end → Kept (stretch (end - n) n ∷ []) m p → Kept (stretch_to end n ∷ []) m p
 kept_to end n m p room h = subst (λ (s : Stretch). Kept (s ∷ []) m p) (sym (all_stand end n room)) h
 
--- Nothing is written.
+-- If nothing is written, then all words are unchanged.
 pub all_kept : (ss : List Stretch) (m : List ℕ) → Kept ss m m
 all_kept ss m = λ x even none. refl
 
--- One stretch is written, and then the others.
+-- If only words of the first range are written, and then only words of the others, then all other words are unchanged.
 pub both_kept : (s : Stretch) (ss : List Stretch) (m n p : List ℕ) → Kept (s ∷ []) m n → Kept ss n p → Kept (s ∷ ss) m p
 both_kept s ss m n p first rest = λ x even none.
     let parts = or_parts (touches x 2 s) (list_any (touches x 2) ss) none in

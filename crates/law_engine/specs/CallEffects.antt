@@ -1,4 +1,5 @@
--- The law of the words that calls and returns pop and leave.
+-- The law of the words that calls and returns pop and leave on the stack. The record `Parts` has the memory, the
+-- registers and the entries of the segment slots.
 use Rattle.std.specs.Prelude.{◌≡◌, ℕ, ◌+◌, ◌*◌, ◌/◌, Bool, List, Option, Ok}
 use Rattle.pm_words.specs.Words.{IsMemory, word_at}
 use Rattle.pm_families.specs.declared.families.Call.{Call}
@@ -13,17 +14,17 @@ use Rattle.pm_effects.specs.Effects.{words}
 use Rattle.law_engine.specs.Effects.{words_taken}
 use Rattle.law_engine.specs.StandardEffects.{EndsIn}
 
--- The effect of a procedure: it pops the words of its parameters, whose bytes `table` states, and leaves the `results`
--- words of its return.
+-- Returns the effect of a procedure with the attribute table `table`: it pops the words of its parameters, and leaves
+-- `results` words.
 abbrev pub procedure_words : Table → ℕ → Effect
 procedure_words table results = words (table.parameters / 2) results
 
--- The SP of the caller, as the frame at MP saved it.
+-- Returns the SP that the frame at MP has saved: the SP of the caller.
 abbrev pub kept_sp : Parts → ℕ
 kept_sp c = word_at c.memory (c.registers.mp + 10)
 
 -- From the SP before the call to the SP after the return, the stack moves by the effect of the called procedure. The
--- effect is that of its attribute table and of `results`.
+-- attribute table of the procedure and `results` determine this effect.
 pub record MovesByTable (before : Parts) (call : Call) (code : Option (List ℕ)) (results : ℕ) (after : Parts)
     : Type 0 where
   pub at : Reached
@@ -34,8 +35,9 @@ pub record MovesByTable (before : Parts) (call : Call) (code : Option (List ℕ)
       (before.registers.sp + 2 * words_taken (procedure_words table results) before.memory before.registers.sp)
       (procedure_words table results) after.memory after.registers
 
--- Take a call that succeeds and a return of `results` words that succeeds, with any execution between them. If MP and
--- the SP that its frame saved are at the return as the call left them, SP moves by the table.
+-- If a call succeeds, and a later return of `results` words succeeds, then SP moves by the effect of the called
+-- procedure. At the return, MP and the SP that its frame saved must be as the call left them. Any instructions can be
+-- executed between.
 abbrev pub CallsAreTheMachines : Type 0
 CallsAreTheMachines =
     (before inside leaving after : Parts) (call : Call) (code : Option (List ℕ)) (results : ℕ) (base : Bool) →

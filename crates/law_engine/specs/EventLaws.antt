@@ -1,4 +1,4 @@
--- Laws of lists of events, and of loads.
+-- Laws of lists of events, and of the code that calls load.
 use Rattle.std.specs.Prelude.{◌≡◌, ◌<◌, ℕ, List, [], ◌∷◌, ◌++◌, Option, Some, None, Ok}
 use Rattle.pm_families.specs.declared.families.Call.TheVariants.{Cxp}
 use Rattle.pm_calls.specs.declared.frames.SegmentPlace.{SegmentPlace}
@@ -12,22 +12,22 @@ use Rattle.pm_stdproc.specs.Loads.{code_needed}
 use Rattle.pm_machine.specs.State.{State}
 use Rattle.pm_machine.specs.Events.{Event, next, after_all}
 
--- State `t` is obtained from `s` by these events, one after another.
+-- The events, executed one after another, lead from the state `s` to the state `t`.
 abbrev pub Goes : State → List Event → State → Type 0
 Goes s [] t = t ≡ s
 Goes s (e ∷ es) t = (between : State) × (between ≡ next s e) × Goes between es t
 
--- If each state is obtained from the one before it by an event, the last state is the state after all events.
+-- If the events lead from `s` to `t` one after another, then `t` is the state after the whole list.
 abbrev pub CallsGiveAll : Type 0
 CallsGiveAll = (s t : State) (es : List Event) → Goes s es t → t ≡ after_all s es
 
--- The state after two lists of events is the state after the second list, begun at the state after the first list.
+-- The state after two lists of events is the state after the second list, executed from the state after the first list.
 abbrev pub EventsGoOn : Type 0
 EventsGoOn = (s : State) (es more : List Event) → after_all s (es ++ more) ≡ after_all (after_all s es) more
 
--- Let the disk of the unit be the volume from which a program was booted. A CXP to slot `n` without an address then
--- loads the segment of this slot of the code file, or nothing if the slot has no segment. Premise: the block number
--- after the last block of the file is less than 65,536.
+-- If the disk of the unit is the volume from which a program was booted, and the slot `n` has no address, then a CXP to
+-- the slot loads the segment of this slot of the code file, or nothing if the slot has no segment. Premise: the block
+-- number after the last block of the file is less than 65,536.
 abbrev pub LoadsGiveSegments : Type 0
 LoadsGiveSegments =
     (images : List (Option (List ℕ))) (image name file : List ℕ) (entry : Entry) (d : Devices)

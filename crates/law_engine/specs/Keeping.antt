@@ -1,4 +1,4 @@
--- Laws of segments with keeps.
+-- Laws of segments with keeps: segments that the program requests to remain loaded.
 use Rattle.std.specs.Prelude.{◌≡◌, ◌<◌, ◌≤◌, ℕ, ◌-◌, ◌||◌, ◌==◌, Bool, List, [], ◌∷◌, All, Option, Some, None, Result}
 use Rattle.std.specs.Prelude.{Ok, Err, if◌then◌else◌, nat_lt, option_and_then, position, slice_index_or, slice_set}
 use Rattle.pm_words.specs.declared.error.ExecError.{ExecError}
@@ -32,22 +32,22 @@ pub record IsAtProcedure (n : ℕ) (s : State) : Type 0 where
   pub there : fetched s.memory s.registers.ipc ≡ Ok instr
   pub calls : operation_of instr ≡ operation.Standard n
 
--- No step of these events executes standard procedure `n`.
+-- No step of the events `es`, executed from the state `s`, executes standard procedure `n`.
 unfoldable pub IsNeverAt : ℕ → State → List Event → Type 0
 IsNeverAt n s [] = Unit {0}
 IsNeverAt n s (e ∷ es) = (e ≡ Step → IsAtProcedure n s → ⊥) × IsNeverAt n (next s e) es
 
 -- ---- a segment with a keep has its address
 
--- The segment of the slot has the address of `p`, and at least as many keeps.
+-- The slot has a segment with the address of `p`, and with at least as many keeps as `p`.
 pub record StandsAs (p : SegmentPlace) (slot : Option SegmentPlace) : Type 0 where
   pub now : SegmentPlace
   pub there : slot ≡ Some now
   pub place : now.place ≡ p.place
   pub keeps : p.keeps ≤ now.keeps
 
--- If a segment has a keep, it has the same address and at least as many keeps after any events. Its calls may return.
--- Premise: no step of the events is standard procedure 22.
+-- If a segment has a keep, then it has the same address and at least as many keeps after any events, even if its calls
+-- return. Premise: no step of the events is standard procedure 22.
 abbrev pub KeptSegmentsStand : Type 0
 KeptSegmentsStand =
     (s : State) (es : List Event) (n : ℕ) (p : SegmentPlace) →
@@ -56,7 +56,8 @@ KeptSegmentsStand =
 
 -- ---- the machine without keeps
 
--- A return removes one call of the segment. If this is its last call, the slot has no address any more.
+-- Returns the entry of a segment after a return from one of its calls, in the machine without keeps. If this was the
+-- last call, the slot has no address.
 abbrev pub plain_less : SegmentPlace → Option SegmentPlace
 plain_less p = if nat_lt 1 p.count then Some (record p { count = p.count - 1 }) else None
 
@@ -67,7 +68,7 @@ plain_lessened (Some n) places = slice_set places n (option_and_then plain_less 
 abbrev pub plain_released : ℕ → List (Option SegmentPlace) → List (Option SegmentPlace)
 plain_released s places = plain_lessened (position (stands_at s) places) places
 
--- The return of the machine, except that the slots after it are those of the machine without keeps.
+-- Returns the result of a return, but with the slots of the machine without keeps.
 abbrev pub plain_returned : Parts → ℕ → Bool → Result Parts ExecError
 plain_returned c words base =
     returned c words base >>= λ p.
@@ -81,11 +82,13 @@ plain_return_row r s =
     plain_returned (parts s) (words_of_return r) (is_base_return r) >>= λ p.
     Ok (record (with_parts p s) { status = status_after p.registers.mp s.status })
 
--- This machine has no procedures 21 and 22.
+-- The rule of the standard procedure `n` in the machine without keeps, in which the procedures 21 and 22 are not
+-- implemented.
 abbrev pub plain_standard_row : ℕ → State → Result State Pause
 plain_standard_row n s = if n == 21 || n == 22 then Err (Fails errors.Unimplemented) else standard_row n s
 
--- All operations except returns and standard procedures 21 and 22 are those of the machine.
+-- The rule of an operation in the machine without keeps. All operations are those of the machine, except returns and
+-- the standard procedures 21 and 22.
 abbrev pub plain_performed : Operation → State → Result State Pause
 plain_performed (operation.Arithmetic o) s = performed (operation.Arithmetic o) s
 plain_performed (operation.Variable o) s = performed (operation.Variable o) s
@@ -120,18 +123,18 @@ unfoldable pub plain_after_all : State → List Event → State
 plain_after_all s [] = s
 plain_after_all s (e ∷ es) = plain_after_all (plain_next s e) es
 
--- The segment of the slot has no keep.
+-- The slot is empty, or its segment has no keep.
 abbrev pub IsUnkept : Option SegmentPlace → Type 0
 IsUnkept None = Unit {0}
 IsUnkept (Some p) = p.keeps ≡ 0
 
--- The state after these events is that of the machine without keeps, and no segment has a keep.
+-- The state after the events `es` is the same in the machine without keeps, and no segment has a keep.
 pub record IsPlainRun (s : State) (es : List Event) : Type 0 where
   pub same : after_all s es ≡ plain_after_all s es
   pub unkept : All IsUnkept (after_all s es).places
 
--- If no step is standard procedure 21 or 22, the machine is the machine without keeps. This holds for each start and
--- any events.
+-- If no step is standard procedure 21 or 22, then the machine behaves as the machine without keeps. This holds for each
+-- start and any events.
 pub record UnkeptMachinesArePlain : Type 0 where
   pub raw :
       (bytes : List ℕ) (s : State) (es : List Event) →

@@ -1,4 +1,4 @@
--- Laws of the addresses of loaded code.
+-- Laws of the memory in which loaded code is stored.
 use Rattle.std.specs.Prelude.{◌≡◌, ◌<◌, ℕ, ◌+◌, ◌-◌, List, All, Option, Some, None, Ok, length, slice_get}
 use Rattle.pm_words.specs.Words.{bytes_at, word_at}
 use Rattle.pm_opcode.specs.declared.instr.Instr.{Instr}
@@ -21,12 +21,13 @@ use Rattle.pm_machine.specs.Steps.{stepped}
 use Rattle.law_engine.specs.Keeping.{IsAtProcedure}
 use Rattle.pm_words.specs.declared.layout.TheConstants.{SYSTEM_FRAME}
 
--- The image consists of bytes and is a volume.
+-- The image is a volume, and its elements are bytes.
 pub record IsImage (image : List ℕ) : Type 0 where
   pub volume : IsVolume image
   pub bytes : All (λ b. b < 256) image
 
--- State `s` is that of a machine that was booted from a code file on the volume of a unit, after any events.
+-- The state `s` is reached by any events from a machine that was booted from the code file `file` on the volume `image`
+-- of the unit.
 pub record IsBootedFrom (image file : List ℕ) (unit : ℕ) (s : State) : Type 0 where
   pub images : List (Option (List ℕ))
   pub name : List ℕ
@@ -46,15 +47,15 @@ pub record IsAtCall (n p : ℕ) (s : State) : Type 0 where
   pub there : fetched s.memory s.registers.ipc ≡ Ok instr
   pub calls : operation_of instr ≡ Call (Cxp n p)
 
--- The segment of slot `n` of the file is in memory, and ends at address `below`.
+-- The segment of slot `n` of `file` is in memory, and ends at the address `below`.
 pub record StandsBelow (file : List ℕ) (n below : ℕ) (memory : List ℕ) : Type 0 where
   pub code : List ℕ
   pub segment : segment_in file n ≡ Some code
   pub stands : bytes_at memory (below - length code) (length code) ≡ code
 
--- Take a machine that was booted from a code file, and any events after that, and let the disk of its unit be the
--- volume. A successful step that calls a procedure of a slot without an address leaves the segment of this slot of the
--- file in memory. It is directly below the SP before the step.
+-- If a machine was booted from a code file, and the disk of its unit is still the volume after any events, then a
+-- successful step that calls a procedure of a slot without an address loads the segment of this slot of the file. The
+-- segment is then directly below the SP before the step.
 abbrev pub StepsLoadSegments : State → Type 0
 StepsLoadSegments s =
     (image file : List ℕ) (unit n p : ℕ) →
@@ -62,13 +63,14 @@ StepsLoadSegments s =
     placed s.places n ≡ None → IsAtCall n p s → (stepped s).1 ≡ Went →
     StandsBelow file n s.registers.sp (stepped s).0.memory
 
--- The machine runs, the instruction at IPC is standard procedure 21, and its operand on the stack is slot `n`.
+-- The machine runs, the instruction at IPC is standard procedure 21, and the slot number on top of the stack is `n`.
 pub record IsAtKeep (n : ℕ) (s : State) : Type 0 where
   pub at : IsAtProcedure 21 s
   pub slot : word_at s.memory s.registers.sp ≡ n
 
--- Of the same machine, a successful step of standard procedure 21 for a slot without an address leaves the segment of
--- this slot of the file in memory. It is directly below the SP after the number of the slot is popped.
+-- If a machine was booted from a code file, and the disk of its unit is still the volume after any events, then a
+-- successful step of standard procedure 21 for a slot without an address loads the segment of this slot of the file.
+-- The segment is then directly below the SP after the number of the slot is popped.
 abbrev pub StepsKeepSegments : State → Type 0
 StepsKeepSegments s =
     (image file : List ℕ) (unit n : ℕ) →
@@ -76,8 +78,8 @@ StepsKeepSegments s =
     placed s.places n ≡ None → IsAtKeep n s → (stepped s).1 ≡ Went →
     StandsBelow file n (s.registers.sp + 2) (stepped s).0.memory
 
--- Any machine and any disks: a successful step that loads slot `n` leaves in memory the bytes `code`, which the row of
--- the slot names on the disk of its unit.
+-- In any machine with any disks, a successful step that loads slot `n` leaves the bytes `code` in memory. These are the
+-- present bytes on the disk to which the row of the slot refers.
 pub record LoadsWhatIsThere (s : State) (n : ℕ) (code : List ℕ) : Type 0 where
   pub called : (p : ℕ) → IsAtCall n p s → (stepped s).1 ≡ Went
       → bytes_at (stepped s).0.memory (s.registers.sp - length code) (length code) ≡ code
@@ -90,7 +92,7 @@ StepsLoadWhatIsThere s =
     slice_get s.rows n ≡ Some row → 0 < row.length → placed s.places n ≡ None →
     code_on s.devices row.unit row.block row.length ≡ Some code → All (λ b. b < 256) code → LoadsWhatIsThere s n code
 
--- A machine begins with the segment of slot 1 of the code file in memory, directly below 65,492.
+-- If a machine is booted, then it begins with the segment of slot 1 of the code file in memory, directly below 65,492.
 abbrev pub BootsLoadSegment : Type 0
 BootsLoadSegment =
     (images : List (Option (List ℕ))) (image name file : List ℕ) (entry : Entry) (unit clock : ℕ) (s : State) →

@@ -1,4 +1,5 @@
--- Laws of the memory that calls and returns leave unchanged.
+-- Laws of the memory that calls and returns leave unchanged. The record `Parts` has the memory, the registers and the
+-- entries of the segment slots.
 use Rattle.std.specs.Prelude.{◌≡◌, ◌<◌, ◌≤◌, ◌⊎◌, ℕ, ◌+◌, ◌-◌, ◌*◌, Bool, List, Option, Ok}
 use Rattle.pm_words.specs.Words.{IsMemory, byte_at}
 use Rattle.pm_calls.specs.declared.frames.Table.{Table}
@@ -9,19 +10,20 @@ use Rattle.pm_calls.specs.Calls.{Reached, called, procedure_called}
 use Rattle.pm_calls.specs.Returns.{returned}
 use Rattle.pm_calls.specs.Laws.{IsCode, Reaches}
 
--- Address `x` is none of the `n` bytes from `a` on.
+-- The address `x` is not among the `n` bytes from the address `a` on.
 abbrev pub LiesOutside : ℕ → ℕ → ℕ → Type 0
 LiesOutside a n x = (x < a) ⊎ (a + n ≤ x)
 
--- Parts `c` are before a call, `d` in the procedure, and `e` after the return. Address `x` is outside three ranges. The
--- first is the frame, from the SP with which the procedure begins to the end of its variables. The second is the loaded
--- code, which ends at the SP before the call. The third is the result, from the SP after the return on.
+-- `c` is before a call, `d` at the start of the procedure, and `e` after the return. The address `x` is outside three
+-- ranges. The first is the frame, from the SP with which the procedure begins to the end of its variables. The second
+-- is the loaded code, which ends at the SP before the call. The third is the words of the result, from the SP after the
+-- return on.
 pub record IsOutsideCall (c d e : Parts) (table : Table) (loaded words x : ℕ) : Type 0 where
   pub frame : (x < d.registers.sp) ⊎ (d.registers.mp + (12 + table.parameters + table.locals) ≤ x)
   pub code : LiesOutside (c.registers.sp - loaded) loaded x
   pub result : LiesOutside e.registers.sp (2 * words) x
 
--- A call of the procedure with this table, and its return, leave each byte outside these ranges unchanged.
+-- A call and its return leave each byte unchanged that is outside the frame, the loaded code and the result.
 pub record LeavesTheRest (c d e : Parts) (call : Call) (code : Option (List ℕ)) (words : ℕ) : Type 0 where
   pub at : Reached
   pub reached : Reaches c call code at
@@ -29,7 +31,8 @@ pub record LeavesTheRest (c d e : Parts) (call : Call) (code : Option (List ℕ)
   pub found : attributes at.memory at.place (procedure_called call) ≡ Ok table
   pub rest : (x : ℕ) → IsOutsideCall c d e table at.loaded words x → byte_at e.memory x ≡ byte_at c.memory x
 
--- A call and its return leave all memory unchanged, except the frame, the loaded code and the result.
+-- If a call and its return succeed, then they leave all memory unchanged, except the frame, the loaded code and the
+-- result.
 abbrev pub CallAndReturnLeaveTheRest : Type 0
 CallAndReturnLeaveTheRest =
     (c d e : Parts) (call : Call) (code : Option (List ℕ)) (words : ℕ) (base : Bool) →

@@ -8,9 +8,10 @@ use Rattle.pm_words.specs.Signed.{signed, word}
 use Rattle.pm_rows.specs.Jumps.{case_target, entry_target}
 use Rattle.pm_rows.specs.Integers.{binary}
 
--- The quotient and the remainder of `a` by `b` as signed numbers. DVI and MODI give the words of both. Here `a` is the
--- quotient times `b`, plus the remainder. The remainder is less than `b` in absolute value, and is 0 or has the sign of
--- `a`. Its word denotes it. The word of the quotient denotes it too, except for -32,768 divided by -1.
+-- `quotient` and `remainder` are those of `a` divided by `b` as signed numbers. DVI and MODI return their words. `a` is
+-- the quotient times `b`, plus the remainder. The remainder is less than `b` in absolute value, and is 0 or has the
+-- sign of `a`. The signed number of the word of the remainder is the remainder. The same holds for the quotient, except
+-- for -32,768 divided by -1.
 pub record Division (a b : ℕ) : Type 0 where
   pub quotient : ℤ
   pub remainder : ℤ
@@ -25,7 +26,8 @@ pub record Division (a b : ℕ) : Type 0 where
 abbrev pub DivisionIsWhole : Type 0
 DivisionIsWhole = (a b : ℕ) → a < 65536 → b < 65536 → b ≢ 0 → Division a b
 
--- The rank of a word is its signed number plus 32,768. So ranks have the order and the distances of signed numbers.
+-- The rank of a word is its signed number plus 32,768. Hence ranks have the order of signed numbers. `jump_count a b`
+-- is the difference of the signed numbers plus 1.
 pub record RanksAreOrdered (a b : ℕ) : Type 0 where
   pub number : pos (rank a) ≡ signed a +ℤ pos 32768
   pub order : nat_le (rank a) (rank b) ≡ int_le (signed a) (signed b)
@@ -34,8 +36,8 @@ pub record RanksAreOrdered (a b : ℕ) : Type 0 where
 abbrev pub RanksFollowSigned : Type 0
 RanksFollowSigned = (a b : ℕ) → a < 65536 → b < 65536 → RanksAreOrdered a b
 
--- XJP in signed numbers: for a value from `low` to `high`, it jumps by the entry of its table whose number is the value
--- less `low`. Otherwise it goes to the jump before the table.
+-- If the value is from `low` to `high` as a signed number, then XJP jumps through the entry of its table with the
+-- number `value - low`. Otherwise it continues at the jump before the table.
 abbrev pub CaseJumpsBySigned : Type 0
 CaseJumpsBySigned =
     (low high table value : ℕ) (m : List ℕ) → low < 65536 → high < 65536 → value < 65536 →

@@ -4,7 +4,7 @@ use Rattle.pm_units.specs.Devices.{Devices}
 use Rattle.pm_machine.specs.State.{State}
 use Rattle.pm_machine.specs.Events.{Event, after_all}
 
--- `new` begins with `old`.
+-- The list `new` begins with the list `old`.
 pub record GoesOnWith (old new : List ℕ) : Type 0 where
   pub more : List ℕ
   pub whole : new ≡ old ++ more

@@ -4,12 +4,12 @@ use Rattle.pm_words.specs.Words.{IsMemory, word_at}
 use Rattle.pm_words.specs.Stack.{push}
 use Rattle.pm_rows.specs.Pointers.{load_words_row, store_words_row}
 
--- The `count` words of `n` from `b` on equal those of `m` from `a` on.
+-- The `count` words of `n` from the address `b` on equal the `count` words of `m` from the address `a` on.
 abbrev pub AreSameWords : List ℕ → ℕ → List ℕ → ℕ → ℕ → Type 0
 AreSameWords m a n b count = (k : ℕ) → k < count → word_at n (b + 2 * k) ≡ word_at m (a + 2 * k)
 
--- STM stores `n` words, its address is pushed again, and LDM loads the words from it. The stack has the old words in
--- the old order. The words are stored outside the word of the address.
+-- If STM stores `n` words, the address is pushed again, and LDM loads `n` words from it, then the stack has the old
+-- words in the old order. Premise: the stored words do not overlap the word of the address.
 abbrev pub StoredWordsAreLoaded : Type 0
 StoredWordsAreLoaded =
     (m stored named loaded : List ℕ) (n sp np below address top : ℕ) →

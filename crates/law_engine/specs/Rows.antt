@@ -1,5 +1,5 @@
--- Laws of single rows of the table: the static link of a call, the devices after a unit is cleared, and the memory
--- after a move.
+-- Laws of single rules of the machine: the static link of a call, the devices after a unit is cleared, and the memory
+-- after MOV. The record `Parts` has the memory, the registers and the entries of the segment slots.
 use Rattle.std.specs.Prelude.{◌≡◌, ◌≢◌, ◌<◌, ◌≤◌, ◌⊎◌, ℕ, ◌+◌, ◌*◌, ◌%◌, List, [], Option, true, false, Ok}
 use Rattle.std.specs.Prelude.{ℤ, pos, negsuc, ◌+ℤ◌, ◌-ℤ◌, int_le}
 use Rattle.pm_words.specs.Words.{IsMemory, word_at}
@@ -18,15 +18,15 @@ use Rattle.pm_rows.specs.Pointers.{move_row}
 
 -- ---- the static link of a call
 
--- A main procedure, of level 0 or -1, is linked like the running program: by the word at BASE.
+-- The static link `link` of a main procedure, which has level 0 or -1, is the word at BASE.
 pub record LinksAsProgram (m : List ℕ) (r : Registers) (level : ℤ) (link : ℕ) : Type 0 where
   pub main : (level ≡ pos 0) ⊎ (level ≡ negsuc 0)
   pub word : load m r.base ≡ Ok link
 
--- Any other procedure is linked to the frame of the procedure that surrounds it. From MP, `links` static links lead
--- there, at most 127. Their number is the level of the running procedure, less `level`, plus 1.
+-- The static link `link` of any other procedure is the frame that is reached from MP by following `links` static links,
+-- at most 127. Their number is the level of the running procedure, less `level`, plus 1.
 pub record LinksOutward (m : List ℕ) (r : Registers) (level : ℤ) (link : ℕ) : Type 0 where
-  -- The highest word of the table of the running procedure.
+  -- The word at JTAB, which has the number and the level of the running procedure.
   pub own : ℕ
   pub table : load m r.jtab ≡ Ok own
   pub links : ℕ
@@ -34,9 +34,9 @@ pub record LinksOutward (m : List ℕ) (r : Registers) (level : ℤ) (link : ℕ
   pub few : links ≤ 127
   pub frame : up m r.mp links ≡ Ok link
 
--- The static link that a call gives to a procedure of `level`. Memory and registers are those before the frame is made.
--- For CLP it is the frame of the caller, for CGP that of the program. For CBP it is as `LinksAsProgram` states, and for
--- CIP as `LinksOutward` states. For CXP, `level` selects one of both.
+-- `link` is the static link that a call writes for a procedure of the level `level`. Memory and registers are those
+-- before the new frame is created. For CLP it is the frame of the caller, and for CGP it is the frame at BASE. For CBP
+-- it is as `LinksAsProgram` states, and for CIP as `LinksOutward` states. For CXP, `level` selects one of these two.
 abbrev pub LinksTo : Call → List ℕ → Registers → ℤ → ℕ → Type 0
 LinksTo (Clp p) m r level link = link ≡ r.mp
 LinksTo (Cgp p) m r level link = link ≡ r.base
@@ -46,8 +46,8 @@ LinksTo (Cxp n p) m r level link =
     (int_le level (pos 0) ≡ true → LinksAsProgram m r level link)
     × (int_le level (pos 0) ≡ false → LinksOutward m r level link)
 
--- A call from parts `c` to parts `d` that succeeds: the segment that it reached, the table of the procedure there, and
--- the static link, which is the word at the new MP.
+-- A call from `c` to `d` succeeds. It reached the segment `at`, `table` is the attribute table of the procedure in this
+-- segment, and the word at the new MP is the static link.
 pub record IsLinked (c : Parts) (call : Call) (code : Option (List ℕ)) (d : Parts) : Type 0 where
   pub at : Reached
   pub reached : Reaches c call code at
@@ -55,7 +55,7 @@ pub record IsLinked (c : Parts) (call : Call) (code : Option (List ℕ)) (d : Pa
   pub found : attributes at.memory at.place (procedure_called call) ≡ Ok table
   pub link : LinksTo call at.memory c.registers table.level (word_at d.memory d.registers.mp)
 
--- The word at the new MP is the static link that the kind of the call determines.
+-- If a call succeeds, then the word at the new MP is the static link that the kind of the call determines.
 abbrev pub CallsAreLinked : Type 0
 CallsAreLinked =
     (c d : Parts) (call : Call) (code : Option (List ℕ)) →
@@ -63,8 +63,8 @@ CallsAreLinked =
 
 -- ---- cleared units
 
--- Clearing unit 1 or 2 removes all bytes from the queue and changes no other part of the devices. Clearing any other
--- unit changes nothing of them.
+-- Clearing unit 1 or 2 removes all bytes from the console input queue, and changes nothing else of the devices.
+-- Clearing any other unit changes nothing of the devices.
 pub record IsCleared (unit : ℕ) (d : Devices) : Type 0 where
   pub forgets : (unit ≡ 1) ⊎ (unit ≡ 2) → (cleared (unit_of unit) d).1 ≡ record d { queue = [] }
   pub stays : unit ≢ 1 → unit ≢ 2 → (cleared (unit_of unit) d).1 ≡ d
@@ -74,12 +74,14 @@ ClearingForgetsKeys = (unit : ℕ) (d : Devices) → IsCleared unit d
 
 -- ---- moves
 
--- Each word of the destination is the old word of the source, even if both overlap. Every other word is unchanged.
+-- In memory `n`, each word of the destination is the word of the source in `m`, even if both ranges overlap. Every
+-- other word is the same as in `m`.
 pub record IsMoved (m n : List ℕ) (from to words : ℕ) : Type 0 where
   pub there : (i : ℕ) → i < words → word_at n (to + 2 * i) ≡ word_at m (from + 2 * i)
   pub elsewhere : (x : ℕ) → x % 2 ≡ 0 → (x + 1 < to) ⊎ (to + 2 * words ≤ x) → word_at n x ≡ word_at m x
 
--- MOV: the source address is the top of the stack, and the destination address is below it.
+-- If MOV succeeds, then it moves `words` words as `IsMoved` states. The source address is the top of the stack, and the
+-- destination address is the word below it on the stack.
 abbrev pub MovesReadFirst : Type 0
 MovesReadFirst =
     (words : ℕ) (m n : List ℕ) (sp np above : ℕ) →

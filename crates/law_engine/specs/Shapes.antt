@@ -1,4 +1,4 @@
--- Laws of what no event changes.
+-- Laws of the properties that each machine has and that no event changes.
 use Rattle.std.specs.Prelude.{◌≡◌, ◌<◌, ℕ, ◌+◌, List, All, Option, Some, None, Ok, length}
 use Rattle.pm_calls.specs.declared.frames.SegmentPlace.{SegmentPlace}
 use Rattle.pm_calls.specs.Places.{placed}
@@ -7,7 +7,7 @@ use Rattle.pm_machine.specs.Events.{Event, after_all}
 use Rattle.pm_machine.specs.Start.{raw_start}
 use Rattle.pm_machine.specs.State.{State}
 
--- States `s` and `t` have the same rows of the dictionary, and the same number of slots and of disks.
+-- The states `s` and `t` have the same rows of the dictionary, and the same number of slots and of disks.
 pub record KeepsShape (s t : State) : Type 0 where
   pub rows : t.rows ≡ s.rows
   pub places : length t.places ≡ length s.places
@@ -17,14 +17,14 @@ pub record KeepsShape (s t : State) : Type 0 where
 abbrev pub EventsKeepShape : Type 0
 EventsKeepShape = (s : State) (es : List Event) → KeepsShape s (after_all s es)
 
--- State `s` has 16 rows, 16 slots and six disks, and no slot above 15 has an address.
+-- The state `s` has 16 rows of the dictionary, 16 slots and six disks, and no slot above 15 has an address.
 pub record HasShape (s : State) : Type 0 where
   pub rows : length s.rows ≡ 16
   pub places : length s.places ≡ 16
   pub disks : length s.devices.disks ≡ 6
   pub none_above : (n : ℕ) → 15 < n → placed s.places n ≡ None
 
--- A machine that begins with code, or is booted from a list of six images, has this shape after any events.
+-- A machine that begins with code, or that is booted from a list of six images, satisfies `HasShape` after any events.
 pub record MachinesHaveShape : Type 0 where
   pub raw : (bytes : List ℕ) (s : State) (es : List Event) → raw_start bytes ≡ Ok s → HasShape (after_all s es)
   pub booted :
@@ -36,7 +36,8 @@ abbrev pub IsCounted : Option SegmentPlace → Type 0
 IsCounted None = Unit {0}
 IsCounted (Some p) = 0 < p.count + p.keeps
 
--- Each segment of a machine that has an address has at least one call or keep, for any start and after any events.
+-- If a segment of a machine has an address, then it has at least one call or keep. This holds for any start and after
+-- any events.
 pub record MachinesCountCalls : Type 0 where
   pub raw :
       (bytes : List ℕ) (s : State) (es : List Event) →

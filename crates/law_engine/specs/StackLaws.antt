@@ -1,4 +1,5 @@
--- The law of rows on the stack: they write only the words that they push.
+-- The law of rows on the stack: they write only the words that they push. The *row* of an instruction is the definition
+-- of what it does.
 use Rattle.std.specs.Prelude.{◌≡◌, ◌<◌, ◌≤◌, ◌⊎◌, ℕ, ◌+◌, ◌*◌, ◌/◌, ◌%◌, List, Option, Some, None, Result, Ok, Err}
 use Rattle.pm_words.specs.declared.error.ExecError.{ExecError}
 use Rattle.pm_words.specs.Words.{IsMemory, word_at}
@@ -24,8 +25,8 @@ use Rattle.pm_rows.specs.Pointers.{pointer_row}
 use Rattle.pm_rows.specs.Literals.{literal_row}
 use Rattle.pm_rows.specs.Values.{value_row}
 
--- The number of words that a row leaves for those that it pops, from the memory and the SP after the row. A row that
--- stores has no such number.
+-- A rule for the number of words that a row leaves on the stack, from the memory and the SP after the row. It is `None`
+-- for a row that stores.
 abbrev pub Pushed : Type 0
 Pushed = List ℕ → ℕ → Option ℕ
 
@@ -35,7 +36,7 @@ so_many n m sp = Some n
 abbrev pub stores : Pushed
 stores m sp = None
 
--- A set: its count, which is the top of the stack, and as many words as the count states.
+-- The row leaves a set: its count, which is the top of the stack, and as many words as the count states.
 abbrev pub a_set : Pushed
 a_set m sp = Some (word_at m sp + 1)
 
@@ -67,7 +68,7 @@ pushed_by_set set.Singleton = a_set
 pushed_by_set set.Subrange = a_set
 pushed_by_set (set.Adjust n) = so_many n
 
--- IXS leaves the stack unchanged.
+-- IXS has the number 0 because it leaves the stack unchanged.
 abbrev pub pushed_by_value : Value → Pushed
 pushed_by_value (value.Byte byte.Load) = so_many 1
 pushed_by_value (value.Byte byte.Store) = stores
@@ -79,18 +80,18 @@ pushed_by_value (value.Field field.Load) = so_many 1
 pushed_by_value (value.Field field.Store) = stores
 pushed_by_value (value.Compare r k) = so_many 1
 
--- Every word is unchanged, except `k` words from SP on. Nothing is stated of a row that stores.
+-- Every word is the same in `m` and `n`, except the `k` words from `sp` on. For `None`, nothing is stated.
 abbrev pub KeepsAllBut : List ℕ → List ℕ → ℕ → Option ℕ → Type 0
 KeepsAllBut m n sp None = Unit {0}
 KeepsAllBut m n sp (Some k) = (x : ℕ) → x % 2 ≡ 0 → (x < sp) ⊎ (sp + 2 * k ≤ x) → word_at n x ≡ word_at m x
 
--- A row that succeeds writes only the words that it pushes.
+-- If the row succeeds, then it writes only the words that it pushes.
 abbrev pub WritesWhatItPushes : List ℕ → Pushed → Result (List ℕ × ℕ) ExecError → Type 0
 WritesWhatItPushes m pushed (Ok t) = KeepsAllBut m t.0 t.1 (pushed t.0 t.1)
 WritesWhatItPushes m pushed (Err e) = Unit {0}
 
--- If a row on integers, variables, addresses, constants or values succeeds, it writes only the words that it pushes.
--- The rows that store are excepted. Premise: the memory and the stack are those of a machine.
+-- If a row on integers, variables, addresses, constants or values succeeds, then it writes only the words that it
+-- pushes. For rows that store, nothing is stated. Premise: the memory and the stack are valid (`IsMemory`, `IsStack`).
 pub record StackRowsWriteWhatTheyPush : Type 0 where
   pub arithmetic :
       (o : Arithmetic) (m : List ℕ) (sp np : ℕ) →

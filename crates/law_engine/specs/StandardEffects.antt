@@ -1,5 +1,5 @@
--- The law that standard procedures move SP by the table of effects. For EXIT and procedures 21 and 22 only the entry of
--- the table is stated.
+-- The law of the words that standard procedures pop and leave on the stack. For EXIT and the procedures 21 and 22, the
+-- law states only the entry of the table of effects.
 use Rattle.std.specs.Prelude.{◌≡◌, ℕ, ◌+◌, ◌*◌, List, Option, Some, None, Result, Ok, Err}
 use Rattle.pm_calls.specs.declared.registers.Registers.{Registers}
 use Rattle.pm_stdproc.specs.declared.procedures.OnMemory.{OnMemory}
@@ -44,7 +44,7 @@ procedure_effect procedure.Keep = Some (words 1 0)
 procedure_effect procedure.Unkeep = Some (words 1 0)
 procedure_effect procedure.Unimplemented = None
 
--- If `r` succeeds, its value has `P`.
+-- If the result is `Ok`, then `P` holds for its value.
 abbrev pub AllOk : {A E : Type 0} → (A → Type 0) → Result A E → Type 0
 AllOk P (Ok x) = P x
 AllOk P (Err e) = Unit {0}

@@ -1,4 +1,4 @@
--- The parts of the state that an event may change.
+-- The fields of the state that an event may change.
 use Rattle.std.specs.Prelude.{◌≡◌, ◌==◌, ℕ, ◌%◌, Bool, true, false, Result, Ok, Err}
 use Rattle.pm_words.specs.declared.error.ExecError.{ExecError}
 use Rattle.pm_words.specs.Words.{word_at}
@@ -26,18 +26,18 @@ use Rattle.pm_machine.specs.Rows.{fetched}
 use Rattle.pm_machine.specs.State.{State}
 use Rattle.pm_machine.specs.Steps.{executed}
 
--- The parts that may change. The rows and the clock never do.
+-- States which fields of the state may change. The rows of the dictionary and the clock never change.
 pub record Writes : Type 0 where
-  -- The words of the memory, by address.
+  -- Whether the word at this address may change.
   pub words : ℕ → Bool
   pub sp : Bool
   pub ipc : Bool
-  -- SEG, JTAB, MP and BASE
+  -- Whether the registers SEG, JTAB, MP and BASE may change.
   pub frame : Bool
   pub np : Bool
   pub ioresult : Bool
   pub places : Bool
-  -- The disks, by position in the list.
+  -- Whether the disk at this position in the list may change.
   pub disks : ℕ → Bool
   pub queue : Bool
   pub console : Bool
@@ -45,7 +45,7 @@ pub record Writes : Type 0 where
   pub steps : Bool
   pub status : Bool
 
--- Every part that `w` does not name is unchanged.
+-- Every field of the state that `w` does not state as changed is the same in `s` and `t`.
 pub record LeavesTheRest (w : Writes) (s t : State) : Type 0 where
   pub words : (x : ℕ) → x % 2 ≡ 0 → w.words x ≡ false → word_at t.memory x ≡ word_at s.memory x
   pub sp : w.sp ≡ false → t.registers.sp ≡ s.registers.sp
@@ -88,22 +88,22 @@ nothing = record {
 abbrev pub all_words : ℕ → Bool
 all_words x = true
 
--- A step that succeeds is counted, and may change IPC.
+-- The fields that each successful step may change: the count of steps, and IPC.
 abbrev pub step_alone : Writes
 step_alone = record nothing { ipc = true; steps = true }
 
--- A row on the stack may change any word of memory and SP.
+-- The fields that a row on the stack may change: also any word of memory, and SP.
 abbrev pub stack_row : Writes
 stack_row = record step_alone { words = all_words; sp = true }
 
--- A row that only pops words may change SP.
+-- The fields that a row may change if it only pops words: also SP.
 abbrev pub taking_row : Writes
 taking_row = record step_alone { sp = true }
 
 abbrev pub frame_row : Writes
 frame_row = record stack_row { frame = true; places = true }
 
--- Only NEW and RELEASE change NP.
+-- Returns the fields that a standard procedure on memory may change. Only NEW and RELEASE may change NP.
 abbrev pub memory_writes : OnMemory → Writes
 memory_writes memory.CheckIo = step_alone
 memory_writes memory.New = record stack_row { np = true }
@@ -117,7 +117,7 @@ memory_writes memory.IoResult = stack_row
 memory_writes memory.Halt = nothing
 memory_writes memory.FreeMemory = stack_row
 
--- Disk `n` is that of the port.
+-- Returns whether the port is the disk `n`.
 abbrev pub is_disk : Port → ℕ → Bool
 is_disk (Disk k) n = n == k
 is_disk Console n = false
@@ -126,7 +126,7 @@ is_disk Absent n = false
 is_disk Printer n = false
 is_disk Unknown n = false
 
--- Disk `n` is that of the unit that the order of a transfer names.
+-- Returns whether the unit of the transfer is the disk `n`.
 abbrev pub disk_named : Result Order ExecError → ℕ → Bool
 disk_named (Ok o) n = is_disk (unit_of o.unit) n
 disk_named (Err e) n = false
@@ -170,14 +170,14 @@ abbrev pub instruction_writes : Result Instr ExecError → State → Writes
 instruction_writes (Ok i) s = operation_writes (operation_of i) s
 instruction_writes (Err e) s = nothing
 
--- A step that succeeds writes what the table states. An error writes only the status, and a step that waits writes
--- nothing.
+-- Returns the fields that a step may change, by its result. A successful step may change what the table states for its
+-- instruction. An error changes only the status, and a step that waits changes nothing.
 abbrev pub outcome_writes : Result State Pause → State → Writes
 outcome_writes (Ok t) s = instruction_writes (fetched s.memory s.registers.ipc) s
 outcome_writes (Err (Fails e)) s = record nothing { status = true }
 outcome_writes (Err Waits) s = nothing
 
--- A step of a machine that has ended or halted writes nothing.
+-- Returns the fields that a step may change. In a machine that has ended or halted, a step changes nothing.
 abbrev pub step_writes : Status → State → Writes
 step_writes status.Running s = outcome_writes (executed s) s
 step_writes status.Ended s = nothing
@@ -190,6 +190,6 @@ event_writes s (Poke a w) = record nothing { words = λ x. x == a }
 event_writes s (Mount unit image) = record nothing { disks = is_disk (unit_of unit) }
 event_writes s (Eject unit) = record nothing { disks = is_disk (unit_of unit) }
 
--- An event leaves every part of the state unchanged that the table does not name for it.
+-- An event leaves every field of the state unchanged that `event_writes` does not list for it.
 abbrev pub EventsLeaveTheRest : Type 0
 EventsLeaveTheRest = (s : State) (e : Event) → LeavesTheRest (event_writes s e) s (next s e)

@@ -7,14 +7,16 @@ use Rattle.pm_machine.specs.State.{State}
 use Rattle.pm_machine.specs.Steps.{stepped}
 use Rattle.pm_machine.specs.Written.{writes}
 
--- State `s` has what every machine has: the memory and the stack of a machine, and bytes on its disks and in its queue.
+-- The state `s` is plain: it has a valid memory and a valid stack (`IsMemory`, `IsStack`), and bytes on its disks and
+-- in its queue. Each machine has such a state.
 pub record IsPlain (s : State) : Type 0 where
   pub memory : IsMemory s.memory
   pub stack : IsStack s.registers.sp s.registers.np
   pub disks : (k : ℕ) (image : List ℕ) → image_at s.devices k ≡ Some image → All (λ b. b < 256) image
   pub queue : All (λ b. b < 256) s.devices.queue
 
--- A step leaves each word unchanged of which its instruction names no byte, for each instruction and each result.
+-- A step leaves each word unchanged of which it writes no byte, as `writes` states. This holds for each instruction and
+-- each result.
 abbrev pub StepsWriteWhatIsNamed : Type 0
 StepsWriteWhatIsNamed =
     (s : State) (x : ℕ) →

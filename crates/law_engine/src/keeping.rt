@@ -1,4 +1,4 @@
-//! Laws of segments that the program keeps.
+//! Laws of segments with keeps: segments that the program requests to remain loaded.
 
 ghost use Rattle.law_engine.specs.Keeping.{KeptSegmentsStand, UnkeptMachinesArePlain};
 
@@ -9,10 +9,10 @@ pub fn kept_segments_stand()
     ensures law { KeptSegmentsStand }
 {}
 
-/// If no step executes standard procedure 21 or 22, the state after any events is that of the machine without keeps,
-/// and no segment has a keep. In the machine without keeps, the return from the last call of a segment removes its
-/// address, and procedures 21 and 22 are unimplemented. The law holds for each state with which a machine begins, and
-/// for each state in which no segment has a keep.
+/// If no step executes standard procedure 21 or 22, then the state after any events is that of the machine without
+/// keeps, and no segment has a keep. In the machine without keeps, the return from the last call of a segment removes
+/// the segment's address, and the procedures 21 and 22 are not implemented. The law holds for each state with which a
+/// machine begins, and for each state in which no segment has a keep.
 #[tactic(auto, using(crate::proofs::KeepLaws::unkept_machines_are_plain))]
 pub fn unkept_machines_are_plain()
     ensures law { UnkeptMachinesArePlain }

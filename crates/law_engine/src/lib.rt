@@ -1,5 +1,5 @@
 //! Laws of the machine: opcodes and their bytes, memory, values, rows, calls and returns, standard procedures, disks,
-//! events and runs. A law states a fact about definitions. The functions do nothing.
+//! events and runs. A law states a fact about definitions. Each function has an empty body.
 #![tactic(auto)]
 
 pub mod calls;

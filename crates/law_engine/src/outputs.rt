@@ -1,4 +1,4 @@
-//! The law of the bytes that are written to the console and to the printer.
+//! The law of the output to the console and to the printer.
 
 ghost use Rattle.law_engine.specs.Outputs.{OutputsOnlyGrow};
 

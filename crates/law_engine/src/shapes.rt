@@ -1,4 +1,4 @@
-//! Laws of what no event changes, and of what each machine has.
+//! Laws of the properties that each machine has and that no event changes.
 
 ghost use Rattle.law_engine.specs.Shapes.{EventsKeepShape, MachinesCountCalls, MachinesHaveShape};
 ghost use Rattle.pm_words.specs.Stack.{IsStack};
@@ -19,7 +19,7 @@ pub fn machines_have_shape()
     ensures law { MachinesHaveShape }
 {}
 
-/// After any events, each segment of a machine that has an address has at least one call or keep. This holds for a
+/// If a segment of a machine has an address, then it has at least one call or keep. This holds after any events, for a
 /// machine that begins with code and for one that is booted.
 #[tactic(auto, using(crate::proofs::CountLaws::machines_count_calls))]
 pub fn machines_count_calls()

@@ -1,9 +1,10 @@
-//! Laws of sets, fields and strings, on which the rows depend. The functions do nothing.
+//! Laws of sets, packed fields and strings, on which the definitions of the instructions depend. Each function has an
+//! empty body.
 
 ghost use Rattle.pm_values.specs.Laws.{IntersectionCommutes, OtherBitsStay, PartsUnite, SetIsItsTest, StoredIsLoaded};
 ghost use Rattle.pm_values.specs.Laws.{StringsAreOrdered, SubsetIsOfNumbers, UnionCommutes};
 
-/// A set of n words that is made by a test has exactly the numbers below 16 n that pass the test.
+/// If a test determines a set of n words, then the set has exactly the numbers below 16 n for which the test holds.
 #[tactic(auto, using(pm_values::proofs::MemberLaws::set_is_its_test))]
 pub fn set_is_its_test()
     ensures law { SetIsItsTest }
@@ -27,13 +28,15 @@ pub fn parts_unite()
     ensures law { PartsUnite }
 {}
 
-/// A set is a subset of another one if and only if the other one has each of its numbers, for any numbers of words.
+/// A set is a subset of another set if and only if the other set has each of its numbers. The sets can have different
+/// numbers of words.
 #[tactic(auto, using(pm_values::proofs::SubsetLaws::subset_is_of_numbers))]
 pub fn subset_is_of_numbers()
     ensures law { SubsetIsOfNumbers }
 {}
 
-/// A field that is loaded after a value was stored into it gives this value, modulo 2 to the power of its width.
+/// If a value is stored into a packed field, then loading the field returns this value modulo 2 to the power of its
+/// width.
 #[tactic(auto, using(pm_values::proofs::FieldLaws::stored_is_loaded))]
 pub fn stored_is_loaded()
     ensures law { StoredIsLoaded }
@@ -45,7 +48,7 @@ pub fn other_bits_stay()
     ensures law { OtherBitsStay }
 {}
 
-/// The order of strings is total.
+/// Of two strings, exactly one is less, or both are equal: the order of strings is total.
 #[tactic(auto, using(std::proofs::lemmas::Cmp::nat_list_cmp_total))]
 pub fn strings_are_ordered()
     ensures law { StringsAreOrdered }

@@ -1,11 +1,11 @@
--- Actions that are executed one after the other.
+-- Lemmas for actions that are executed one after the other.
 use Rattle.std.proofs.Common.{◌≡◌, List, [], ◌∷◌, ◌++◌, map, refl, sym, ap, ◌∙◌, append_assoc}
 use Rattle.law_headline.specs.declared.action.Action.{Action}
 use Rattle.law_headline.specs.Actions.{IsCut, event_of}
 use Rattle.pm_machine.specs.Events.{after_all, next}
 use Rattle.pm_machine.specs.State.{State}
 
--- The state after one more action.
+-- If one more action is executed, then the state is the next state by the event of this action.
 pub after_more : (s : State) (done : List Action) (action : Action)
     → after_all s (map event_of (done ++ action ∷ [])) ≡ next (after_all s (map event_of done)) (event_of action)
 after_more s [] action = refl
@@ -15,7 +15,8 @@ map_append : (done left : List Action) → map event_of (done ++ left) ≡ map e
 map_append [] left = refl
 map_append (d ∷ done) left = ap (λ es. event_of d ∷ es) (map_append done left)
 
--- The executed actions and the remaining ones are all actions. The state is the state after the executed actions.
+-- The actions `done` are executed and the actions `left` remain. `now` is the state after `done`, from the state
+-- `start`.
 pub record Played (start : State) (actions : List Action) (now : State) (done left : List Action) : Type 0 where
   pub all : actions ≡ done ++ left
   pub state : now ≡ after_all start (map event_of done)

@@ -1,4 +1,4 @@
--- An assembled code file that is put on a volume is found and booted.
+-- Lemmas: an assembled code file that is put on a volume is found and booted.
 use Rattle.std.proofs.Common.{◌≡◌, ℕ, List, Some, Ok, length, true, refl, sym, ap, ◌∙◌, arith, subst}
 use Rattle.pm_filer.specs.Filed.{Filed, Put, bytes_of_file, filed}
 use Rattle.pm_filer.specs.Laws.{IsVolumeOfBytes, file_given}
@@ -20,17 +20,17 @@ use Rattle.law_headline.specs.Put.{PutProgramIsBooted, PutProgramIsFound}
 some_same : (a b : List ℕ) → Some a ≡ Some b → a ≡ b
 some_same a b h = cc
 
--- The bytes of a name whose file is known.
+-- If `entry` is the first file with the name `name`, then the name gives the bytes of this entry.
 given_bytes : (image name : List ℕ) (entry : Entry) → file_named image name ≡ Some entry → file_given image name ≡ file_bytes image entry
 given_bytes image name entry named = ap (bytes_of_file image) named
 
--- The bytes that were put under a name are the bytes of this name.
+-- If the bytes `file` were put under `name`, then the name gives these bytes.
 put_given : (image name file : List ℕ) (f : Filed) → IsVolumeOfBytes image → filed image (Put name 2 file) ≡ Ok f → file_given f.image name ≡ Some file
 put_given image name file f b done =
     let same : is_same_name name name ≡ true = same-from_upper name name refl in
     rw same at (put_is_got image name 2 file f b done name)
 
--- The entry of the new file.
+-- If a file was put under `name`, then the first file with this name is the new entry.
 put_entry : (image name file : List ℕ) (f : Filed) → IsVolumeOfBytes image → filed image (Put name 2 file) ≡ Ok f
     → (g : _) × (file_named f.image name ≡ Some (new_entry g name 2 (length file) (last_date_of (directory_of image))))
 unfolding filed

@@ -1,4 +1,4 @@
-//! What a program and its operator do with a machine.
+//! The actions that a program and its operator can perform on a machine.
 
 ghost use Rattle.std.specs.Prelude.{◌≡◌, map, OnErr, OnOk};
 ghost use Rattle.law_headline.specs.Actions.{IsCut, event_of};
@@ -13,17 +13,18 @@ use std::alloc::AllocError;
 pub enum Action {
     /// One step: the instruction at IPC, if the machine is running.
     Step,
-    /// This byte is typed on the console.
+    /// Appends this byte to the console input queue.
     Key(u8),
-    /// The operator writes a word: its address, and its value. An odd address changes nothing.
+    /// Writes a word of memory for the operator. The fields are its address and its value. An odd address changes
+    /// nothing.
     Poke(u16, u16),
-    /// This volume is put on a disk unit. A unit that is none, or that has a disk, is unchanged.
+    /// Puts this volume on the disk unit. Nothing changes if the unit is no disk unit, or already has a disk.
     Mount(u8, Volume),
-    /// The disk of a unit is removed, if there is one.
+    /// Removes the disk of the unit, if it has one.
     Eject(u8),
 }
 
-/// Executes one action.
+/// Executes `action` on `machine`.
 fn act(machine: &mut Machine, action: Action) -> Result<(), AllocError>
     ensures event { OnOk result (machine.new.state ≡ next machine.old.state (event_of action)) }
     ensures unchanged { OnErr result (machine.new ≡ machine.old) }
@@ -46,13 +47,13 @@ fn act(machine: &mut Machine, action: Action) -> Result<(), AllocError>
     Ok(())
 }
 
-/// Executes actions one after the other, in any order and number. The machine is then in the state that the table
-/// defines after their events.
+/// Executes `actions` one after the other, in any order and number. The machine is then in the state that the table
+/// defines after the events of the actions.
 ///
 /// # Errors
 ///
-/// `AllocError` if there is no memory for the output of a step or for a key. The machine is then in the state after the
-/// actions before the one that failed.
+/// `AllocError` if memory is exhausted, for example for the output of a step or for a key. The machine is then in the
+/// state after the actions before the one that failed.
 pub fn play(machine: &mut Machine, actions: Vec<Action>) -> Result<(), AllocError>
     ensures order { OnOk result (machine.new.state ≡ after_all machine.old.state (map event_of actions.items)) }
     ensures cut { OnErr result (IsCut machine.old.state (map event_of actions.items) machine.new.state) }

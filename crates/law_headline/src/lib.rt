@@ -1,5 +1,5 @@
-//! The main theorem of the project as one function, and what it needs: actions on a machine, one after the other, and
-//! the way from an assembled text over a volume to a booted machine.
+//! The main theorem of the project as one function, and what the theorem uses: actions on a machine, and the laws about
+//! a text that is assembled, put on a volume and booted.
 #![tactic(auto)]
 
 mod action;

@@ -1,4 +1,4 @@
-//! The main theorem.
+//! The main theorem of the project.
 
 ghost use Rattle.std.specs.Prelude.{◌≡◌, map, Err, IfErr, IfOk};
 ghost use Rattle.law_headline.specs.Actions.{IsPlayed, event_of};
@@ -19,23 +19,27 @@ use pm_machine::{BootFault, Machine};
 use pm_volume::Volume;
 use std::alloc::Global;
 
-/// The volumes of the units 4, 5, 9, 10, 11 and 12.
+/// The volumes on the units 4, 5, 9, 10, 11 and 12. `None` for a unit without a disk.
 type Volumes = [Option<Volume>; 6];
 
-/// Boots a program and executes actions on the machine, one after the other. Returns the machine, and whether all
-/// actions were executed. If memory runs out, the machine is in the state after the actions before the one that failed.
+/// Boots the program `name` from the volume on `unit`, and executes `actions` on the machine, one after the other.
+/// Returns the machine, and whether all actions were executed. If memory is exhausted, the machine is in the state
+/// after the actions before the one that failed.
 ///
-/// The clauses are the main theorem. `refusal` and `order` are about any volumes and any order of steps, keys and
-/// operator actions. The machine starts in the state that the table defines for these volumes. It ends in the state
+/// The clauses are the main theorem. `refusal` and `order` hold for any volumes and any order of steps, keys and
+/// operator actions: the machine starts in the state that the table defines for these volumes, and ends in the state
 /// that the table defines after the events of the executed actions.
 ///
-/// The next clauses are about texts. A code file that the assembler accepts is loaded as its listing states: from this
-/// machine on by a call (`loads`) and by standard procedure 21 (`keeps`), at a boot (`starts`), and from a volume on
-/// which it was put (`found`, `put`). The characters of the listing denote these bytes (`denotes`). The disassembler's
-/// text of the code file is assembled to the same code file (`back`).
+/// The next clauses are about texts. A code file of the assembler is loaded as its listing states:
 ///
-/// The last clause is about the debugger (`shows`). The output of a session is that which the table defines after its
-/// steps, keys and pokes.
+/// - by a call (`loads`) and by standard procedure 21 (`keeps`), from the state of this machine on;
+/// - by a boot (`starts`), and from a volume on which the file was put (`found`, `put`).
+///
+/// The characters of the listing denote the loaded bytes (`denotes`). The disassembler's text of the code file is
+/// assembled to the same code file (`back`).
+///
+/// The last clause is about the debugger (`shows`): the output of a session is the output that the table defines after
+/// the steps, keys and pokes of the session.
 ///
 /// # Errors
 ///

@@ -1,4 +1,4 @@
--- An assembled file is a code file, and a boot finds it.
+-- Lemmas: an assembled file is a code file, and a boot finds it.
 use Rattle.std.proofs.Common.{◌≡◌, ◌==◌, true, Some, refl, sym, ap, ◌∙◌, arith}
 use Rattle.std.specs.Prelude.{option_map}
 use Rattle.std.proofs.lemmas.Bool.Decides.{nat_tests}

@@ -1,4 +1,5 @@
--- Where breakpoints stop a run after one was set or cleared.
+-- Lemmas for the states in which breakpoints stop a run after one was set or cleared. A `Spot` is what a breakpoint is
+-- set on.
 use Rattle.std.proofs.Common.{◌≡◌, ◌∙◌, ◌<◌, Bool, true, false, List, [], ◌∷◌, ◌++◌, length, Option, None, Some, Ok, Err, refl, sym, ap, arith}
 use Rattle.std.specs.Prelude.{◌*◌, ◌==◌, ◌||◌, ◌&&◌, not, filter, if◌then◌else◌, map, nat_lt}
 use Rattle.std.specs.List.{list_any}
@@ -40,8 +41,7 @@ or_turned true false = refl
 or_turned false true = refl
 or_turned false false = refl
 
--- A value that stops a run changes nothing if it is counted once more before the others, of which one may be this
--- value.
+-- If a breakpoint is among the others, then counting it once more does not change whether a run stops.
 once_more : (stops set others : Bool) → (stops || ((set && stops) || others)) ≡ (stops || others)
 once_more true set others = refl
 once_more false true others = refl
@@ -52,7 +52,7 @@ in_between true true others = refl
 in_between true false others = refl
 in_between false set others = refl
 
--- What a test finds among the elements that pass a filter.
+-- A test holds for an element that passes the filter `q` if and only if some element passes both tests.
 any_left : {A : Type 0} (p q : A → Bool) (xs : List A) → list_any p (filter q xs) ≡ list_any (λ x. q x && p x) xs
 any_left p q [] = refl
 any_left p q (x ∷ xs) = go (any_left p q xs) (q x) refl
@@ -63,12 +63,12 @@ any_left p q (x ∷ xs) = go (any_left p q xs) (q x) refl
     go rest false is = rw is rest
 
 module _ (t : State) where
-  -- The breakpoints at other positions that stop a run.
+  -- The breakpoints not set on `x` stop a run if and only if some breakpoint stops it and is not set on `x`.
   from_elsewhere : (x : Spot) (xs : List Breakpoint)
       → is_at_break (elsewhere x xs) t ≡ list_any (λ c. not (is_same x c.spot) && stops_here t c) xs
   from_elsewhere x xs = any_left (stops_here t) (λ c. not (is_same x c.spot)) xs
 
-  -- If no breakpoint is set at `x`, all breakpoints are elsewhere.
+  -- If no breakpoint is set on `x`, then all breakpoints are set elsewhere.
   all_elsewhere : (x : Spot) (xs : List Breakpoint) → is_set x xs ≡ false
       → list_any (λ c. not (is_same x c.spot) && stops_here t c) xs ≡ is_at_break xs t
   all_elsewhere x [] none = refl
@@ -77,7 +77,7 @@ module _ (t : State) where
       ap (λ same. (not same && stops_here t c) || list_any (λ c. not (is_same x c.spot) && stops_here t c) xs) parts.0
       ∙ ap (λ more. stops_here t c || more) (all_elsewhere x xs parts.1)
 
-  -- Of two equal positions, the machine is at both or at neither.
+  -- If two positions are equal, then the machine is at both or at neither.
   that_same : (x y : CodePlace) (here : Option CodePlace) → is_same_place x y ≡ true → is_that x here ≡ is_that y here
   that_same x y None is = refl
   that_same x y (Some h) is = same_places.congr x y h is
@@ -97,7 +97,7 @@ module _ (t : State) where
       let parts = and_of (a == b) (n == k) is in
       ap (λ c. writes c (bytes_from c n) t) (eqb-true a b parts.0) ∙ ap (λ l. writes b (bytes_from b l) t) (eqb-true n k parts.1)
 
-  -- If the breakpoint at `x` is not met, only the breakpoints elsewhere stop a run.
+  -- If the machine does not meet `x`, then only breakpoints set elsewhere stop a run.
   not_met : (x : Spot) (xs : List Breakpoint) → is_met x t ≡ false → is_at_break (elsewhere x xs) t ≡ is_at_break xs t
   not_met x xs other =
       from_elsewhere x xs ∙ any_alike (λ c. not (is_same x c.spot) && stops_here t c) (stops_here t) (λ c. one c.spot (holds c.condition t.memory)) xs
@@ -109,16 +109,16 @@ module _ (t : State) where
           go true is = sym (ap (λ met. met && held) (sym (met_same x y is) ∙ other))
           go false is = refl
 
-  -- Two positions are equal or not, compared with a third that equals one of them.
+  -- If `x` and `y` are equal positions, then `z` equals `y` if and only if `x` equals `z`.
   from_same : (x y z : CodePlace) → is_same_place x y ≡ true → is_same_place z y ≡ is_same_place x z
   from_same x y z is = same_places.symm z y ∙ sym (same_places.congr x y z is)
 
-  -- The machine is not at another position.
+  -- If the machine is at `x`, and `y` is another position, then the machine is not at `y`.
   not_there : (x y : CodePlace) (here : Option CodePlace) → is_that x here ≡ true → is_same_place x y ≡ false → is_that y here ≡ false
   not_there x y None at is = absurd (cc)
   not_there x y (Some h) at is = from_same x h y at ∙ is
 
-  -- At the position `x`, the breakpoints elsewhere that stop a run are those on words.
+  -- If the machine is at the position `x`, then the breakpoints elsewhere that stop a run are those on words.
   met_there : (x : CodePlace) (xs : List Breakpoint) → stands_at x t ≡ true → is_at_break (elsewhere (Code x) xs) t ≡ is_at_break (on_words xs) t
   met_there x xs at =
       from_elsewhere (Code x) xs
@@ -136,7 +136,8 @@ module _ (t : State) where
           go false is = ap (λ that. that && held) (not_there x y (place_in_code t) at is)
 
   module _ (b : Breakpoint) where
-    -- Put in place of the others, it stops a run where one of them is set.
+    -- If `b` replaces the breakpoint on the same spot, then a run stops if such a breakpoint was set and `b` stops it,
+    -- or if a breakpoint elsewhere stops it.
     instead_stops : (xs : List Breakpoint) → is_at_break (map (instead b) xs) t
         ≡ ((is_set b.spot xs && stops_here t b) || list_any (λ c. not (is_same b.spot c.spot) && stops_here t c) xs)
     instead_stops [] = refl
@@ -183,7 +184,7 @@ module _ (t : State) where
       go true has = refl
       go false has = sym (from_elsewhere x d.breaks ∙ all_elsewhere x d.breaks has)
 
-  -- A breakpoint at a position, by whether the machine is there.
+  -- States when a breakpoint at a position stops a run, in terms of whether the machine is at this position.
   place_stops : (x : CodePlace) (held : Bool) (xs : List Breakpoint) → ((is_met (Code x) t && held) || is_at_break (elsewhere (Code x) xs) t)
       ≡ (if stands_at x t then held || is_at_break (on_words xs) t else is_at_break xs t)
   place_stops x held xs = go (stands_at x t) refl

@@ -1,4 +1,4 @@
--- Breakpoints and watched words, by what is in them.
+-- Lemmas for the lists of breakpoints and watched words, in terms of the elements that they contain.
 use Rattle.std.proofs.Common.{◌≡◌, ◌∙◌, ◌<◌, ℕ, Bool, true, false, List, [], ◌∷◌, ◌++◌, length, Option, None, Some}
 use Rattle.std.proofs.Common.{Result, Ok, Err, refl, sym, ap, arith}
 use Rattle.std.specs.Prelude.{◌==◌, ◌||◌, ◌&&◌, not, filter, if◌then◌else◌, map, nat_lt}
@@ -133,7 +133,7 @@ module _ {A K : Type 0} (E : K → K → Bool) (laws : IsEquivalence E) (key : A
   there : list_any (λ c. E (key x) (key c)) xs ≡ true → list_any (λ c. E q (key c)) xs ≡ (E q (key x) || list_any (λ c. E q (key c)) xs)
   there has = or_is (E q (key x)) (list_any (λ c. E q (key c)) xs) (λ same. alike same ∙ has)
 
-  -- One more value after the others.
+  -- If `x` is appended, then the list contains a key if and only if `x` has this key or the list contained it.
   one_more : list_any (λ c. E q (key c)) (xs ++ x ∷ []) ≡ (E q (key x) || list_any (λ c. E q (key c)) xs)
   one_more = list_any-append (λ c. E q (key c)) xs (x ∷ []) ∙ or_turned (E q (key x)) (list_any (λ c. E q (key c)) xs)
 
@@ -141,7 +141,8 @@ module _ {A K : Type 0} (E : K → K → Bool) (laws : IsEquivalence E) (key : A
   missing : list_any (λ c. E (key x) (key c)) xs ≡ false → list_any (λ c. E q (key c)) xs ≡ (not (E q (key x)) && list_any (λ c. E q (key c)) xs)
   missing has = and_is (E q (key x)) (list_any (λ c. E q (key c)) xs) (λ same. alike same ∙ has)
 
-  -- All values except `x`.
+  -- If all elements with the key of `x` are removed, then the list contains a key if and only if it did and `x` does
+  -- not have this key.
   one_less : list_any (λ c. E q (key c)) (filter (λ c. not (E (key x) (key c))) xs) ≡ (not (E q (key x)) && list_any (λ c. E q (key c)) xs)
   one_less = any-filter_same (λ c. E q (key c)) (λ c. not (E (key x) (key c))) (not (E q (key x))) same_of xs
     where
@@ -232,7 +233,7 @@ spot_congr (Writes a n) (Writes b k) (Writes c l) is = pair_congr a n b k c l is
 pub same_spots : IsEquivalence is_same
 same_spots = record { refl = spot_refl; symm = spot_symm; congr = spot_congr }
 
--- A breakpoint put in place of another one has the position of the other.
+-- If a breakpoint replaces another one, then it is set on the same spot.
 instead_same : (b c : Breakpoint) (q : Spot) → is_same q (instead b c).spot ≡ is_same q c.spot
 instead_same b c q = by_test (is_same b.spot c.spot) refl
   where

@@ -1,4 +1,4 @@
--- The file of a text.
+-- Lemmas for the code file of a text.
 use Rattle.std.proofs.Common.{◌≡◌, ℕ, false, nat_lt, List, None, Ok, ap, ◌∙◌, arith}
 use Rattle.std.specs.Prelude.{option_map}
 use Rattle.std.proofs.lemmas.Bool.Decides.{nat_tests}

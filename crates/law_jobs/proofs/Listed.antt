@@ -1,4 +1,4 @@
--- What a machine loads from an assembled file is what is listed.
+-- Lemmas: a machine loads from an assembled file what the listing states.
 use Rattle.std.proofs.Common.{◌≡◌, ℕ, ◌+◌, ◌-◌, true, nat_lt, List, length, inl, inr, Option, Some, None, refl, sym, ◌∙◌, subst}
 use Rattle.std.specs.Prelude.{option_map}
 use Rattle.std.proofs.lemmas.Bool.{cases_Bool}

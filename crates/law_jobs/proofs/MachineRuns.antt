@@ -1,4 +1,4 @@
--- Runs of a job, and those of the machine without input.
+-- Lemmas: a run of a job consists of runs of the machine without input.
 use Rattle.std.proofs.Common.{◌≡◌, ℕ, zero, suc, ◌+◌, ◌-◌, List, [], ◌∷◌, refl, sym, ap, ◌∙◌, subst, arith}
 use Rattle.pm_words.specs.declared.error.ExecError.{ExecError}
 use Rattle.pm_machine.specs.State.{State}
@@ -62,7 +62,7 @@ turn_keyed : (show : _) (rest : List ℕ → State → Run) (byte : ℕ) (bytes 
 unfolding turn
 turn_keyed show rest byte bytes m t e = rw e refl
 
--- Waiting adds nothing to the count.
+-- If the last result is `Waiting`, then it does not count as a step.
 waiting_counts : (a : Status) → last_counts a Waiting ≡ 0
 waiting_counts status.Running = refl
 waiting_counts status.Ended = refl
@@ -70,7 +70,8 @@ waiting_counts (status.Halted e) = refl
 
 -- ---- a run that the last answer stopped
 
--- The run up to the last step, and the rest of the limit.
+-- If the machine's run stops after `n` steps and one more, then the run of the job is the same as from the state after
+-- the `n` steps, with the rest of the limit.
 to_the_last : (show : _) (limit count n : ℕ) (bytes : List ℕ) (m t : State) (stop : Stop) → StoppedAfter n limit m count stop t
     → AreAlike (run_of show limit bytes m) (turn show (run_of show (limit - suc n)) bytes (after_steps n m))
 unfolding run_of

@@ -1,4 +1,4 @@
--- The notes after the lines of a text have no meaning.
+-- Lemmas: the notes after the lines of a text have no meaning.
 use Rattle.std.proofs.Common.{◌≡◌, ℕ, zero, suc, ◌+◌, ◌-◌, ◌*◌, Bool, true, false, List, [], ◌∷◌, ◌++◌, length, map, take, drop}
 use Rattle.std.proofs.Common.{refl, sym, ap, subst, ◌∙◌, arith, Option, None, Some, append_assoc, append-nil}
 use Rattle.std.specs.Prelude.{◌==◌, ◌&&◌, ◌||◌, codes, if◌then◌else◌, is_some, not, slice_index}
@@ -79,7 +79,7 @@ kind_good n name e = looked_up n kind_names name kind_rows e
 
 -- ---- a line that calls a procedure with a name
 
--- A line after which a comment may follow, and its note.
+-- Quotes are closed after `line`, and all characters of `line` and of the note are valid.
 record IsNoted (line name : List ℕ) : Type 0 where
   closed : is_open false line ≡ false
   good : list_all is_character line ≡ true
@@ -261,7 +261,7 @@ no_return (c ∷ l) (suc i) h = no_return l i (and_parts _ _ h).1
 stripped : (l : List ℕ) → list_all is_character l ≡ true → strip_carriage_return l ≡ l
 stripped l h = let none = no_return l (length l - 1) h in rw none refl
 
--- A line with a note.
+-- Returns `line` with the note `name`.
 abbrev commented : List ℕ → List ℕ → List ℕ
 commented line name = line ++ (codes " ; " ++ name)
 
@@ -278,7 +278,7 @@ same_commented n line name c =
     ∙ comment_says_nothing n (line ++ 32 ∷ []) (32 ∷ name) (still_closed false line c.closed) (rw c.named refl)
     ∙ end_blank_says_nothing n 32 line refl
 
--- A line has the same meaning with and without its note, whether it ends with a carriage return or not.
+-- `line` has the same meaning with and without its note, whether or not it ends with a carriage return.
 record SaysSame (file line : List ℕ) : Type 0 where
   whole : (n : ℕ) → line_of n (named_line file line) ≡ line_of n line
   ended : (n : ℕ) → line_of n (strip_carriage_return (named_line file line)) ≡ line_of n (strip_carriage_return line)
@@ -365,7 +365,7 @@ named_feedless file l h = by (note_on file l) refl
     by None e = ap (λ o. no_feed (l ++ comment o)) e ∙ ap no_feed (append-nil l) ∙ h
     by (Some name) e = ap (λ o. no_feed (l ++ comment o)) e ∙ feedless (commented l name) (all_good l name (noted file l name e))
 
--- A line put before the first of the parts.
+-- Returns the list with `line` joined to the front of its first element.
 abbrev onto : List ℕ → List (List ℕ) → List (List ℕ)
 onto line [] = line ∷ []
 onto line (x ∷ xs) = (line ++ x) ∷ xs

@@ -1,4 +1,4 @@
--- Runs of a session that are continued.
+-- Lemmas for runs of a session that are continued by `on`.
 use Rattle.std.proofs.Common.{◌≡◌, ◌≤◌, ℕ, ◌+◌, true, false, Option, Some, None, refl, ap}
 use Rattle.pm_debug.specs.declared.run.Depth.{Depth}
 use Rattle.pm_debug.specs.declared.run.Depth.TheVariants as depths
@@ -13,11 +13,11 @@ use Rattle.law_jobs.specs.OneRun.{GoesOnAsOne, NothingGoesOn}
 use Rattle.law_jobs.proofs.PassRuns.{passing_goes_on}
 
 module _ (depth : Depth) (a b : ℕ) (d : Session) (small : a + b ≤ 4294967295) where
-  -- The result of at most `n` steps.
+  -- Returns the result of the run with at most `n` steps.
   abbrev pub past : ℕ → Passed
   past n = passing d depth n (gone_to d.breaks d.watches (is_there depth) n d.machine)
 
-  -- The result of the continuation of the first run.
+  -- Returns the result of continuing the run of `a` steps by `b` steps.
   abbrev pub rest : Option Passed
   rest = passing_on (after_passing d (past a)) b (gone_on d.breaks (past a).left b (past a).run.machine)
 

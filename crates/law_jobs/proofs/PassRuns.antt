@@ -1,4 +1,4 @@
--- Runs that ignore breakpoints, and that continue where their limit stopped them.
+-- Lemmas for runs that ignore breakpoints, and that `on` continues after their limit stopped them.
 use Rattle.std.proofs.Common.{◌≡◌, ◌≢◌, ◌≤◌, ◌<◌, ◌⊎◌, inl, inr, ◌∙◌, ap, sym, subst, refl, arith, ℕ, zero, suc, ◌+◌, ◌-◌, Bool, true, false}
 use Rattle.std.proofs.Common.{List, Option, Some, None, not, ◌==◌, ◌&&◌}
 use Rattle.std.specs.Prelude.{if◌then◌else◌}
@@ -120,15 +120,15 @@ module _ (d : Session) (depth : Depth) (watched : List WatchedWord) where
   abbrev At : State → Bool
   At = stops_at watched d.breaks (is_there depth)
 
-  -- The run that begins at `s`, after `made` steps.
+  -- Returns the result of the run that begins at `s`, after `made` steps.
   abbrev part : ℕ → ℕ → State → Gone
   part made n s = counted made (gone_from d.breaks watched (is_there depth) 0 n s)
 
-  -- This run and its continuations after the breakpoints that it ignores.
+  -- Returns the result of this run and of its continuations after the breakpoints that it ignores.
   abbrev whole : ℕ → ℕ → ℕ → State → Passed
   whole made n p s = all_passed d.breaks (made + n) p (left_behind depth watched (part made n s)) (part made n s)
 
-  -- The continuation of a run by at most `m` steps.
+  -- Returns the result of continuing the run `p` by at most `m` steps.
   abbrev goes : Passed → ℕ → Option Passed
   goes p m = passing_on (after_passing d p) m (gone_on d.breaks p.left m p.run.machine)
 
@@ -161,7 +161,7 @@ module _ (d : Session) (depth : Depth) (watched : List WatchedWord) where
           let e : r.count ≡ 0 + r.count = omega arith in
           ap (λ c. record { count = c; end = r.end; state = r.state }) e
 
-  -- The run has executed a step, or it is the first part.
+  -- The run has executed a step, or no step was executed before it.
   abbrev IsBegun : ℕ → ℕ → Type 0
   IsBegun made n = (made ≡ 0) ⊎ (1 ≤ n)
 
@@ -217,14 +217,14 @@ module _ (d : Session) (depth : Depth) (watched : List WatchedWord) where
 
   -- ---- a part that a breakpoint stopped
 
-  -- The run ignores this breakpoint and continues with the next part.
+  -- If the run is not at its end, then it ignores this breakpoint and continues after it.
   passed_next : (most q c : ℕ) (run : Gone) → is_there depth run.machine ≡ false
       → all_passed d.breaks most (suc q) (AtBreak depth c watched) run
       ≡ all_passed d.breaks most q (left_behind depth watched (part c (most - c) run.machine)) (part c (most - c) run.machine)
   unfolding all_passed
   passed_next most q c run h = rw h refl
 
-  -- Or the run stops there.
+  -- If the run is at its end at this breakpoint, then it has no rest.
   passed_there : (most q c : ℕ) (run : Gone) → is_there depth run.machine ≡ true
       → has_rest (all_passed d.breaks most (suc q) (AtBreak depth c watched) run).left ≡ false
   unfolding all_passed
@@ -255,7 +255,7 @@ module _ (d : Session) (depth : Depth) (watched : List WatchedWord) where
   abbrev GoesOn : ℕ → ℕ → ℕ → ℕ → State → Type 0
   GoesOn p made n m s = has_rest (whole made n p s).left ≡ true → goes (whole made n p s) m ≡ Some (whole made (n + m) p s)
 
-  -- If the reason is another one, the run has no rest.
+  -- If the run stopped for another reason than its limit, then it has no rest.
   no_rest : (p made n : ℕ) (s : State) (reason : BreakReason) → (part made n s).reason ≡ reason
       → left_so depth watched (part made n s).steps reason ≡ Nothing → has_rest (whole made n p s).left ≡ true → ⊥
   no_rest p made n s reason e none some =
@@ -367,7 +367,7 @@ module _ (d : Session) (depth : Depth) where
   unfolding gone_to
   no_run n ended = rw ended (nothing_left d depth watched n d.passes (record { steps = 0; reason = reasons.Ended; machine = d.machine }))
 
-  -- A run that its limit stopped, and its continuation, are the run with the sum of both limits.
+  -- If its limit stopped a run, then the run and its continuation are the run with the sum of both limits.
   pub passing_goes_on : (a b : ℕ) → a + b ≤ 4294967295 → has_rest (passing d depth a (run a)).left ≡ true
       → passing_on (after_passing d (passing d depth a (run a))) b (gone_on d.breaks (passing d depth a (run a)).left b (passing d depth a (run a)).run.machine)
       ≡ Some (passing d depth (a + b) (run (a + b)))

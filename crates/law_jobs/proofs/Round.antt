@@ -1,4 +1,4 @@
--- The text of the code file of a program spells a program with the same code file.
+-- Lemmas: the text of the code file of a program spells a program with the same code file.
 use Rattle.std.proofs.Common.{◌≡◌, ◌≤◌, ℕ, zero, suc, ◌+◌, ◌-◌, Bool, true, false, List, [], ◌∷◌}
 use Rattle.std.proofs.Common.{◌++◌, length, map, replicate, refl, sym, ap, subst, ◌∙◌, Option, Some}
 use Rattle.std.specs.Prelude.{◌==◌, if◌then◌else◌}
@@ -13,7 +13,7 @@ use Rattle.pm_source.specs.Meaning.{Spells}
 use Rattle.law_text.proofs.Held.{file_holds_program}
 use Rattle.law_text.proofs.ShownPrograms.{shown_is_spelled}
 
--- The slots give the same name and the same bytes to the file.
+-- The slots `s` and `t` have the same name and the same bytes in the file.
 record IsSameSlot (s t : Option Segment) : Type 0 where
   name : name_of_segment t ≡ name_of_segment s
   bytes : bytes_of_segment t ≡ bytes_of_segment s
@@ -35,7 +35,7 @@ same_slots : (n count : ℕ) (ss ts : List Segment) → AllZip IsSameSegment ss 
 same_slots n zero ss ts h = tt
 same_slots n (suc count) ss ts h = (same_numbered n ss ts h, same_slots (n + 1) count ss ts h)
 
--- The file of slots.
+-- Returns the code file with these slots.
 abbrev file_with : List (Option Segment) → List ℕ
 file_with slots = layout (map name_of_segment slots) (map (λ s. length (bytes_of_segment s)) slots) (joined_bytes slots)
 
@@ -64,7 +64,7 @@ same_file ss ts h =
     ∙ ap (λ ns. layout (map name_of_segment ss) ns (joined_bytes ts)) same.lengths
     ∙ ap (λ bs. layout (map name_of_segment ss) (map (λ s. length (bytes_of_segment s)) ss) bs) same.bytes
 
--- Programs with the same segments have the same code file.
+-- If the segments of two programs are pairwise the same, then both programs have the same code file.
 pub same_program_file : (ss ts : List Segment) → AllZip IsSameSegment ss ts → file_of ts ≡ file_of ss
 unfolding file_of
 same_program_file ss ts h = same_file (slots_of 0 16 ss) (slots_of 0 16 ts) (same_slots 0 16 ss ts h)

@@ -1,4 +1,4 @@
--- The images that a run leaves.
+-- Lemmas for the images that a run leaves.
 use Rattle.std.proofs.Common.{◌≡◌, ℕ, List, [], ◌∷◌, Option, Some, None, Result, Ok, Err, refl}
 use Rattle.pm_volume.specs.declared.fault.VolumeFault.{VolumeFault}
 use Rattle.pm_words.specs.Stack.{◌>>=◌}
@@ -13,7 +13,7 @@ use Rattle.law_jobs.specs.ToolLaws.{ImagesAreOfTheirUnits, SavingChangesNothing,
 use Rattle.pm_tool.specs.Run.{Run, run_of}
 use Rattle.pm_tool.specs.Said.{run_said}
 
--- A machine that boots has the images on its units.
+-- If a boot is started with the state `m`, then it has succeeded with this state.
 was_started : (r : Result State BootFault) (m : State) → started r ≡ Ok m → r ≡ Ok m
 was_started (Ok n) m e = cc
 was_started (Err fault) m e = absurd (cc)

@@ -1,4 +1,4 @@
--- Each command of a session leaves the machine as its events do.
+-- Lemmas: each command of a session leaves the machine in the state after the events of the command.
 use Rattle.std.proofs.Common.{◌≡◌, ◌≤◌, ℕ, zero, suc, ◌+◌, ◌-◌, Bool, true, false, List, [], ◌∷◌, ◌++◌, Option, Some, None, refl, sym, ap, subst, ◌∙◌, arith}
 use Rattle.std.proofs.Common.{◌==◌, ◌&&◌, not, append_assoc}
 use Rattle.std.proofs.lemmas.Bool.Decides.{nat_tests}
@@ -41,7 +41,7 @@ use Rattle.law_jobs.specs.Shown.StopsAfter.{rests, all, breaks_there, stops}
 
 -- ---- steps of a run
 
--- A number of steps is the same number of events.
+-- The state after `n` steps is the state after `n` events `Step`.
 all_steps : (n : ℕ) (s : State) → after_steps n s ≡ after_all s (replicate n Step)
 unfolding after_steps
 all_steps zero s = refl
@@ -51,15 +51,15 @@ all_steps (suc n) s = sym (after_first n s) ∙ all_steps n (stepped s).0
     after_first zero s = refl
     after_first (suc n) s = ap (λ t. (stepped t).0) (after_first n s)
 
--- The steps that a command executes, and the state that they lead to.
+-- A run of at most `limit` steps leads from the state `s` to the state `t`.
 abbrev Makes : (State → Bool) → ℕ → ℕ → State → State → Type 0
 Makes test first limit s t = (steps : ℕ) × StopsAfter test first limit s steps × (t ≡ after_steps steps s)
 
--- The test of a run that has executed `made` steps.
+-- Returns the test that a run applies after it has executed `made` steps.
 abbrev Asked : ℕ → (State → Bool) → ℕ → State → Bool
 Asked made test = behind_steps made (later test)
 
--- A test of such a run that does not hold before a step at which the run tests.
+-- If a run tests before a step, and its test is false, then `test` is false.
 free_there : (test : State → Bool) (made k : ℕ) (s : State) → first_look made ≤ k → Asked made test k s ≡ false → test s ≡ false
 free_there test zero k s some h = behind (0 + k == 0) (test s) (grind (arith, nat_tests, some)) h
   where
@@ -113,7 +113,7 @@ run_steps test made n s =
     let steps = made_by test made n h.0 s run.end run.count run.state h.1 h.2 in
     (steps.0, steps.1, same ∙ steps.2)
 
--- The test that stops a run that begins at `s`.
+-- Returns the test that stops a run that begins at `s`.
 abbrev Stops : List Breakpoint → List ℕ → (State → Bool) → State → State → Bool
 Stops breaks watches test s = stops_at (watched_words watches s.memory) breaks test
 
@@ -130,7 +130,7 @@ gone_steps breaks watches test n s = ended_steps (has_ended s.status) refl
 
 -- ---- breakpoints that are ignored
 
--- The steps after a breakpoint are events.
+-- The steps after an ignored breakpoint are events.
 once_past : (breaks : List Breakpoint) (watched : List WatchedWord) (depth : Depth) (made most : ℕ) (s : State)
     → (events : List Event) × AreStepsPast (is_there depth s) (stops_at watched breaks (is_there depth)) (most - made) s events
     × ((gone_past breaks watched depth made most s).machine ≡ after_all s events)
@@ -160,7 +160,7 @@ all_past breaks most (suc passes) (AtBreak depth made watched) run =
       rest.2 ∙ ap (λ m. after_all m rest.0) one.2 ∙ sym (events_go_on run.machine one.0 rest.0),
     )
 
--- A run whose steps are these events, after each of the breakpoints that it ignores.
+-- A run and its continuations after ignored breakpoints consist of steps that are events.
 abbrev MakesAll : Session → ℕ → Left → Gone → (List Event → Type 0) → Type 0
 MakesAll d most left run Up =
     (events : List Event) × AreStepsOfRun d most left run Up events
@@ -211,7 +211,7 @@ kept_watching : (d : Session) (r : Result (List ℕ) DebugRefusal) → (with_wat
 kept_watching d (Ok watches) = refl
 kept_watching d (Err refusal) = refl
 
--- The bytes that are typed are keys.
+-- The state after bytes are typed is the state after the keys of these bytes.
 typed_events : (bytes : List ℕ) (d : Session) → (after_keys bytes d).machine ≡ after_all d.machine (map Key bytes)
 unfolding after_command
 typed_events [] d = refl
@@ -239,7 +239,7 @@ command_made (Some (Types bytes)) d = (map Key bytes, refl, typed_events bytes d
 
 -- ---- lines
 
--- The state of a session after lines, with any breakpoints and watched words, is that which its events give.
+-- The state of the session after the lines is the state after their events.
 record Shows (lines : List (List ℕ)) (d : Session) : Type 0 where
   events : List Event
   named : AreEventsOfLines lines d events

@@ -1,4 +1,4 @@
--- Runs as lists of events.
+-- Lemmas: each run is a list of events.
 use Rattle.std.proofs.Common.{◌≡◌, ℕ, zero, suc, Bool, true, false, cond, List, [], ◌∷◌, refl, ap}
 use Rattle.pm_machine.specs.State.{State}
 use Rattle.pm_machine.specs.Steps.{stepped}
@@ -11,11 +11,11 @@ use Rattle.pm_tool.specs.Run.{Run, follows, is_waiting, run_of, turn}
 abbrev Made : Run → List ℕ → State → Type 0
 Made run bytes m = (events : List Event) × IsOfEvents run bytes m events
 
--- One step before the others.
+-- If a run from the next state is a list of events, then so is the run that executes one step before.
 step_before : (run : Run) (bytes : List ℕ) (m : State) → Made run bytes (next m Step) → Made run bytes m
 step_before run bytes m e = (Step ∷ e.0, record { alone = e.1.alone; left = e.1.left; read = e.1.read })
 
--- One byte keyed before the others.
+-- If a run from the state after a key is a list of events, then so is the run that reads this byte before.
 key_before : (run : Run) (byte : ℕ) (bytes : List ℕ) (m : State) → Made run bytes (next m (Key byte)) → Made run (byte ∷ bytes) m
 key_before run byte bytes m e = (Key byte ∷ e.0, record { alone = e.1.alone; left = e.1.left; read = ap (λ l. byte ∷ l) e.1.read })
 

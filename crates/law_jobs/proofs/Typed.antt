@@ -1,4 +1,4 @@
--- Texts that are typed in a session, and other lines that are read.
+-- Lemmas for texts that are typed in a session.
 use Rattle.std.proofs.Common.{◌≡◌, Some, refl, ap, ◌∙◌, sym, codes, ◌∷◌, [], List, ℕ, ◌++◌, append_assoc, append-nil, false}
 use Rattle.pm_machine.specs.Events.{Key, next}
 use Rattle.pm_machine.specs.State.{State}
@@ -15,7 +15,7 @@ use Rattle.pm_session.specs.Words.{pieces_between, without_empty, without_return
 use Rattle.law_jobs.specs.Breakpoints.{ConditionIsRead, WordsAreRead}
 use Rattle.law_jobs.specs.Typed.{InputIsTyped, IsOneLine, TypesAreKeys}
 
--- The command of each of the lines.
+-- Each of the lines is read as its command.
 text_typed : order_of (codes "type \"AB\"") ≡ Some (Types (65 ∷ 66 ∷ []))
 unfolding typed without_return
 text_typed = refl
@@ -36,7 +36,7 @@ types_are_keys d = record {
   second = rw (text_typed, second_key) refl;
 }
 
--- The bytes of a line are read one after the other.
+-- If a line contains no line feed, then its bytes are collected before the line is executed.
 one_line : (front line rest : List ℕ) (d : Session) → IsOneLine line
     → told_from front (line ++ rest) d ≡ told_from (front ++ line) rest d
 one_line front [] rest d is = ap (λ f. told_from f rest d) (sym (append-nil front))

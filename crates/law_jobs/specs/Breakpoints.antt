@@ -1,4 +1,5 @@
--- The breakpoints and the watched words of a session after its lines, as sets.
+-- Laws of the breakpoints and the watched words of a session after its lines. A `Spot` is what a breakpoint is set on:
+-- a position in the code, or reads or writes of words.
 use Rattle.std.specs.Prelude.{◌≡◌, ◌<◌, ◌==◌, ◌||◌, ◌&&◌, not, ℕ, Bool, true, false, List, [], ◌∷◌, length}
 use Rattle.std.specs.Prelude.{Option, Some, None, ⊤, filter, if◌then◌else◌, codes}
 use Rattle.pm_words.specs.Words.{word_at}
@@ -19,7 +20,7 @@ use Rattle.pm_session.specs.Orders.{Order, order_of}
 use Rattle.pm_session.specs.Orders.Order.{Does}
 use Rattle.law_jobs.specs.Console.{after_lines}
 
--- The line is `break`, `reads` or `writes`, with a condition or without, or `clear`.
+-- Returns whether the line is `break`, `reads`, `writes` or `clear`, with or without a condition.
 abbrev pub is_of_breaks : Option Order → Bool
 is_of_breaks (Some (Does (commands.Break s p o condition))) = true
 is_of_breaks (Some (Does (commands.Clear s p o))) = true
@@ -27,13 +28,13 @@ is_of_breaks (Some (Does (commands.BreakOn spot condition))) = true
 is_of_breaks (Some (Does (commands.ClearOn spot))) = true
 is_of_breaks other = false
 
--- The line is `watch` or `unwatch`.
+-- Returns whether the line is `watch` or `unwatch`.
 abbrev pub is_of_watches : Option Order → Bool
 is_of_watches (Some (Does (commands.Watch a))) = true
 is_of_watches (Some (Does (commands.Unwatch a))) = true
 is_of_watches other = false
 
--- None of the lines is such a command.
+-- `test` is false for each of the lines.
 abbrev pub NoneIs : (Option Order → Bool) → List (List ℕ) → Type 0
 NoneIs test [] = ⊤
 NoneIs test (line ∷ lines) = (test (order_of line) ≡ false) × NoneIs test lines
@@ -47,82 +48,85 @@ abbrev pub WatchesStay : Type 0
 WatchesStay =
     (lines : List (List ℕ)) (d : Session) → NoneIs is_of_watches lines → (after_lines lines d).watches ≡ d.watches
 
--- After `break`, if fewer than 64 are set, a breakpoint is set at its position. All others are set as before.
+-- After `break`, a breakpoint is set at its position. All others are set as before. Premise: fewer than 64 breakpoints
+-- are set.
 abbrev pub BreakSetsOne : Type 0
 BreakSetsOne = (s p o : ℕ) (d : Session) (spot : Spot) → length d.breaks < 64
     → is_set spot (session_after (Some (Does (commands.Break s p o None))) d).breaks
     ≡ (is_same spot (Code (code_place s p o)) || is_set spot d.breaks)
 
--- The same after `break` with a condition, if the address of its word is even.
+-- After `break` with a condition, a breakpoint is set at its position. All others are set as before. Premises: the
+-- address of the condition is even, and fewer than 64 breakpoints are set.
 abbrev pub BreakIfSetsOne : Type 0
 BreakIfSetsOne = (s p o a w : ℕ) (d : Session) (spot : Spot) → is_even a ≡ true → length d.breaks < 64
     → is_set spot (session_after (Some (Does (commands.Break s p o (Some (word_is a w))))) d).breaks
     ≡ (is_same spot (Code (code_place s p o)) || is_set spot d.breaks)
 
--- The same after `reads` and `writes`, for a breakpoint on these words, if all addresses are even.
+-- After `reads` or `writes`, a breakpoint is set on these words. All others are set as before. Premises: all addresses
+-- are even, and fewer than 64 breakpoints are set.
 abbrev pub WordsSetOne : Type 0
 WordsSetOne = (on : Spot) (condition : Option Condition) (d : Session) (spot : Spot) → can_stand on ≡ true
     → can_be_asked condition ≡ true → length d.breaks < 64
     → is_set spot (session_after (Some (Does (commands.BreakOn on condition))) d).breaks
     ≡ (is_same spot on || is_set spot d.breaks)
 
--- After `clear` no breakpoint is set at its position. All others are set as before.
+-- After `clear`, no breakpoint is set at its position. All others are set as before.
 abbrev pub ClearTakesOne : Type 0
 ClearTakesOne = (s p o : ℕ) (d : Session) (spot : Spot)
     → is_set spot (session_after (Some (Does (commands.Clear s p o))) d).breaks
     ≡ (not (is_same spot (Code (code_place s p o))) && is_set spot d.breaks)
 
--- The same after `clear reads` and `clear writes`, for the breakpoint on these words.
+-- After `clear reads` or `clear writes`, no breakpoint is set on these words. All others are set as before.
 abbrev pub ClearWordsTakesOne : Type 0
 ClearWordsTakesOne = (on : Spot) (d : Session) (spot : Spot)
     → is_set spot (session_after (Some (Does (commands.ClearOn on))) d).breaks
     ≡ (not (is_same spot on) && is_set spot d.breaks)
 
--- After `watch` with an even address, if fewer than 64 are watched, the word at this address is watched. All others are
--- watched as before.
+-- After `watch`, the word at its address is watched. All others are watched as before. Premises: the address is even,
+-- and fewer than 64 words are watched.
 abbrev pub WatchAddsOne : Type 0
 WatchAddsOne = (a : ℕ) (d : Session) (address : ℕ) → is_even a ≡ true → length d.watches < 64
     → is_watched address (session_after (Some (Does (commands.Watch a))) d).watches
     ≡ (a == address || is_watched address d.watches)
 
--- After `unwatch` the word at its address is not watched. All others are watched as before.
+-- After `unwatch`, the word at its address is not watched. All others are watched as before.
 abbrev pub UnwatchTakesOne : Type 0
 UnwatchTakesOne = (a : ℕ) (d : Session) (address : ℕ)
     → is_watched address (session_after (Some (Does (commands.Unwatch a))) d).watches
     ≡ (not (a == address) && is_watched address d.watches)
 
--- ---- where they stop a run
+-- ---- where breakpoints stop a run
 
 abbrev pub is_on_words : Spot → Bool
 is_on_words (Code place) = false
 is_on_words (Reads a n) = true
 is_on_words (Writes a n) = true
 
--- The breakpoints on words.
+-- Returns the breakpoints that are set on words.
 abbrev pub on_words : List Breakpoint → List Breakpoint
 on_words breaks = filter (λ b. is_on_words b.spot) breaks
 
--- The breakpoints at other positions and on other words.
+-- Returns the breakpoints that are not set on `spot`.
 abbrev pub elsewhere : Spot → List Breakpoint → List Breakpoint
 elsewhere spot breaks = filter (λ b. not (is_same spot b.spot)) breaks
 
--- After `break` a breakpoint stops a run in every state at its position, even if another was set there before. At every
--- other position runs stop as before.
+-- After `break`, a breakpoint stops a run in every state at its position, even if another breakpoint was set there
+-- before. At every other position, runs stop as before.
 abbrev pub BreakStopsThere : Type 0
 BreakStopsThere = (s p o : ℕ) (d : Session) (t : State) → length d.breaks < 64
     → is_at_break (session_after (Some (Does (commands.Break s p o None))) d).breaks t
     ≡ (if stands_at (code_place s p o) t then true else is_at_break d.breaks t)
 
--- After `break` with the condition that the word at a is w, a run stops at its position if and only if the condition
--- holds or a breakpoint on words stops it. This holds even if another breakpoint was set there before. At every other
--- position runs stop as before.
+-- After `break` with the condition that the word at `a` is `w`, a run stops at its position if and only if the
+-- condition holds or a breakpoint on words stops it. This holds even if another breakpoint was set there before. At
+-- every other position, runs stop as before.
 abbrev pub BreakIfStopsSo : Type 0
 BreakIfStopsSo = (s p o a w : ℕ) (d : Session) (t : State) → is_even a ≡ true → length d.breaks < 64
     → is_at_break (session_after (Some (Does (commands.Break s p o (Some (word_is a w))))) d).breaks t
     ≡ (if stands_at (code_place s p o) t then word_at t.memory a == w || is_at_break (on_words d.breaks) t
     else is_at_break d.breaks t)
 
--- After `clear` only a breakpoint on words stops a run at its position. At every other position runs stop as before.
+-- After `clear`, only a breakpoint on words stops a run at its position. At every other position, runs stop as before.
 abbrev pub ClearStopsNoMore : Type 0
 ClearStopsNoMore = (s p o : ℕ) (d : Session) (t : State)
     → is_at_break (session_after (Some (Does (commands.Clear s p o))) d).breaks t
@@ -137,7 +141,7 @@ WordsStopSo = (on : Spot) (condition : Option Condition) (d : Session) (t : Stat
     → is_at_break (session_after (Some (Does (commands.BreakOn on condition))) d).breaks t
     ≡ ((is_met on t && holds condition t.memory) || is_at_break (elsewhere on d.breaks) t)
 
--- After `clear reads` or `clear writes` only the other breakpoints stop a run, as before.
+-- After `clear reads` or `clear writes`, only the other breakpoints stop a run, as before.
 abbrev pub ClearWordsStopsNoMore : Type 0
 ClearWordsStopsNoMore = (on : Spot) (d : Session) (t : State)
     → is_at_break (session_after (Some (Does (commands.ClearOn on))) d).breaks t
@@ -145,19 +149,19 @@ ClearWordsStopsNoMore = (on : Spot) (d : Session) (t : State)
 
 -- ---- how a condition is read
 
--- The numbers 1 to 5 of a line, in their order.
+-- The five numbers of the line become the numbers of the command, in their order.
 abbrev pub ConditionIsRead : Type 0
 ConditionIsRead =
     order_of (codes "break 1 2 3 if 4 = 5") ≡ Some (Does (commands.Break 1 2 3 (Some (word_is 4 5))))
 
--- The words of each breakpoint, by address and number.
+-- The address and the number of words of each line become those of the command.
 pub record WordsAreRead : Type 0 where
   pub reads : order_of (codes "reads 8 2 if 6 = 7") ≡ Some (Does (commands.BreakOn (Reads 8 2) (Some (word_is 6 7))))
   pub writes : order_of (codes "writes 8 2") ≡ Some (Does (commands.BreakOn (Writes 8 2) None))
   pub clears : order_of (codes "clear reads 8 2") ≡ Some (Does (commands.ClearOn (Reads 8 2)))
 
--- The number of bytes of the words of a breakpoint, worked out by hand: words in memory, none, and words after the last
--- byte of memory.
+-- Worked examples of the number of bytes that the words of a breakpoint have: words in memory, no words, and words that
+-- continue after the last byte of memory.
 pub record WorkedWords : Type 0 where
   pub few : bytes_from 1000 3 ≡ 6
   pub none : bytes_from 1000 0 ≡ 0

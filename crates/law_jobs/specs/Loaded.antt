@@ -1,4 +1,4 @@
--- From a text to the memory of a machine.
+-- Laws about the memory of a machine that loads the code file of a text.
 use Rattle.std.specs.Prelude.{◌≡◌, ℕ, ◌+◌, ◌-◌, List, Option, Some, None, Ok, length}
 use Rattle.pm_words.specs.Words.{bytes_at}
 use Rattle.pm_calls.specs.Places.{placed}
@@ -17,12 +17,12 @@ use Rattle.pm_machine.specs.Steps.{stepped}
 use Rattle.law_engine.specs.Loads.{IsAtCall, IsAtKeep, IsBootedFrom, IsImage}
 use Rattle.pm_words.specs.declared.layout.TheConstants.{SYSTEM_FRAME}
 
--- The joined bytes of the lines of a segment in the listing.
+-- Returns the listed bytes of a segment: the joined bytes of its lines in the listing.
 abbrev pub listed : Segment → List ℕ
 listed s = listed_bytes (listed_segment s)
 
--- The text spells a program with this listing. Memory has the joined bytes of the lines of segment n in the listing,
--- directly below the address `below`.
+-- `text` spells a program with the listing `shown`. Memory has the listed bytes of segment `n`, directly below the
+-- address `below`.
 pub record StandsAsListed (text shown : List ℕ) (n below : ℕ) (memory : List ℕ) : Type 0 where
   pub program : List Segment
   pub spelled : Spells text program
@@ -31,9 +31,9 @@ pub record StandsAsListed (text shown : List ℕ) (n below : ℕ) (memory : List
   pub numbered : segment_numbered n program ≡ Some segment
   pub stands : bytes_at memory (below - length (listed segment)) (length (listed segment)) ≡ listed segment
 
--- A text is assembled to a file and a listing, a machine was booted from the file on a volume, and the unit still has
--- this volume after any events. If a step calls a procedure of slot n, which has no address, and succeeds, memory has
--- the segment as it is listed, directly below the SP before the step.
+-- If a machine was booted from the code file of an assembled text on a volume, the unit still has this volume after any
+-- events, and a step calls a procedure of slot `n`, which has no address, and succeeds, then memory has segment `n` as
+-- listed, directly below the SP before the step.
 abbrev pub AssembledLoadsListed : State → Type 0
 AssembledLoadsListed s =
     (text shown file image : List ℕ) (unit n p : ℕ) →
@@ -42,8 +42,8 @@ AssembledLoadsListed s =
     placed s.places n ≡ None → IsAtCall n p s → (stepped s).1 ≡ Went →
     StandsAsListed text shown n s.registers.sp (stepped s).0.memory
 
--- Take a step that keeps the segment of slot n, which has no address, by standard procedure 21. If the step succeeds,
--- memory has the segment as it is listed, directly below the SP after the operand is popped.
+-- If a step of such a machine keeps the segment of slot `n`, which has no address, by standard procedure 21 and
+-- succeeds, then memory has segment `n` as listed, directly below the SP after the operand is popped.
 abbrev pub AssembledKeepsListed : State → Type 0
 AssembledKeepsListed s =
     (text shown file image : List ℕ) (unit n : ℕ) →
@@ -52,7 +52,7 @@ AssembledKeepsListed s =
     placed s.places n ≡ None → IsAtKeep n s → (stepped s).1 ≡ Went →
     StandsAsListed text shown n (s.registers.sp + 2) (stepped s).0.memory
 
--- A machine that is booted from the file of a text starts with segment 1 as it is listed, directly below 65,492.
+-- If a machine is booted from the code file of a text, then it starts with segment 1 as listed, directly below 65,492.
 abbrev pub AssembledBootsListed : Type 0
 AssembledBootsListed =
     (text shown file : List ℕ) (images : List (Option (List ℕ))) (image name : List ℕ) (entry : Entry)
@@ -61,12 +61,12 @@ AssembledBootsListed =
     IsImage image → image_of images unit ≡ Some image → code_file images unit name ≡ Ok (entry, file) →
     boot_start images unit name clock ≡ Ok s → StandsAsListed text shown 1 SYSTEM_FRAME s.memory
 
--- An assembled file is a code file.
+-- An assembled file is a code file: it has no fault.
 abbrev pub AssembledIsAccepted : Type 0
 AssembledIsAccepted = (text shown file : List ℕ) → assembled text ≡ Ok (file, shown) → file_fault file ≡ None
 
--- If the text has a segment 1, a boot finds its file under any name on any volume that has it as a file of kind 2 under
--- this name.
+-- If the text has a segment 1, and a volume has its code file under a name as a file of kind 2, then a boot by this
+-- name finds the code file.
 abbrev pub AssembledIsFound : Type 0
 AssembledIsFound =
     (text shown file : List ℕ) (program : List Segment) (segment : Segment) (images : List (Option (List ℕ)))

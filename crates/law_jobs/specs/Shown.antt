@@ -1,4 +1,5 @@
--- Sessions of the debugger as lists of events.
+-- Sessions of the debugger as lists of events. A *run* of the debugger executes steps until its limit, or until a test
+-- holds.
 use Rattle.std.specs.Prelude.{◌≡◌, ◌≢◌, ◌<◌, ◌≤◌, ◌+◌, ◌-◌, ◌||◌, nat_le, nat_lt, ℕ, zero, suc, Bool, true, false}
 use Rattle.std.specs.Prelude.{List, [], ◌∷◌, ◌++◌, map, replicate, Option, Some, ⊤}
 use Rattle.pm_machine.specs.State.{State}
@@ -26,15 +27,14 @@ use Rattle.pm_session.specs.Sessions.{answers, is_quit, opened}
 
 -- ---- the steps of `go`, `step`, `finish` and `until`
 
--- Each of the n steps from s succeeds, and the test holds before none of them from step number `first` on
--- (counted from 0).
+-- Each of the `n` steps from the state `s` succeeds, and `test` is false before each of them from step number `first`
+-- on. Steps are counted from 0.
 pub record GoesOn (test : State → Bool) (first n : ℕ) (s : State) : Type 0 where
   pub went : AllWent n s
   pub free : (k : ℕ) → first ≤ k → k < n → test (after_steps k s) ≡ false
 
--- Why a command executes no more steps than these: the machine had ended before; they are as many as the limit allows;
--- the test holds after the last of them; or the last of them did not succeed, because the machine ended, halted or
--- waits.
+-- States why a run executes only this number of steps: the machine had ended before; the limit is reached; `test` is
+-- true after the last step; or the last step did not succeed, because the machine ended, halted or waits.
 pub data StopsAfter (test : State → Bool) (first limit : ℕ) (s : State) : ℕ → Type 0 where
   rests : has_ended s.status ≡ true → StopsAfter test first limit s 0
   all : GoesOn test first limit s → StopsAfter test first limit s limit
@@ -43,32 +43,32 @@ pub data StopsAfter (test : State → Bool) (first limit : ℕ) (s : State) : �
   stops : (n : ℕ) → n < limit → GoesOn test first n s → (first ≤ n → test (after_steps n s) ≡ false)
       → (stepped (after_steps n s)).1 ≢ stop.Went → StopsAfter test first limit s (n + 1)
 
--- These events are the steps of a run of at most `limit` steps to a state at which the test holds, tested from step
--- number `first` on.
+-- `events` are the steps of a run of at most `limit` steps from the state `s`. The run ends in a state in which `test`
+-- is true, and tests from step number `first` on.
 abbrev pub AreStepsFrom : ℕ → (State → Bool) → ℕ → State → List Event → Type 0
 AreStepsFrom first test limit s events =
     (steps : ℕ) × StopsAfter test first limit s steps × (events ≡ replicate steps Step)
 
--- These events are the steps of such a run that begins at s, and tests from its second step on.
+-- `events` are the steps of a run of at most `limit` steps from the state `s` that tests from its second step on.
 abbrev pub AreStepsTo : (State → Bool) → ℕ → State → List Event → Type 0
 AreStepsTo test limit s events = AreStepsFrom 1 test limit s events
 
--- The number of the first step, counted from 0, before which a run tests that has executed `made` steps: every step
--- except the first of the whole run.
+-- Returns the number, counted from 0, of the first step before which a run tests. The run has executed the given number
+-- of steps before. It tests before every step except its first one.
 abbrev pub first_look : ℕ → ℕ
 first_look zero = 1
 first_look (suc made) = 0
 
 -- ---- breakpoints that are ignored
 
--- These events are the steps of a run after the ignored breakpoint at s: none if the run is at its end, else those of a
--- run that begins there.
+-- `events` are the steps of a run after the ignored breakpoint at the state `s`. The list is empty if the run is at its
+-- end, which the first argument states.
 abbrev pub AreStepsPast : Bool → (State → Bool) → ℕ → State → List Event → Type 0
 AreStepsPast true test limit s events = events ≡ []
 AreStepsPast false test limit s events = AreStepsTo test limit s events
 
--- These events are the steps of a run of at most `most` steps, which ended at s, after each of the breakpoints that it
--- ignores.
+-- `events` are the steps of a run after each of the breakpoints that it ignores. The run has at most `most` steps and
+-- stopped at `s`.
 abbrev pub AreStepsBehind : List Breakpoint → ℕ → ℕ → Left → State → List Event → Type 0
 AreStepsBehind breaks most zero left s events = events ≡ []
 AreStepsBehind breaks most (suc passes) Nothing s events = events ≡ []
@@ -79,22 +79,22 @@ AreStepsBehind breaks most (suc passes) (AtBreak depth made watched) s events =
     × AreStepsBehind breaks most passes (left_past breaks (AtBreak depth made watched) most s)
     (gone_past breaks watched depth made most s).machine more × (events ≡ first ++ more)
 
--- These events are the steps of a run up to its end `run`, and those after the breakpoints that it ignores.
+-- `events` are the steps of a run up to its first stop `run`, and the steps after the breakpoints that it ignores.
 abbrev pub AreStepsOfRun : Session → ℕ → Left → Gone → (List Event → Type 0) → List Event → Type 0
 AreStepsOfRun d most left run Up events =
     (first more : List Event) × Up first × AreStepsBehind d.breaks most d.passes left run.machine more
     × (events ≡ first ++ more)
 
--- These events are the steps of a run that begins in a session, to this depth.
+-- `events` are the steps of a run that begins in the session `d`. `depth` states at which depth of calls it stops.
 abbrev pub AreStepsOfBegun : Session → Depth → ℕ → Gone → (State → Bool) → List Event → Type 0
 AreStepsOfBegun d depth limit run test events =
     AreStepsOfRun d limit (left_of depth d.watches d.machine run) run (AreStepsTo test limit d.machine) events
 
--- The rest of a run.
+-- Returns the result of the rest of a run, of which `made` steps were executed before.
 abbrev pub rest_of : Session → Depth → ℕ → List WatchedWord → ℕ → Gone
 rest_of d depth made watched limit = gone_from d.breaks watched (is_there depth) made (countable made limit) d.machine
 
--- These events are the steps of the rest of a run.
+-- `events` are the steps of the rest of a run, with at most `limit` steps.
 abbrev pub AreStepsOn : Session → Left → ℕ → List Event → Type 0
 AreStepsOn d Nothing limit events = events ≡ []
 AreStepsOn d (AtBreak depth made watched) limit events = events ≡ []
@@ -106,15 +106,15 @@ AreStepsOn d (Rest depth made watched) limit events =
 
 -- ---- sessions
 
--- A watched word differs from its value at the time of the command.
+-- A watched word in the state `s` differs from its value in the session `d`, at the time of the command.
 abbrev pub has_changed_since : Session → State → Bool
 has_changed_since d s = has_changed (watched_words d.watches d.machine.memory) s.memory
 
--- The events of a line in a session. A poke and a key are one event each. A text that is typed is a key for each of its
--- bytes. `go` is its steps up to its limit, to a changed word or to a breakpoint, and its steps after each breakpoint
--- that it ignores. `step`, `finish` and `until` are the same, and also end when MP is at least its value before, when
--- MP is greater than this value, or at the named position. `on` is the steps of the rest of the last run. All other
--- lines have no events.
+-- States the events of a line in the session `d`. A poke and a key are one event each. A typed text is a key for each
+-- of its bytes. `go` is its steps up to its limit, to a changed word or to a breakpoint, and its steps after each
+-- ignored breakpoint. `step`, `finish` and `until` are the same, but they also end when MP is at least its value
+-- before, when MP is greater than this value, or at the named position. `on` is the steps of the rest of the last run.
+-- All other lines have no events.
 abbrev pub AreEventsOf : Option Order → Session → List Event → Type 0
 AreEventsOf (Some (Does (commands.Poke a w))) d events = events ≡ Poke a w ∷ []
 AreEventsOf (Some (Does (commands.Key b))) d events = events ≡ Key b ∷ []
@@ -135,7 +135,7 @@ AreEventsOf (Some (Does (commands.On n))) d events = AreStepsOn d d.left n event
 AreEventsOf (Some (Types bytes)) d events = events ≡ map Key bytes
 AreEventsOf other d events = events ≡ []
 
--- The events of lines in a session, one line after the other.
+-- `events` are the events of the lines in the session `d`, one line after the other.
 abbrev pub AreEventsOfLines : List (List ℕ) → Session → List Event → Type 0
 AreEventsOfLines [] d events = events ≡ []
 AreEventsOfLines (line ∷ lines) d events =
@@ -147,8 +147,8 @@ abbrev pub GoesOnAfter : List (List ℕ) → Type 0
 GoesOnAfter [] = ⊤
 GoesOnAfter (line ∷ lines) = (is_quit (order_of line) ≡ false) × GoesOnAfter lines
 
--- After these lines, a session over the machine s is in the state that their events give. The answers to all lines that
--- follow are those of a session in that state.
+-- After these lines, a session with the machine `s` is in the state after the events of the lines. The answers to all
+-- lines that follow are those of a session in that state.
 pub record ShowsTheTable (lines : List (List ℕ)) (s : State) : Type 0 where
   pub events : List Event
   pub named : AreEventsOfLines lines (opened s) events

@@ -1,4 +1,4 @@
--- Texts that are typed in a session.
+-- Laws of texts that are typed in a session with `type`.
 use Rattle.std.specs.Prelude.{◌≡◌, ◌==◌, ⊤, ℕ, false, List, [], ◌∷◌, ◌++◌, Ok, Some, codes}
 use Rattle.pm_machine.specs.State.{State}
 use Rattle.pm_debug.specs.Session.{Session}
@@ -7,7 +7,7 @@ use Rattle.pm_session.specs.Orders.Order.{Types}
 use Rattle.pm_session.specs.Answers.{answer_text, session_after}
 use Rattle.pm_tool.specs.Said.{debugged, said_debug}
 
--- `type "AB"` leaves the same session as `key 65` and then `key 66`, and has the same answer as each of them.
+-- `type "AB"` leaves the same session as `key 65` followed by `key 66`, and has the same answer as each of them.
 pub record IsTwoKeys (d : Session) : Type 0 where
   pub session : session_after (order_of (codes "type \"AB\"")) d
       ≡ session_after (order_of (codes "key 66")) (session_after (order_of (codes "key 65")) d)
@@ -22,8 +22,8 @@ abbrev pub IsOneLine : List ℕ → Type 0
 IsOneLine [] = ⊤
 IsOneLine (c ∷ line) = ((c == 10) ≡ false) × IsOneLine line
 
--- If the first line of a session is a `type`, its answer is `ok`. The other answers are those of a session on whose
--- console the bytes of the text wait from the start.
+-- If the first line of a session is a `type`, then its answer is `ok`. The other answers are those of a session whose
+-- console input queue contains the bytes of the text at the start.
 abbrev pub InputIsTyped : Type 0
 InputIsTyped = (typed line input : List ℕ) (machine : State) → IsOneLine line → order_of line ≡ Some (Types typed)
     → (debugged machine (line ++ 10 ∷ input)).written

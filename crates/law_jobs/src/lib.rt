@@ -1,7 +1,7 @@
-//! Laws about whole jobs, which no lower crate can state. `round_trip` is about a text, its code file, and the text of
-//! this file. `loaded` is about a text and the memory of a machine. `sessions` and `debug` are about the lines of a
-//! session and the events of the table. `trace` is about the lines of a trace. `tool` and `streams` are about a run
-//! with its images and its input. The functions do nothing.
+//! Laws about whole jobs. `round_trip` is about a text, its code file, and the text of this file. `loaded` is about a
+//! text and the memory of a machine. `sessions` and `debug` are about the lines of a debugger session. `trace` is about
+//! the lines of a trace. `tool` and `streams` are about a run, its images and its input. Each function has an empty
+//! body.
 #![tactic(auto)]
 
 pub mod debug;

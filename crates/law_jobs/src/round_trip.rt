@@ -4,14 +4,15 @@ ghost use Rattle.law_jobs.specs.Refusals.{JumpsTellFirst, LinesTellFirst, TextsT
 ghost use Rattle.law_jobs.specs.RoundTrip.{AssembledIsShownAgain, NamedIsShownAgain, NamesSayNothing};
 ghost use Rattle.law_jobs.specs.RoundTrip.{ShownFileIsSpelled};
 
-/// Take a program whose segments have at most 65,534 bytes each. The text that the disassembler shows for its code file
-/// spells a program with the same code file, whose segments have the same numbers, names and bytes. A segment whose
-/// items are all instructions is the same in both programs. If this holds for all segments, both programs are the same.
+/// If the segments of a program have at most 65,534 bytes each, then the disassembler's text of its code file spells a
+/// program with the same code file. The segments of both programs have the same numbers, names and bytes. A segment
+/// whose items are all instructions is the same in both programs. If this holds for all segments, both programs are the
+/// same.
 pub fn shown_file_is_spelled()
     ensures law { ShownFileIsSpelled }
 {}
 
-/// The text that the disassembler shows for an assembled code file is assembled to the same code file.
+/// The disassembler's text of an assembled code file is assembled to the same code file.
 pub fn assembled_is_shown_again()
     ensures law { AssembledIsShownAgain }
 {}
@@ -25,23 +26,27 @@ pub fn names_say_nothing()
     ensures again { NamedIsShownAgain }
 {}
 
-/// The faults of a line with a statement begin with the first of these four that holds. The first is `Syntax`: the line
-/// is out of place, or begins a procedure that no later line ends. The second is `Unknown`: its type word is unknown.
-/// The third is `Twice`: it repeats a slot, a label or the exit code. The fourth is `Range`: a number is out of range,
-/// a procedure has another number than the next one, or it ends with an odd length or a wrong count of entries. If none
-/// of the four holds, the line has no fault.
+/// The first fault of a line with a statement is the first of these four whose condition holds:
+///
+/// - `Syntax`: the line is out of place, or begins a procedure that no later line ends.
+/// - `Unknown`: the type word of the line is unknown.
+/// - `Twice`: the line repeats a slot, a label or the exit code.
+/// - `Range`: a number is out of range, the number of a procedure is not the next number, or a procedure ends with an
+///   odd length or a wrong count of entries.
+///
+/// If none of these conditions holds, the line has no fault.
 pub fn lines_tell_first()
     ensures law { LinesTellFirst }
 {}
 
-/// The faults of a jump begin with `NoLabel` if its procedure does not have its label. If the procedure has the label,
-/// but the label is too far from the jump, the only fault is `Far`.
+/// If the procedure of a jump does not have the label of the jump, then the first fault of the jump is `NoLabel`. If
+/// the procedure has the label, but the label is too far from the jump, then the only fault is `Far`.
 pub fn jumps_tell_first()
     ensures law { JumpsTellFirst }
 {}
 
-/// If a line of a text has a fault, the faults of the text begin with the first fault of its lines. If no line has a
-/// fault, the faults of the text are those of its labels.
+/// If a line of a text has a fault, then the first fault of the text is the first fault of its lines. If no line has a
+/// fault, then the faults of the text are the faults of its labels.
 pub fn texts_tell_first()
     ensures law { TextsTellFirst }
 {}

@@ -1,4 +1,4 @@
-//! A law about streams. The function does nothing.
+//! A law about streams. The function has an empty body.
 ghost use Rattle.std.specs.Prelude.{◌≡◌};
 
 use pm_jobs::INPUT_LIMIT;

@@ -1,4 +1,5 @@
--- The contents of files after a job of the program, by their bytes only.
+-- The contents of files after a job of the program. A record of type `Said` has the results that the specification of a
+-- job states.
 use Rattle.std.specs.Prelude.{◌≡◌, ℕ, List, [], ◌∷◌, Option, None, Some, String, Vec}
 use Rattle.std.specs.Prelude.{option_map, string_bytes, vec_items}
 use Rattle.std.specs.declared.alloc.Global.{Global}
@@ -15,8 +16,8 @@ use Rattle.pm_jobs.specs.declared.saving.Saving.TheVariants as savings
 use Rattle.pm_plan.specs.declared.file_words.Verb.{Verb}
 use Rattle.pm_plan.specs.declared.file_words.Verb.TheVariants as verbs
 
--- The result that the definition of a verb of `files` gives for the bytes of its file and the input. A new volume is
--- defined by the input only.
+-- Returns the results that the specification of the verb states for its file `image` and `input`. The results for a new
+-- volume depend only on `input`.
 abbrev pub said_verb : List ℕ → Verb → List ℕ → Said
 said_verb image (verbs.Command command) input = said_files image (order_of command) input
 said_verb image (verbs.New name blocks) input =
@@ -24,33 +25,33 @@ said_verb image (verbs.New name blocks) input =
 said_verb image verbs.Repair input = said_repair image input
 said_verb image verbs.Check input = said_check image input
 
--- The new bytes of a file if there are any, otherwise its old bytes.
+-- Returns the new bytes of a file if they are given, and its old bytes otherwise.
 abbrev pub left_in : List ℕ → Option (List ℕ) → List ℕ
 left_in old None = old
 left_in old (Some new) = new
 
--- A file has the image of the outcome if there is one, otherwise its old bytes.
+-- The file has the image of `outcome` if it has one, and its old bytes otherwise.
 abbrev pub SavesIn : List ℕ → List ℕ → Outcome → Type 0
 SavesIn old new outcome = new ≡ left_in old (option_map vec_items outcome.image)
 
--- The image of an outcome that the file of unit 4 gets. There is none if the image of this unit is not to be saved.
+-- Returns the image that is saved for unit 4. It is `None` if the image of unit 4 is not selected.
 abbrev pub fourth_saved : Saving → Option (List ℕ) → Option (List ℕ)
 fourth_saved savings.Nothing image = None
 fourth_saved savings.First image = image
 fourth_saved savings.All image = image
 fourth_saved savings.Others image = None
 
--- The file of a disk on unit 4 has the image of the outcome if it is to be saved and there is one, otherwise its old
--- bytes.
+-- The file of the disk on unit 4 has the image of `outcome` if the image is selected and exists, and its old bytes
+-- otherwise.
 abbrev pub SavesDisk : Saving → List ℕ → List ℕ → Outcome → Type 0
 SavesDisk saving old new outcome = new ≡ left_in old (fourth_saved saving (option_map vec_items outcome.image))
 
--- A file has its old bytes if the job was cut short.
+-- If the job was cut short, then the file has its old bytes.
 abbrev pub StaysWhereCut : List ℕ → List ℕ → Outcome → Type 0
 StaysWhereCut old new outcome = IsCutShort outcome.exit → new ≡ old
 
--- The bytes of the file of a disk after a run. They are those of the definition of the run for only this disk, on unit
--- 4, and the input, or the old bytes.
+-- `file` is the bytes of the file of the disk after a run. They are the image that the specification of the run states
+-- for `input` and for only this disk, on unit 4. If it states no image, they are the old bytes.
 abbrev pub LeavesRun : List ℕ → String Global → ℕ → Saving → List ℕ → List ℕ → Type 0
 LeavesRun image name limit saving input file = (disks : List (Option (Vec ℕ Global)))
     × (images_of disks ≡ Some image ∷ None ∷ None ∷ None ∷ None ∷ None ∷ [])

@@ -1,4 +1,4 @@
-//! Jobs of the program on stores in memory. The contracts state which bytes the files have after the job.
+//! Jobs of the program on file stores in memory. The contracts state which bytes the files have after the job.
 
 ghost use Rattle.std.specs.Prelude.{◌≡◌, IfOk, OnErr};
 ghost use Rattle.pm_tool.specs.Said.{IsSoundExit};
@@ -15,24 +15,24 @@ use std::alloc::Global;
 /// The result of a command on a file.
 #[derive(Drop)]
 pub struct OnFile {
-    /// The outcome of the job, or the reason why the file could not be read or written.
+    /// The outcome of the job, or the fault if the file could not be read or written.
     pub done: Result<Outcome, DiskFault>,
     /// The bytes that the file has after the job.
     pub file: Vec<u8>,
 }
 
-/// The path of the only file.
+/// The path of the only file of the store.
 const FILE: &str = "file";
 
-/// Executes a verb of `files` on a file with these bytes, with this input.
+/// Executes `verb` of `files` on a file with the bytes `image`. The input of the job is `typed`.
 ///
-/// - If the job has an outcome with an image, the file has this image afterwards.
+/// - If the job has an outcome with an image, then the file has this image after the job.
 /// - If the outcome has no image, the file has its old bytes.
-/// - If the outcome is neither a stream failure nor out of memory, the file has the image that the definition of the
-///   verb results in for the old bytes and the input. If this image is missing, the file has its old bytes.
+/// - If the outcome is neither a stream failure nor out of memory, then the file has the image that the definition of
+///   the verb states for `image` and `typed`. If the definition states no image, the file has its old bytes.
 /// - After a stream failure or out of memory, or if the file cannot be read or written, the file has its old bytes.
 ///
-/// The clauses state nothing about the file if the call itself returns an error.
+/// If the call itself returns an error, the clauses state nothing about the file.
 pub fn on_file(alloc: Global, image: Vec<u8>, typed: &[u8], verb: Verb) -> Result<OnFile, DiskFault>
     ensures unchanged { IfOk result (λ came. OnErr came.done (came.file.items ≡ image.items)) }
     ensures cut { IfOk result (λ came. IfOk came.done (StaysWhereCut image.items came.file.items)) }
@@ -53,18 +53,18 @@ pub fn on_file(alloc: Global, image: Vec<u8>, typed: &[u8], verb: Verb) -> Resul
     Ok(OnFile { done, file })
 }
 
-/// Runs the program with this name on a disk with these bytes, with this input, for at most `limit` steps.
+/// Runs the program `name` on a disk with the bytes `image` on unit 4, with the input `typed`, for at most `limit`
+/// steps.
 ///
-/// - If the job has an outcome with an image, and the image of unit 4 is to be saved, the file has this image
-///   afterwards.
-/// - In all other outcomes the file has its old bytes.
-/// - If the outcome is neither a stream failure nor out of memory, the file has the image that the definition of the
-///   run results in. The definition is that for the input and only this disk, on unit 4. If it has no image, the file
-///   has its old bytes.
+/// - If the job has an outcome with an image, and `saving` selects the image of unit 4, then the file has this image
+///   after the job.
+/// - In all other outcomes, the file has its old bytes.
+/// - If the outcome is neither a stream failure nor out of memory, then the file has the image that the definition of
+///   the run states for `typed` and for only this disk. If the definition states no image, the file has its old bytes.
 /// - After a stream failure or out of memory, the file has its old bytes.
 ///
-/// The clauses state nothing about the file if the file cannot be read or written, or if the call itself returns an
-/// error.
+/// If the file cannot be read or written, or if the call itself returns an error, the clauses state nothing about the
+/// file.
 pub fn on_disk(
     alloc: Global,
     image: Vec<u8>,

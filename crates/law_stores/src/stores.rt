@@ -1,4 +1,4 @@
-//! Stores in memory of one file and of two files. The contracts can state what these stores hold.
+//! File stores in memory with one file and with two files. Contracts can state which bytes their files have.
 
 ghost use Rattle.std.specs.Prelude.{◌≡◌, IfErr, IfOk, None, Some, false, map, option_map, string_bytes, vec_items};
 ghost use Rattle.std.specs.Str.{bytes_eq};
@@ -8,7 +8,7 @@ use pm_files::{DiskFault, Store};
 use std::alloc::Global;
 use std::io::ErrorKind;
 
-/// A store with one path, and the bytes of the file at this path, if there is one.
+/// A store with one path. `bytes` is the contents of the file at this path, or `None` if no file exists.
 #[derive(Drop)]
 pub struct OneFile {
     pub path: String,
@@ -16,7 +16,7 @@ pub struct OneFile {
     pub alloc: Global,
 }
 
-/// Returns a copy of the bytes of a file. It returns `Read(NotFound)` only if there is no file.
+/// Returns a copy of `bytes`, the contents of a file. Returns `Read(NotFound)` only if `bytes` is `None`.
 fn copied(alloc: Global, bytes: &Option<Vec<u8>>) -> Result<Vec<u8>, DiskFault>
     ensures value { IfOk result (λ copy. option_map vec_items bytes.now ≡ Some copy.items) }
     ensures missing { IfErr result (λ fault.
@@ -81,13 +81,13 @@ impl Store for OneFile {
     }
 }
 
-/// A store with two paths, and the bytes of the files at these paths, if there are any. If both paths are equal, only
-/// the first file is used. The store records which paths are locked.
+/// A store with two paths and the contents of the files at these paths. If both paths are equal, only the first file is
+/// used. The store records which paths are locked.
 #[derive(Drop)]
 pub struct TwoFiles {
     pub first: OneFile,
     pub second: OneFile,
-    /// The paths that are locked, in the order in which they were locked.
+    /// The locked paths, in the order in which they were locked.
     pub held: Vec<String>,
     pub alloc: Global,
 }
@@ -154,7 +154,7 @@ impl Store for TwoFiles {
     }
 }
 
-/// Writes a file and reads it back. If both succeed, the bytes that it returns are the bytes that it wrote.
+/// Writes `bytes` to the file at `path` and reads the file. If both succeed, it returns `bytes`.
 pub fn round(
     alloc: Global,
     store: &mut OneFile,

@@ -1,4 +1,5 @@
--- The instructions of a procedure are the parts of its code, for any bytes after it.
+-- Lemmas: the instructions of a procedure are read from its code again, for any bytes after it. A *part* is a piece of
+-- the bytes that is read as one item. A *forced offset* is an offset at which an item must begin.
 use Rattle.std.proofs.Common.{◌≡◌, ◌<◌, ◌≤◌, ℕ, ◌+◌, ◌-◌, ◌⊎◌, Bool, true, false, ltb, eqb, List, [], ◌∷◌, ◌++◌}
 use Rattle.std.proofs.Common.{length, take, refl, sym, ap, ◌∙◌, arith, inl, inr, append_assoc, Option, Some}
 use Rattle.std.specs.Prelude.{◌&&◌, nat_lt}
@@ -13,7 +14,7 @@ use Rattle.pm_code.proofs.Sizes.{length-item, size-some, length-code}
 use Rattle.pm_disasm.proofs.Read.{instruction_is_read}
 use Rattle.pm_code.proofs.ItemBytes.{either}
 
--- The parts of items.
+-- Returns the parts that the bytes of the items are read as, from the offset `at` on.
 abbrev pub parts_of_items : ℕ → List (Item ℕ) → List Part
 parts_of_items at [] = []
 parts_of_items at (item ∷ items) = record { at = at; bytes = item_bytes at item; item = Some item } ∷ parts_of_items (at + size at item) items
@@ -28,7 +29,7 @@ passed : (forced : List ℕ) (at : ℕ) (xs ys : List ℕ) (next : ℕ) → next
 passed forced at [] ys next e = ap (λ n. parts forced 0 n ys) (omega arith)
 passed forced at (x ∷ xs) ys next e = passed forced (at + 1) xs ys next (omega arith)
 
--- An instruction that is read is one part.
+-- If an instruction is read from the bytes `xs`, then these bytes are one part.
 one_part : (forced : List ℕ) (at : ℕ) (xs ys : List ℕ) (n : ℕ) (item : Option (Item ℕ)) → length xs ≡ n → 0 < n
     → taken forced at (xs ++ ys) ≡ Some (record { size = n; item = item })
     → parts forced 0 at (xs ++ ys) ≡ record { at = at; bytes = xs; item = item } ∷ parts forced 0 (at + n) ys
@@ -45,7 +46,7 @@ uncut_is : (forced : List ℕ) (at : ℕ) (n : ℕ) (item : Option (Item ℕ)) �
     → uncut forced at (Some (record { size = n; item = item })) ≡ Some (record { size = n; item = item })
 uncut_is forced at n item e = rw e refl
 
--- The code of items is split into them, followed by the parts of the rest.
+-- The bytes of the items are read as the parts of these items, followed by the parts of the bytes after them.
 pub split_again : (forced : List ℕ) (at : ℕ) (items : List (Item ℕ)) (rest : List ℕ) → AreItems at items → AreInstructions items → AreWhole forced at items
     → parts forced 0 at (code_bytes at items ++ rest) ≡ parts_of_items at items ++ parts forced 0 (end_of at items) rest
 split_again forced at [] rest h i w = refl
@@ -76,7 +77,7 @@ earlier at (item ∷ items) place h = elim (either (eqb at place) (is_among (bou
   | inr e ↦ earlier (at + size at item) items place e
 ]
 
--- An offset at a boundary, or before the code.
+-- The offset is a boundary of the items, or is not after the beginning of the code.
 abbrev Clear : ℕ → List (Item ℕ) → ℕ → Type 0
 Clear at items place = (place ≤ at) ⊎ IsIn (boundaries at items) place
 

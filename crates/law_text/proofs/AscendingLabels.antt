@@ -1,4 +1,4 @@
--- The faults of labels ascend if the lines spell the segments that they belong to.
+-- Lemmas: the faults of labels ascend by their lines, if the lines spell the segments of the labels.
 use Rattle.std.proofs.Common.{◌≡◌, ◌≤◌, ◌+◌, ℕ, Bool, true, false, List, [], ◌∷◌, ◌++◌, map, refl, sym, subst, arith, append_assoc, ap, Option, Some, None}
 use Rattle.std.specs.Prelude.{if◌then◌else◌, ◌||◌}
 use Rattle.std.specs.List.{list_all, list_any}
@@ -25,7 +25,7 @@ use Rattle.law_text.specs.Same.{AscendFrom, FaultsAscend}
 use Rattle.law_text.proofs.Ascending.{AreAt, before, both, line_faults_ascend, lower, one}
 use Rattle.pm_source.proofs.Exactly.{faultless_is_said}
 
--- The statement names its line.
+-- The statement is in line `n`, if it has a line.
 abbrev IsOf : ℕ → Statement → Type 0
 IsOf n (Code (Items line label items)) = line ≡ n
 IsOf n (Entry line name) = line ≡ n
@@ -166,7 +166,7 @@ items_at : (n : ℕ) (places : Places) (at : ℕ) (items : List (Item Name)) →
 items_at n places at [] = tt
 items_at n places at (item ∷ items) = both n _ _ (item_at n places at item) (items_at n places (at + size at item) items)
 
--- The faults `more` ascend from every line from which the statements `said` after the part ascend.
+-- The faults `more` ascend from each line from which the statements `said` ascend.
 abbrev Behind : List Statement → List AsmFault → Type 0
 Behind said more = (m : ℕ) → StandFrom m said → AscendFrom m more
 

@@ -1,4 +1,4 @@
--- Spaces and tabs between operands and between parts of a line have no meaning.
+-- Lemmas: spaces and tabs between operands and between words of a line have no meaning.
 use Rattle.std.proofs.Common.{◌≡◌, ℕ, Bool, true, false, List, [], ◌∷◌, ◌++◌, map, refl, sym, ap, ◌∙◌, arith, append_assoc}
 use Rattle.std.specs.Prelude.{not, ◌==◌, ◌&&◌, if◌then◌else◌}
 use Rattle.std.specs.List.{onto_first}
@@ -29,7 +29,8 @@ before c rest h =
     ap (λ cs. if is_empty cs then [] else map trimmed (pieces false (c ∷ rest))) off
     ∙ ap (λ ts. if is_empty (unindented rest) then [] else ts) (front_trimmed c rest h)
 
--- The pieces of a text are those before a comma and those after it.
+-- If the first list of pieces is not empty, then a character that is added to the first piece of both lists is added to
+-- the first list.
 onto_some : (x : ℕ) (ps qs : List (List ℕ)) → is_empty ps ≡ false → onto_first x (ps ++ qs) ≡ onto_first x ps ++ qs
 onto_some x [] qs e = absurd (cc)
 onto_some x (p ∷ ps) qs e = refl
@@ -92,7 +93,7 @@ before_comma c front rest h k =
     ∙ ap (λ ts. ts ++ map trimmed (pieces false rest)) (ap (map trimmed) (pieces_end c false front h) ∙ trimmed_last c (pieces false front) h)
     ∙ sym (around_comma front rest k)
 
--- Parts that are split at spaces.
+-- A space or tab before another space or tab does not change the words of a text.
 twice : (c d : ℕ) (front rest : List ℕ) → is_blank c ≡ true → is_blank d ≡ true → words (front ++ c ∷ d ∷ rest) ≡ words (front ++ d ∷ rest)
 twice c d [] rest h k = rw h refl
 twice c d (x ∷ []) rest h k =

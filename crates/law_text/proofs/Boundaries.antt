@@ -1,4 +1,6 @@
--- The forced offsets are boundaries of the written items, and so is each offset that a written jump names.
+-- Lemmas: each forced offset, and each offset to which a written jump refers, is a boundary of the written items. A
+-- *boundary* is an offset at which an item begins, or the end. A *forced offset* is an offset at which an item must
+-- begin.
 use Rattle.std.proofs.Common.{◌≡◌, ◌<◌, ◌≤◌, ℕ, zero, suc, ◌+◌, ◌-◌, Bool, true, false, cond, ltb, eqb, List, [], ◌∷◌}
 use Rattle.std.proofs.Common.{◌++◌, length, map, take, refl, sym, ◌∙◌, subst, arith, inl, inr, IfSome, Option, Some, None}
 use Rattle.std.specs.Prelude.{◌&&◌, ◌||◌, nat_lt}
@@ -14,7 +16,7 @@ use Rattle.pm_code.proofs.ItemBytes.{all-append, either}
 use Rattle.pm_disasm.proofs.Fronts.{Fronts, fronts}
 use Rattle.pm_disasm.proofs.Joined.{still, Joins, part_joins}
 
--- What is read is not cut at a forced offset.
+-- No forced offset is inside the instruction that is read at `at`.
 abbrev Whole : List ℕ → ℕ → Front → Type 0
 Whole forced at f = (place : ℕ) → IsIn forced place → at < place → at + f.size ≤ place
 
@@ -56,7 +58,7 @@ pub or_right : (a b : Bool) → b ≡ true → (a || b) ≡ true
 or_right true b e = refl
 or_right false b e = e
 
--- A forced offset in the code or after it is the beginning of a part, or the end.
+-- If a forced offset is in the code or at its end, then a part begins at this offset, or the code ends there.
 forced_ends : (forced : List ℕ) (skip at : ℕ) (bytes : List ℕ) (place end : ℕ) → AllByRecursion IsByte bytes → IsIn forced place → at + skip ≤ place
     → place ≤ end → end ≡ at + length bytes → IsIn (ends_of end (parts forced skip at bytes)) place
 forced_ends forced skip at [] place end b h low high e = let t : eqb end place ≡ true = eq-eqb _ _ (omega arith) in rw t refl
@@ -179,12 +181,12 @@ pub all-map : {A : Type 0} (P Q : A → Type 0) (xs : List A) → ((x : A) → P
 all-map P Q [] f h = tt
 all-map P Q (x ∷ xs) f h = (f x h.0, all-map P Q xs f h.1)
 
--- Names among some offsets are names among more offsets.
+-- If items refer only to offsets in `xs`, and `xs` is contained in `ys`, then they refer only to offsets in `ys`.
 pub named_then : (xs ys : List ℕ) (items : List (Item ℕ)) → ((place : ℕ) → IsIn xs place → IsIn ys place) → AllByRecursion (NamesWithin xs) items
     → AllByRecursion (NamesWithin ys) items
 named_then xs ys items f h = all-map (NamesWithin xs) (NamesWithin ys) items (λ item k. all-map (IsIn xs) (IsIn ys) (item_places item) f k) h
 
--- Each offset that a written jump names is a boundary of the written items.
+-- Each offset to which a written jump refers is a boundary of the written items.
 pub jumps_written : (forced : List ℕ) (allowed : Bool) (at : ℕ) (code : List ℕ) → AllByRecursion IsByte code
     → AllByRecursion (NamesWithin (boundaries at (items_in forced allowed at code))) (items_in forced allowed at code)
 jumps_written forced allowed at code b =

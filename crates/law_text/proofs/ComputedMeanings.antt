@@ -1,4 +1,4 @@
--- What statements state that they do, computed.
+-- Proofs of the worked examples of what statements state.
 use Rattle.std.proofs.Common.{refl}
 use Rattle.law_text.specs.Meaning.{frame_there, values_said, word_there}
 use Rattle.law_text.specs.WorkedMeanings.{WorkedMeanings}

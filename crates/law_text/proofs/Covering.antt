@@ -1,4 +1,4 @@
--- The lines of a procedure follow each other from its first byte to the end of its table.
+-- Lemmas: the lines of a procedure follow each other without gaps from its first byte to the end of its table.
 use Rattle.std.proofs.Common.{◌≡◌, ◌≤◌, ℕ, ◌+◌, ◌-◌, ◌*◌, Bool, true, false, cond, leb, List, [], ◌∷◌, ◌++◌, length}
 use Rattle.std.proofs.Common.{drop, take, reverse, refl, sym, ap, ◌∙◌, subst, arith, append-nil, append_assoc, drop-drop, Option, Some, None, IfSome}
 use Rattle.std.specs.Prelude.{codes}
@@ -29,7 +29,8 @@ use Rattle.law_text.proofs.ShownSegment.{AllFound, shown_well}
 use Rattle.law_text.proofs.Standing.{dictionary_there}
 use Rattle.law_text.specs.ListingLaws.{LinesCoverProcedures, LinesCoverSegments}
 
--- Lines that follow each other from offset `at` to offset `end`, with the bytes of the segment at their offsets.
+-- The lines follow each other from the offset `at` to the offset `end`, and have the bytes of the segment at their
+-- offsets.
 record Covers (segment : List ℕ) (at end : ℕ) (lines : List Listed) : Type 0 where
   within : at ≤ end
   placed : StandFrom at lines
@@ -41,7 +42,8 @@ module _ (segment : List ℕ) where
       let no : end - at ≡ 0 = omega arith in
       record { within = omega arith; placed = tt; bytes = ap (λ n. take n (drop at segment)) (sym no) }
 
-  -- One more line before the others.
+  -- If lines follow each other from `at + n` on, then a line of `n` bytes at `at` and these lines follow each other
+  -- from `at` on.
   line_covers : (number at n end : ℕ) (what : List ℕ) (lines : List Listed) → end ≤ length segment → Covers segment (at + n) end lines
       → Covers segment at end (stored segment number at n what ∷ lines)
   line_covers number at n end what lines short c =
@@ -128,7 +130,8 @@ lines_cover_procedures slot segment n a b found after =
 
 -- ---- a whole segment
 
--- The lines of procedures, followed by the lines `rest`.
+-- The lines of the procedures `ps`, followed by the lines `rest`, follow each other from the offset `at` to the offset
+-- `end`.
 record Follow (slot : ℕ) (segment : List ℕ) (number at end : ℕ) (ps : List Procedure) (rest : List Listed) : Type 0 where
   lines : List Listed
   text : tables_listing slot segment number (length ps) ++ listed_lines slot rest ≡ listed_lines slot lines

@@ -1,4 +1,4 @@
--- How a shown line is split into its first word and the text after it.
+-- Lemmas for how a line is split into its first word and the text after it.
 use Rattle.std.proofs.Common.{◌≡◌, ℕ, Bool, true, false, List, [], ◌∷◌, ◌++◌, refl, ap, ◌∙◌, arith, None}
 use Rattle.std.specs.Prelude.{◌&&◌, ◌==◌}
 use Rattle.std.specs.List.{list_all}
@@ -40,7 +40,7 @@ word_cut (c ∷ w) tail h t =
     let solid : is_blank c ≡ false = (wordly c parts.0).blank in
     rw solid (ap (onto_word c) (word_cut w tail parts.1 t))
 
--- The first word of a text that begins with a word.
+-- If a text begins with the word `w`, and `tail` ends a word, then it is split into `w` and `tail`.
 pub first_cut : (w tail : List ℕ) → is_empty w ≡ false → list_all is_name_character w ≡ true → ends_word tail ≡ true
     → cut (w ++ tail) ≡ record { word = w; rest = tail }
 unfolding cut
@@ -63,13 +63,13 @@ word_passes (c ∷ w) rest h =
     let quote = x.quote in
     rw (comment, quote) (ap (λ cs. c ∷ cs) (word_passes w rest parts.1))
 
--- The text after a word, without a comment.
+-- `tail` can be the text after a word, and has no comment.
 pub record IsRest (tail : List ℕ) : Type 0 where
   pub behind : ends_word tail ≡ true
   pub characters : list_all is_character tail ≡ true
   pub whole : uncommented false tail ≡ tail
 
--- How a text is split after its first word.
+-- The text is split into the first word `w` and the text `tail` after it.
 pub record IsCut (text w tail : List ℕ) : Type 0 where
   pub characters : list_all is_character text ≡ true
   pub whole : uncommented false text ≡ text
@@ -95,7 +95,7 @@ pub record IsFront (w : List ℕ) : Type 0 where
   pub plain : list_all is_name_character w ≡ true
   pub unmarked : label_of w ≡ None
 
--- A line that begins with a word.
+-- If a line begins with the word `w`, then its meaning is that of the keyword `w` with the text `tail` after it.
 pub spoken_line : (n : ℕ) (w tail : List ℕ) → IsFront w → IsRest tail → line_of n (w ++ tail) ≡ spoken n tail (keyword_of w)
 spoken_line n w tail f t =
     let some = f.some in

@@ -1,4 +1,4 @@
--- The characters of a listing denote its lines.
+-- Lemmas: the characters of a listing denote its lines.
 use Rattle.std.proofs.Common.{◌≡◌, ◌<◌, ◌≤◌, ℕ, ◌^◌, ◌+◌, ◌/◌, ◌%◌, Bool, true, false, List, [], ◌∷◌, ◌++◌}
 use Rattle.std.proofs.Common.{length, map, reverse, refl, sym, ap, subst, ◌∙◌, arith, append_assoc, Some}
 use Rattle.std.specs.Prelude.{◌==◌, if◌then◌else◌}
@@ -29,7 +29,7 @@ use Rattle.law_text.proofs.ShownProcedures.{IsLow, IsWhole, all_append, all_back
 use Rattle.law_text.proofs.ShownPrograms.{AreCharacters, IsWholeSegment, lines_joined, said_line, whole_segments}
 use Rattle.law_text.proofs.SpokenLines.{IsWritableItem, item_line, jump_entry_line}
 
--- Two hexadecimal digits.
+-- A hexadecimal digit that is written is read as its value.
 digit_again : (d : ℕ) → d < 16 → digit_value (upper_digit d) ≡ d
 digit_again d h = grind (arith, nat_tests)
 
@@ -64,7 +64,7 @@ pairs_characters (b ∷ bs) h =
     let low = digit_character (b % 16) (omega arith) in
     rw (high, low) (pairs_characters bs h.1)
 
--- A line without its line feed.
+-- Returns the text of a line of the listing, without its line feed.
 abbrev line_text : ℕ → Listed → List ℕ
 line_text number l = padded 2 number ++ (32 ∷ padded 3 l.procedure ++ (32 ∷ padded 5 l.at ++ (pairs_text l.bytes ++ (32 ∷ 32 ∷ l.what))))
 
@@ -130,7 +130,7 @@ line_characters number l n h =
     word_then : (w rest : List ℕ) → IsWord w → list_all is_character rest ≡ true → list_all is_character (w ++ rest) ≡ true
     word_then w rest k e = list_all-append is_character w rest ∙ and_turned _ _ (word_characters w k.plain) e
 
--- The lines of a program.
+-- Returns the texts of the lines of a program.
 abbrev texts_of : List Segment → List (List ℕ)
 texts_of [] = []
 texts_of (s ∷ ss) = map (line_text s.number) (listed_segment s) ++ texts_of ss
@@ -279,7 +279,7 @@ placed_again : (n at : ℕ) (ls : List Listed) → StandFrom at ls → ArePlaced
 placed_again n at [] h = tt
 placed_again n at (l ∷ ls) h = (h.0, placed_again n (at + length l.bytes) ls h.1)
 
--- The lines of a segment, in a program.
+-- The lines of segment `n` in the program `ss` denote its bytes at their offsets.
 record IsDenoted (n : ℕ) (ss : List Segment) : Type 0 where
   bytes : bytes_of_lines (of_segment n (denoted_program ss)) ≡ bytes_of_segment (segment_numbered n ss)
   placed : ArePlacedFrom 0 (of_segment n (denoted_program ss))

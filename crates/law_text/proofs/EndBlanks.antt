@@ -1,4 +1,4 @@
--- A space or tab after a line has no meaning.
+-- Lemmas: a space or tab after a line has no meaning.
 use Rattle.std.proofs.Common.{◌≡◌, ◌⊎◌, ℕ, Bool, true, false, List, [], ◌∷◌, ◌++◌, map, reverse, refl, ap, ◌∙◌, arith, inl, inr, None, Some, Option}
 use Rattle.std.specs.Prelude.{not, ◌==◌, ◌&&◌, if◌then◌else◌}
 use Rattle.std.specs.List.{list_all, onto_first}
@@ -14,7 +14,7 @@ use Rattle.pm_source.specs.Line.Keyword.{OfSegment, OfProcedure, OfExit, OfJump,
 use Rattle.pm_source.specs.Line.Line.{Blank}
 use Rattle.law_text.specs.Same.{EndBlankSaysNothing}
 
--- A text followed by a character, or the text itself.
+-- `xs` is `ys`, or `ys` followed by the character `c`.
 abbrev Ends : ℕ → List ℕ → List ℕ → Type 0
 Ends c xs ys = (xs ≡ ys) ⊎ (xs ≡ ys ++ c ∷ [])
 
@@ -89,7 +89,7 @@ cut_of : (c : ℕ) (xs ys : List ℕ) → is_blank c ≡ true → Ends c xs ys �
 unfolding cut
 cut_of c xs ys h e = word_of c (unindented xs) (unindented ys) h (unindented_of c xs ys h e)
 
--- Parts and operands.
+-- A space or tab after a text does not change its words.
 words_end : (c : ℕ) (xs : List ℕ) → is_blank c ≡ true → words (xs ++ c ∷ []) ≡ words xs
 words_end c [] h = rw h refl
 words_end c (x ∷ []) h =
@@ -102,7 +102,7 @@ onto_last c [] = []
 onto_last c (p ∷ []) = (p ++ c ∷ []) ∷ []
 onto_last c (p ∷ q ∷ ps) = p ∷ onto_last c (q ∷ ps)
 
--- There is at least one piece.
+-- A text has at least one piece.
 pub some_piece : (quoted : Bool) (xs : List ℕ) → is_empty (pieces quoted xs) ≡ false
 some_piece quoted [] = refl
 some_piece quoted (x ∷ xs) = by ((x == 44) && not quoted) (pieces (if x == 34 then not quoted else quoted) xs)
@@ -167,7 +167,7 @@ operands_end c xs h =
     ap (λ b. if b then [] else map trimmed (pieces false (xs ++ c ∷ []))) (blank_end c xs h)
     ∙ ap (λ ts. if is_empty (unindented xs) then [] else ts) (ap (map trimmed) (pieces_end c false xs h) ∙ trimmed_last c (pieces false xs) h)
 
--- Texts with the same operands and the same parts.
+-- The texts `a` and `b` have the same operands and the same words.
 pub record AreAlike (a b : List ℕ) : Type 0 where
   pub operands : operands a ≡ operands b
   pub words : words a ≡ words b

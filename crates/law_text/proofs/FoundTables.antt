@@ -1,4 +1,4 @@
--- The table of a procedure that is in a segment is found by its number.
+-- Lemmas: the table of a procedure in a segment is found by the number of the procedure.
 use Rattle.std.proofs.Common.{◌≡◌, ◌≤◌, ℕ, ◌+◌, ◌-◌, ◌*◌, ◌%◌, Bool, true, leb, List, [], ◌∷◌, ◌++◌}
 use Rattle.std.proofs.Common.{length, drop, reverse, refl, sym, ap, ◌∙◌, arith, drop-drop, Some}
 use Rattle.std.specs.Prelude.{◌&&◌, nat_le, slice_index, ◌==◌}
@@ -38,7 +38,8 @@ attributes_there segment number p s =
     ∙ ap (drop (length entries)) (table_there segment number p s).there
     ∙ drop-append_seam entries (attribute_bytes number p ++ s.rest)
 
--- The table that a word of the dictionary leads to.
+-- If a word of the dictionary leads to the table of a procedure in the segment, then the attributes of the procedure
+-- are found.
 pub table_found : (segment : List ℕ) (number at : ℕ) (p : Procedure) → StandsIn segment number p → 1 ≤ number → number ≤ procedures_in segment
     → at + (2 * number + 2) ≡ length segment → word_in segment at ≡ at - jtab_of p → jtab_of p ≤ at
     → attributes_in segment number ≡ Some (attributes_of number p)

@@ -1,4 +1,4 @@
--- The code file of a program holds the program.
+-- Lemmas: the code file of a program contains the program.
 use Rattle.std.proofs.Common.{◌≡◌, ◌<◌, ◌≤◌, ℕ, zero, suc, ◌+◌, ◌-◌, ◌%◌, Bool, true, false, All, List, [], ◌∷◌, length, map}
 use Rattle.std.proofs.Common.{take, replicate, get_or, refl, sym, ap, subst, ◌∙◌, arith, length-append, Option, Some, None}
 use Rattle.std.specs.Prelude.{◌==◌, ◌&&◌, nat_le, if◌then◌else◌, option_map, slice_range, sum}
@@ -24,7 +24,7 @@ use Rattle.pm_codefile.specs.Dictionary.{file_fault}
 use Rattle.pm_code.specs.Program.{IsProgram}
 use Rattle.pm_code.specs.Laws.{FileHoldsProgram, FileIsAccepted}
 
--- A slot of a program: no segment, or a valid one that is not too long.
+-- The slot has no segment, or a valid segment that is short enough.
 abbrev IsSlot : Option Segment → Type 0
 IsSlot None = Unit {0}
 IsSlot (Some s) = IsSegment s × (length (segment_bytes s) ≤ 65534)
@@ -45,7 +45,7 @@ slots_count : (n count : ℕ) (ss : List Segment) → length (slots_of n count s
 slots_count n zero ss = refl
 slots_count n (suc count) ss = ap suc (slots_count (n + 1) count ss)
 
--- A slot has the segment with its number.
+-- Slot `n + i` of a program has the segment with this number.
 slot_there : (n count i : ℕ) (ss : List Segment) → i < count → get_or (slots_of n count ss) i None ≡ segment_numbered (n + i) ss
 slot_there n zero i ss l = absurd (omega arith)
 slot_there n (suc count) zero ss l = let e : n ≡ n + 0 = omega arith in ap (λ k. segment_numbered k ss) e
@@ -70,7 +70,7 @@ name_eight (Some s) h =
     let few : length s.name ≤ 8 = leb-true _ _ (and_parts (nat_le 1 (length s.name)) (nat_le (length s.name) 8) parts.0).1 in
     omega (arith, length-append s.name (replicate (8 - length s.name) 32), length-replicate {A = ℕ} (8 - length s.name) 32)
 
--- The lengths are even and fit a word.
+-- Returns the length of the segment of a slot, which is even and fits a word.
 abbrev slot_length : Option Segment → ℕ
 slot_length slot = length (bytes_of_segment slot)
 
@@ -95,7 +95,7 @@ all_get P d [] none h k = none
 all_get P d (x ∷ xs) none h zero = h.0
 all_get P d (x ∷ xs) none h (suc k) = all_get P d xs none h.1 k
 
--- The segments are parts of their joined bytes.
+-- The sum of the lengths of the slots is the length of their joined bytes.
 lengths_joined : (slots : List (Option Segment)) → sum (map slot_length slots) ≡ length (joined_bytes slots)
 lengths_joined [] = refl
 lengths_joined (s ∷ slots) =
@@ -134,7 +134,7 @@ chosen (Some s) n part h e f =
 named : (name : List ℕ) (n : ℕ) → 0 < n → name_for name n ≡ name
 named name n h = let t : (n == 0) ≡ false = not_zero n h in rw t refl
 
--- A file of sixteen slots, which have the segments of a program.
+-- If sixteen slots have the segments of the program `ss`, then the file of these slots contains the program.
 slots_hold : (ss : List Segment) (slots : List (Option Segment)) → AllByRecursion IsSegment ss → length slots ≡ 16 → AllByRecursion IsSlot slots
     → ((i : ℕ) → i < 16 → get_or slots i None ≡ segment_numbered i ss)
     → Holds (layout (map name_of_segment slots) (map slot_length slots) (joined_bytes slots)) ss

@@ -1,4 +1,4 @@
--- The procedure that is shown.
+-- Lemmas for the count of jump table entries with which a procedure is shown.
 use Rattle.std.proofs.Common.{◌≡◌, ◌<◌, ◌≤◌, ℕ, zero, suc, ◌+◌, Bool, true, false, cond, max, List, [], ◌∷◌, ◌++◌}
 use Rattle.std.proofs.Common.{length, map, refl, sym, ap, ◌∙◌, subst, arith, inl, inr, Option, Some, None, IfSome}
 use Rattle.std.specs.List.{list_all}

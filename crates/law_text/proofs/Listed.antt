@@ -1,4 +1,4 @@
--- The bytes of a listing are those of the segment, each line at the offset that it names.
+-- Lemmas: the bytes of a listing are the bytes of the segment, each line at the offset that it states.
 use Rattle.std.proofs.Common.{◌≡◌, ℕ, ◌+◌, ◌*◌, List, [], ◌∷◌, ◌++◌, length, reverse, refl, sym, ap, ◌∙◌, subst, arith, append_assoc}
 use Rattle.std.proofs.lemmas.List.{length-reverse}
 use Rattle.pm_code.specs.Item.{Item, item_bytes, size}

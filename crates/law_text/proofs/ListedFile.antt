@@ -1,4 +1,4 @@
--- The bytes that a listing denotes are those of the code file.
+-- Lemmas: the bytes that a listing denotes are the bytes in the code file.
 use Rattle.std.proofs.Common.{◌≡◌, [], refl, sym, ap, subst, ◌∙◌, Option, Some, None}
 use Rattle.std.specs.Prelude.{option_map}
 use Rattle.std.specs.Option.{unwrap_or}

@@ -1,4 +1,4 @@
--- Statements do what their text states.
+-- Lemmas: statements do what their text states. A *rule* is the definition of what an instruction does.
 use Rattle.std.proofs.Common.{◌≡◌, ◌≢◌, ◌<◌, ◌≤◌, inl, inr, ℕ, zero, suc, ◌+◌, ◌-◌, ◌*◌, ◌/◌, ◌%◌, ◌&&◌, ◌==◌, Bool, true, false, not, cond, drop, set}
 use Rattle.std.proofs.Common.{append-nil, nat_lt, List, [], ◌∷◌, ◌++◌, length, get_or, Result, Ok, Err, refl, sym, ap, ◌∙◌, subst, arith, length-append}
 use Rattle.std.specs.Prelude.{int_le, Option, Some, None}
@@ -95,7 +95,7 @@ abbrev OnStack : List ℕ → ℕ → List ℕ → Type 0
 OnStack m sp [] = Unit {0}
 OnStack m sp (w ∷ ws) = (word_at m sp ≡ w) × OnStack m (sp + 2) ws
 
--- Words on the stack, and the words above them.
+-- If words are on the stack, then a first part of them is on the stack, and the others are above it.
 parted : (m : List ℕ) (sp : ℕ) (ws vs : List ℕ) → OnStack m sp (ws ++ vs) → OnStack m sp ws × OnStack m (sp + 2 * length ws) vs
 parted m sp [] vs h = let e : sp + 2 * length {A = ℕ} [] ≡ sp = omega arith in (tt, subst (λ a. OnStack m a vs) (sym e) h)
 parted m sp (w ∷ ws) vs h =
@@ -103,7 +103,7 @@ parted m sp (w ∷ ws) vs h =
     let e : sp + 2 + 2 * length ws ≡ sp + 2 * length (w ∷ ws) = omega arith in
     ((h.0, more.0), subst (λ a. OnStack m a vs) e more.1)
 
--- A word that is written below the words on the stack.
+-- If a word is written below words on the stack, then these words are still on the stack.
 beside : (m : List ℕ) (sp a w : ℕ) (vs : List ℕ) → a % 2 ≡ 0 → sp % 2 ≡ 0 → a < sp → OnStack m sp vs → OnStack (with_word m a w) sp vs
 beside m sp a w [] even there below h = tt
 beside m sp a w (v ∷ vs) even there below h =
@@ -132,7 +132,7 @@ pushes m sp np w even room =
 
 -- ---- rules
 
--- The result that a rule must have that puts a value on the stack.
+-- Returns the result that a rule must have that pushes the stated value.
 abbrev put : List ℕ → ℕ → Said ℕ → Said (List ℕ × ℕ)
 put m above said = then_said said (λ w. Gives (with_word m (above - 2) w, above - 2))
 
@@ -143,7 +143,7 @@ record Fits (m : List ℕ) (sp above : ℕ) (ws : List ℕ) : Type 0 where
   low : above ≤ 65504
   there : OnStack m sp ws
 
--- The first operand of a rule, popped.
+-- If operands are on the stack, then popping a word returns the first operand.
 first_pop : (m : List ℕ) (sp above w : ℕ) (ws : List ℕ) → Fits m sp above (w ∷ ws) → pop m sp ≡ Ok (taken w (sp + 2))
 first_pop m sp above w ws f =
     let is = f.is in
@@ -159,7 +159,7 @@ rest_fits m sp above w ws f =
 none_left : (m : List ℕ) (sp above : ℕ) → Fits m sp above [] → above ≡ sp
 none_left m sp above f = let is = f.is in omega (arith, is)
 
--- The end of a rule that puts a value on the stack.
+-- If a rule ends by pushing a value that agrees with the stated value, then its result agrees with the statement.
 ends : (m : List ℕ) (sp np above : ℕ) → Fits m sp above [] → np + 2 ≤ above → (x : Said ℕ) (r : Result ℕ ExecError) → Agrees x r
     → Agrees (put m above x) (r >>= λ w. push m sp np w)
 ends m sp np above f room x r h = agrees_then x r _ _ h (λ w e.
@@ -396,7 +396,7 @@ record Fetched (s : State) (ipc at : ℕ) (item : Item ℕ) : Type 0 where
   operation : IsSame (item_operation at item) (operation_of instruction)
   bytes : instruction.len ≡ size at item
 
--- A byte of the memory that is not on the free stack.
+-- If memory differs from that of `s` only on the free stack, then a byte that is not on the free stack is the same.
 like_byte : (s : State) (t : List ℕ) (a : ℕ) → IsStack s.registers.sp s.registers.np → IsLike s t → is_free s a ≡ false → byte_at t a ≡ byte_at s.memory a
 like_byte s t a stack like away = elim (cases_Bool (is_even a)) [
   | inl even ↦
@@ -415,7 +415,7 @@ like_byte_there : (s : State) (t : List ℕ) (a b : ℕ) → IsStack s.registers
 unfolding byte_at
 like_byte_there s t a b stack like away is = like_byte s t a stack like away ∙ is
 
--- Bytes that are in memory, which continues after them.
+-- If bytes are in memory outside the free stack, then the memory from `a` on begins with them.
 there_on : (s : State) (t : List ℕ) (a : ℕ) (bs : List ℕ) → IsStack s.registers.sp s.registers.np → IsLike s t → StandThere s a bs
     → drop a (bytes_of t) ≡ bs ++ drop (a + length bs) (bytes_of t)
 there_on s t a [] stack like h = let e : a + length {A = ℕ} [] ≡ a = omega arith in ap (λ k. drop k (bytes_of t)) (sym e)
@@ -436,7 +436,7 @@ same_parity origin at even = ap (λ n. n == 1) (parity origin at even)
     parity : (origin at : ℕ) → origin % 2 ≡ 0 → (origin + at) % 2 ≡ at % 2
     parity origin at even = omega (arith, even)
 
--- An instruction whose spelling is in memory.
+-- If the spelling of an instruction is in memory outside the free stack, then the instruction is fetched.
 spelled_there : (s : State) (origin at : ℕ) (i : Instr) (named : List ℕ) → IsStack s.registers.sp s.registers.np → origin % 2 ≡ 0
     → in_range (form_of i.op) i ≡ true → (names_bytes (form_of i.op) ≡ true → length named ≡ i.count)
     → StandThere s (origin + at) (spelling (is_odd at) 0 i named) → (t : List ℕ) → IsLike s t
@@ -527,7 +527,7 @@ record Holds (s : State) (vs : List ℕ) (ipc : ℕ) (u : State) : Type 0 where
   there : OnStack u.memory (s.registers.sp - 2 * length vs) vs
   others : u ≡ record s { memory = u.memory; registers = u.registers; steps = u.steps }
 
--- A machine that runs, with a valid stack.
+-- The machine runs, and its stack is valid.
 record Ready (s : State) : Type 0 where
   running : s.status ≡ status.Running
   stack : IsStack s.registers.sp s.registers.np
@@ -538,13 +538,13 @@ is_running s u vs ipc ready h = ap (λ (x : State). x.status) h.others ∙ ready
 next_ipc : (origin at len : ℕ) → ((origin + at) % 65536 + len) % 65536 ≡ (origin + (at + len)) % 65536
 next_ipc origin at len = omega arith
 
--- What is fetched after some operands.
+-- After operands were executed, the instruction of the item is fetched.
 fetched_there : (s u : State) (ipc at : ℕ) (item : Item ℕ) (vs : List ℕ) → Holds s vs ipc u → (st : Fetched s ipc at item)
     → fetched u.memory u.registers.ipc ≡ Ok st.instruction
 fetched_there s u ipc at item vs h st =
     ap (λ (r : Registers). fetched u.memory r.ipc) h.registers ∙ st.fetches u.memory h.memory
 
--- The rule of a part, with its operands.
+-- After operands were executed, they fit the rule of the operation.
 operands_fit : (s u : State) (ipc : ℕ) (ws vs : List ℕ) → Ready s → Holds s (ws ++ vs) ipc u
     → Fits u.memory u.registers.sp (s.registers.sp - 2 * length vs) ws
 operands_fit s u ipc ws vs ready h =
@@ -588,7 +588,7 @@ NodeEnds s vs next (Gives w) t = Holds s (w ∷ vs) next t
 NodeEnds s vs next (Fails e) t = Halts s e t
 NodeEnds s vs next Unsaid t = Unit {0}
 
--- A step whose rule puts a value on the stack.
+-- If a rule pushes a value, then the step that executes it leads to the state with this value on the stack.
 settles : (s u : State) (i : Instr) (ws vs : List ℕ) (origin at : ℕ) (x : Said ℕ) (r : Result (List ℕ × ℕ) ExecError) → Ready s
     → Holds s (ws ++ vs) ((origin + at) % 65536) u → s.registers.np + 2 * (length vs + 1) ≤ s.registers.sp
     → fetched u.memory u.registers.ipc ≡ Ok i
@@ -835,7 +835,7 @@ taking m r above x = then_said x (λ d. Gives (done_to m r above d))
 abbrev both_parts : State → Result (List ℕ × Registers) ExecError → Result State ExecError
 both_parts s r = r >>= λ t. Ok (record s { memory = t.0; registers = t.1 })
 
--- A step whose rule pops all operands.
+-- If a rule pops all operands, then the step that executes it leads to the state after the statement.
 finishes : (s u : State) (i : Instr) (ws : List ℕ) (origin at : ℕ) (x : Said Done) (r : Result (List ℕ × Registers) ExecError) → Ready s
     → length s.memory ≡ 32768 → Holds s ws ((origin + at) % 65536) u → fetched u.memory u.registers.ipc ≡ Ok i
     → performed (operation_of i) (past_instruction i u) ≡ or_fails (both_parts (past_instruction i u) r)
@@ -882,7 +882,7 @@ written_agrees m r above a w = elim (cases_Bool (is_even a)) [
   | inr odd ↦ rw odd refl
 ]
 
--- A store of a variable.
+-- A store of a variable does what its text states.
 store_agrees : (o : Variable) (s : State) (m : List ℕ) (r : Registers) (ws : List ℕ) → IsLike s m → r.base ≡ s.registers.base → r.mp ≡ s.registers.mp
     → Fits m r.sp s.registers.sp ws → Agrees (taking m r s.registers.sp (store_said s o ws)) (with_sp r (variable_row o m r))
 unfolding variable_row store_row
@@ -902,7 +902,7 @@ store_agrees (variable.Store scope b) s m r (w ∷ []) like base mp f =
     stored_there s m r (Gives a) place w above e h = rw (h, e) (written_agrees m r above a w)
 store_agrees (variable.Store scope b) s m r (v ∷ w ∷ ws) like base mp f = tt
 
--- A store through an address.
+-- A store through an address does what its text states.
 store_through_agrees : (o : Pointer) (m : List ℕ) (r : Registers) (above : ℕ) (ws : List ℕ) → Fits m r.sp above ws
     → Agrees (taking m r above (store_through_said o ws)) (with_sp r (pointer_row o m r.sp r.np))
 unfolding pointer_row store_indirect_row
@@ -922,7 +922,7 @@ store_through_agrees (pointer.Move b) m r above ws f = tt
 
 -- ---- jumps
 
--- The address to which a jump leads.
+-- A jump leads to the address that its text states.
 leads_agrees : (s : State) (m : List ℕ) (r : Registers) (origin at above : ℕ) (goal : Target ℕ) → IsLike s m → r.jtab ≡ s.registers.jtab
     → r.ipc ≡ (origin + (at + 2)) % 65536 → IsNear (at + 2) goal
     → Agrees (taking m r above (leads_said s origin goal)) (jumped true m (record r { sp = above }) (distance (at + 2) goal) >>= λ t. Ok (m, t))
@@ -956,7 +956,7 @@ register_parts : (s : State) (row : Result Registers ExecError) → or_fails (on
 register_parts s (Ok t) = refl
 register_parts s (Err e) = refl
 
--- A jump that may be taken.
+-- A conditional jump does what its text states, whether or not the jump is executed.
 taken_agrees : (b : Bool) (x : Said Done) (m : List ℕ) (r : Registers) (above offset : ℕ)
     → Agrees (taking m r above x) (with_memory m (jumped true m (record r { sp = above }) offset))
     → Agrees (taking m r above (cond b x (Gives GoesOn))) (with_memory m (jumped b m (record r { sp = above }) offset))
@@ -1016,7 +1016,7 @@ offset_is operation.Unimplemented i c n h = absurd (cc)
 
 -- ---- statements
 
--- The last part of a statement, with its operands.
+-- After all operands of a statement were executed, they fit the rule of its last operation.
 all_fit : (s u : State) (ipc : ℕ) (ws : List ℕ) → Ready s → Holds s ws ipc u → Fits u.memory u.registers.sp s.registers.sp ws
 all_fit s u ipc ws ready h =
     let even = ready.stack.even_sp in

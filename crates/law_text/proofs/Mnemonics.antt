@@ -1,4 +1,4 @@
--- The names of the instructions are read again as their opcodes.
+-- Lemmas: the names of the instructions are read again as their opcodes.
 use Rattle.std.proofs.Common.{◌≡◌, ◌<◌, ◌≤◌, ℕ, zero, suc, ◌+◌, ◌-◌, Bool, true, false, eqb, not}
 use Rattle.std.proofs.Common.{List, [], ◌∷◌, refl, sym, ap, subst, ◌∙◌, arith, Option, Some, None}
 use Rattle.std.specs.Prelude.{◌&&◌, ◌||◌, ◌==◌, is_none, nat_le, if◌then◌else◌}
@@ -24,7 +24,7 @@ abbrev pub is_plain : Form → Bool
 is_plain forms.Plain = true
 is_plain _ = false
 
--- The names of the opcodes from `op` on, as many as the first argument states.
+-- Returns the names of the opcodes from `op` on. The second argument is their number.
 names_from : ℕ → ℕ → List (List ℕ)
 names_from op zero = []
 names_from op (suc count) = mnemonic_of op ∷ names_from (op + 1) count

@@ -1,4 +1,4 @@
--- Numbers that are shown in decimal are read again.
+-- Lemmas: numbers that are shown in decimal are read again.
 use Rattle.std.proofs.Common.{◌≡◌, ◌<◌, ◌≤◌, ℕ, zero, suc, ◌^◌, ◌+◌, ◌-◌, ◌%◌, Bool, true, false, min}
 use Rattle.std.proofs.Common.{List, [], ◌∷◌, ◌++◌, length, replicate, refl, sym, ap, ◌∙◌, arith, Some}
 use Rattle.std.specs.Prelude.{◌==◌, nat_le, nat_lt}
@@ -108,7 +108,7 @@ pub padded_value : (width n : ℕ) → n < 2 ^ 64 → digits_value 10 (padded wi
 unfolding padded
 padded_value width n h = zeros_value (width - length (decimal n)) (decimal n) ∙ (decimal_is_IsNumeral n h).1
 
--- A number with zeros before it is one part, without spaces.
+-- If a number is shown with zeros before it, then its text is one word.
 pub padded_word : (width n : ℕ) → n < 2 ^ 64 → IsWord (padded width n)
 unfolding padded
 padded_word width n h = record { some = behind (width - length (decimal n)); plain = digit_names (padded width n) (padded_digits width n h) }
@@ -117,7 +117,7 @@ padded_word width n h = record { some = behind (width - length (decimal n)); pla
     behind zero = let s : IsShown n (decimal n) = shown n h in s.some
     behind (suc k) = refl
 
--- The labels of different offsets differ.
+-- If the labels of two offsets are equal, then the offsets are equal.
 pub same_label : (m n : ℕ) → m < 2 ^ 64 → n < 2 ^ 64 → label_text m ≡ label_text n → m ≡ n
 same_label m n h k e = sym (padded_value 5 m h) ∙ ap tail_value e ∙ padded_value 5 n k
   where

@@ -1,4 +1,4 @@
--- A number is read as its value, in every notation.
+-- Lemmas: a number is read as its value, in every notation.
 use Rattle.std.proofs.Common.{◌≡◌, ◌<◌, ◌-◌, ℕ, zero, suc, Bool, true, false, List, [], ◌∷◌, ◌++◌, length}
 use Rattle.std.proofs.Common.{map, reverse, refl, sym, ap, subst, ◌∙◌, arith, inl, inr, Option, Some, None}
 use Rattle.std.specs.Prelude.{◌==◌, ◌&&◌, ◌||◌, not, is_some, min, nat_lt, slice_index, if◌then◌else◌}
@@ -83,7 +83,7 @@ base_says_nothing digits h = by (is_empty digits) (nat_lt 4 (length digits)) (li
     by false true c e f g k = absurd (cc)
     by false false false e f g k = absurd (cc)
 
--- The text of a number: its first character, and the characters that it does not have.
+-- Returns whether the character can be in the text of a number.
 abbrev is_numberly : ℕ → Bool
 is_numberly c = is_ascii_hexdigit c || (c == 45) || (c == 36)
 
@@ -160,7 +160,7 @@ unmarked_from (c ∷ cs) zero h = one c (and_parts _ _ h).0
     one c h = grind (arith, nat_tests)
 unmarked_from (c ∷ cs) (suc i) h = unmarked_from cs i (and_parts _ _ h).1
 
--- A number is read by its value, and not as another kind of operand.
+-- The operand `t` is read by its value as a number, and as no other kind of operand.
 record IsRead (t : List ℕ) : Type 0 where
   marked : is_marked t ≡ false
   jump : jump_operand t ≡ None

@@ -1,4 +1,4 @@
--- How the operands of a shown line are read again.
+-- Lemmas for how the operands of a shown line are read again.
 use Rattle.std.proofs.Common.{◌≡◌, ℕ, Bool, true, false, List, [], ◌∷◌, ◌++◌, reverse, map, refl, sym, ap, ◌∙◌, append_assoc}
 use Rattle.std.specs.List.{list_all, onto_first, AllByRecursion}
 use Rattle.std.proofs.lemmas.List.{reverse-reverse, reverse-append}
@@ -10,7 +10,7 @@ use Rattle.pm_source.specs.Words.{is_blank, unindented, trimmed, is_empty, ends_
 use Rattle.pm_source.specs.Line.{is_character, uncommented, pieces, operands}
 use Rattle.law_text.proofs.Cutting.{IsWordly, wordly, and_parts, and_turned, word_characters, word_passes, IsRest}
 
--- The text of one operand.
+-- `t` is the text of one operand.
 pub record IsOperand (t : List ℕ) : Type 0 where
   pub characters : list_all is_character t ≡ true
   pub passes : (rest : List ℕ) → uncommented false (t ++ rest) ≡ t ++ uncommented false rest
@@ -52,7 +52,7 @@ reversed_some (c ∷ w) e = ap is_empty (reverse-append (c ∷ []) w) ∙ some_m
     some_more [] ys = refl
     some_more (x ∷ xs) ys = refl
 
--- A part between spaces.
+-- `w` is a word between spaces.
 pub record IsWord (w : List ℕ) : Type 0 where
   pub some : is_empty w ≡ false
   pub plain : list_all is_name_character w ≡ true
@@ -105,7 +105,7 @@ not_blank t rest o = ap is_empty (o.front rest) ∙ more t o.some
     more [] e = absurd (cc)
     more (c ∷ t) e = refl
 
--- The operands that are shown are read again.
+-- If operands are shown, then they are read again as the same operands.
 pub operands_shown : (ts : List (List ℕ)) → AllByRecursion IsOperand ts → operands (operands_text ts) ≡ ts
 operands_shown [] h = refl
 operands_shown (t ∷ ts) h =
@@ -151,7 +151,7 @@ words_end : (ws : List (List ℕ)) → ends_word (words_text ws) ≡ true
 words_end [] = refl
 words_end (w ∷ ws) = refl
 
--- The parts that are shown are read again.
+-- If words are shown, then they are read again as the same words.
 pub words_shown : (ws : List (List ℕ)) → AllByRecursion IsWord ws → words (words_text ws) ≡ ws
 words_shown [] h = refl
 words_shown (w ∷ ws) h = first_of_words w (words_text ws) h.0.some h.0.plain (words_end ws) ∙ ap (λ us. w ∷ us) (words_shown ws h.1)
@@ -168,7 +168,7 @@ pub words_rest : (ws : List (List ℕ)) → AllByRecursion IsWord ws → IsRest 
 words_rest [] h = record { behind = refl; characters = refl; whole = refl }
 words_rest (w ∷ ws) h = record { behind = refl; characters = words_characters (w ∷ ws) h; whole = words_whole (w ∷ ws) h }
 
--- Two parts with a space between them are one operand.
+-- If two operands have a space between them, then they are one operand.
 pub two_words : (a b : List ℕ) → IsOperand a → IsOperand b → IsOperand (a ++ 32 ∷ b)
 two_words a b f g = record {
   characters = list_all-append is_character a (32 ∷ b) ∙ and_turned _ _ f.characters g.characters;

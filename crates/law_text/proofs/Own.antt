@@ -1,4 +1,5 @@
--- The count of entries of a procedure produces its items; a smaller count needs as many entries.
+-- Lemmas: with its own count of jump table entries, a procedure is read as its own items. A smaller count needs as many
+-- entries.
 use Rattle.std.proofs.Common.{◌≡◌, ◌≤◌, ℕ, ◌+◌, Bool, true, false, eqb, List, [], ◌∷◌, ◌++◌, length, refl, sym, ap}
 use Rattle.std.proofs.Common.{◌∙◌, subst, arith, inl, inr, append-nil, append_assoc, length-append, Option, Some, None}
 use Rattle.std.specs.List.{list_all, AllByRecursion}
@@ -68,7 +69,7 @@ pub needed-append : (xs ys : List (Item ℕ)) → entries_needed xs ≤ entries_
 needed-append [] ys = omega arith
 needed-append (x ∷ xs) ys = omega (arith, needed-append xs ys)
 
--- The items that are written for the bytes after the code of items.
+-- Returns the items that are written for the bytes after the code of the items.
 abbrev pub items_behind : List ℕ → ℕ → List (Item ℕ) → List ℕ → List (Item ℕ)
 items_behind forced at items behind =
     let code = code_bytes at items ++ behind in
@@ -100,7 +101,7 @@ pub items_again : (forced : List ℕ) (at : ℕ) (items : List (Item ℕ)) → A
 items_again forced at items h i f w =
     ap (items_in forced true at) (sym (append-nil (code_bytes at items))) ∙ items_first forced at items [] h i f w ∙ append-nil items
 
--- With bytes after the code, no fewer entries are needed.
+-- If bytes follow the code, then the items that are written need at least as many entries.
 pub at_least_as_many : (forced : List ℕ) (at : ℕ) (items : List (Item ℕ)) (behind : List ℕ) → AreItems at items → AreInstructions items
     → AllByRecursion (IsIn (boundaries at items)) forced → AllByRecursion (NamesWithin (boundaries at items)) items
     → entries_needed items ≤ entries_needed (items_in forced true at (code_bytes at items ++ behind))

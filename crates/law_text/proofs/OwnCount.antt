@@ -1,4 +1,4 @@
--- A procedure of instructions is read with its own count of entries, and with no smaller count.
+-- Lemmas: a procedure of instructions is read with its own count of jump table entries, and with no smaller count.
 use Rattle.std.proofs.Common.{◌≡◌, ◌<◌, ◌≤◌, ℕ, zero, suc, ◌+◌, ◌-◌, ◌*◌, Bool, true, false, List, [], ◌∷◌, ◌++◌, length}
 use Rattle.std.proofs.Common.{take, drop, reverse, refl, sym, ap, ◌∙◌, subst, arith, append_assoc, append-nil, drop-drop}
 use Rattle.std.specs.Prelude.{◌&&◌, nat_le, ◌==◌}
@@ -18,7 +18,7 @@ use Rattle.law_text.proofs.Again.{later, earlier}
 use Rattle.law_text.proofs.Own.{items_again, at_least_as_many}
 use Rattle.pm_disasm.proofs.Stored.{Table, entries_read, entries_after}
 
--- The bytes after the code of a procedure.
+-- Returns the bytes after the code of a procedure.
 abbrev pub behind_code : ℕ → Procedure → List ℕ → List ℕ
 behind_code number p rest = entry_bytes (code_end p) (reverse p.entries) ++ (attribute_bytes number p ++ rest)
 
@@ -29,7 +29,7 @@ code_there segment number p s =
     s.there ∙ append_assoc (code_of p) (entries ++ attribute_bytes number p) s.rest
     ∙ ap (λ bs. code_of p ++ bs) (append_assoc entries (attribute_bytes number p) s.rest)
 
--- The jump table of the procedure.
+-- The jump table of a procedure is in the segment after its code.
 pub table_there : (segment : List ℕ) (number : ℕ) (p : Procedure) (s : StandsIn segment number p)
     → Table segment (code_end p) (jtab_of p) 0 p.entries (attribute_bytes number p ++ s.rest)
 table_there segment number p s =
@@ -40,7 +40,7 @@ table_there segment number p s =
       ends = omega arith;
     }
 
--- The code of the procedure, and what a smaller count reads as code too.
+-- With the count `t`, the code is the code of the procedure, followed by the entries that `t` does not count.
 pub code_taken : (segment : List ℕ) (number t : ℕ) (p : Procedure) (s : StandsIn segment number p) → t ≤ length p.entries
     → code_with segment (attributes_of number p) t ≡ code_of p ++ take (2 * (length p.entries - t)) (behind_code number p s.rest)
 code_taken segment number t p s n =

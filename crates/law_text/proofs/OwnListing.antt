@@ -1,4 +1,4 @@
--- The listing of the bytes of a segment is that of the program that they spell.
+-- Lemmas: the listing of the bytes of a segment is the listing of the program that they spell.
 use Rattle.std.proofs.Common.{◌≡◌, ℕ, ◌+◌, ◌-◌, ◌*◌, false, cond, ltb, List, [], ◌∷◌, ◌++◌, length, map, drop, take}
 use Rattle.std.proofs.Common.{reverse, refl, sym, ap, ◌∙◌, arith, append-nil, append_assoc, drop-drop, length-append}
 use Rattle.std.specs.Prelude.{codes}
@@ -26,7 +26,7 @@ use Rattle.law_text.proofs.ShownSegment.{AllFound, shown_from, shown_well}
 use Rattle.law_text.proofs.Standing.{dictionary_there}
 use Rattle.pm_disasm.proofs.Stores.{lines_joined}
 
--- A line with the bytes that are at its offset.
+-- Returns the line with the bytes of the segment at the line's offset.
 abbrev restored : List ℕ → Listed → Listed
 restored segment l = stored segment l.procedure l.at (length l.bytes) l.what
 

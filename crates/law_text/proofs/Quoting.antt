@@ -1,4 +1,4 @@
--- Marked numbers, targets and quoted text are read again.
+-- Lemmas: marked numbers, targets and quoted text are read again.
 use Rattle.std.proofs.Common.{◌≡◌, ◌<◌, ℕ, zero, suc, ◌^◌, ◌+◌, ◌-◌, ◌*◌, ◌/◌, ◌%◌, Bool, true, false, not, List}
 use Rattle.std.proofs.Common.{[], ◌∷◌, ◌++◌, length, take, reverse, map, refl, sym, ap, ◌∙◌, arith, Some, append_assoc}
 use Rattle.std.specs.Prelude.{◌&&◌, ◌==◌, nat_le, nat_lt, slice_index, if◌then◌else◌, codes}
@@ -56,7 +56,7 @@ marked ds =
     let some : nat_le 1 (length (ds ++ 33 ∷ [])) ≡ true = grind (arith, common_steps, nat_tests) in
     rw (some, less, last) refl
 
--- A number with its mark, or without it.
+-- Returns the text of a number, with the mark `!` if `marked` is true.
 abbrev mark_if : ℕ → Bool → List ℕ
 mark_if n marked = decimal n ++ (if marked then codes "!" else [])
 
@@ -101,7 +101,7 @@ number_text_shown n long h = mark_shown n (long && nat_lt n 128) h (small_if n l
 pub marked_word : (n : ℕ) (long : Bool) → n < 2 ^ 64 → IsWord (number_text n long)
 marked_word n long h = mark_word n (long && nat_lt n 128) h
 
--- A target as it is in a text.
+-- Returns a target as a text spells it.
 abbrev pub shown_target : Target ℕ → Target Name
 shown_target (To place) = To (label_text place)
 shown_target (Through k) = Through k
@@ -177,7 +177,7 @@ all_again : (bytes : List ℕ) → AllByRecursion IsByte bytes → unescaped (fl
 all_again [] h = refl
 all_again (c ∷ bytes) h = escaped_again c (flat_map escaped bytes) bytes h.0 (all_again bytes h.1)
 
--- Characters between quotes: all valid characters except a quote.
+-- Returns whether the character can be between quotes: a valid character except a quote.
 abbrev is_inner : ℕ → Bool
 is_inner c = is_character c && not (c == 34)
 

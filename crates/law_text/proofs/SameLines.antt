@@ -1,4 +1,4 @@
--- Parts of a line that have no meaning.
+-- Lemmas: comments and leading spaces of a line have no meaning.
 use Rattle.std.proofs.Common.{◌≡◌, ◌∙◌, ℕ, Bool, true, false, List, [], ◌∷◌, ◌++◌, refl, ap, subst, sym}
 use Rattle.std.specs.Prelude.{not, ◌==◌, ◌&&◌, ◌||◌, if◌then◌else◌}
 use Rattle.std.specs.List.{list_all}
@@ -9,7 +9,7 @@ use Rattle.pm_source.specs.Line.{is_character, line_by, line_of, uncommented}
 use Rattle.law_text.specs.Same.{BlankSaysNothing, CommentSaysNothing, ZeroSaysNothing, is_open}
 use Rattle.pm_source.specs.Words.{cut}
 
--- The comment is removed if quotes are closed.
+-- If quotes are closed after `line`, then a comment after it is removed.
 without : (quoted : Bool) (line comment : List ℕ) → is_open quoted line ≡ false → uncommented quoted (line ++ 59 ∷ comment) ≡ uncommented quoted line
 without true [] comment h = absurd (cc h)
 without false [] comment h = refl

@@ -1,4 +1,4 @@
--- The rows of shown code contain the exit once, at its offset, and no label twice.
+-- Lemmas: the rows of shown code contain the exit once, at its offset, and no label twice.
 use Rattle.std.proofs.Common.{◌≡◌, ◌<◌, ℕ, ◌^◌, ◌+◌, Bool, true, false, eqb, List, [], ◌∷◌, refl, sym, ap, ◌∙◌, arith, Some, None}
 use Rattle.std.specs.Prelude.{◌==◌}
 use Rattle.std.specs.List.{AllByRecursion, IsDistinct}
@@ -105,7 +105,7 @@ one_exit n used exit at (item ∷ items) i = go (eqb exit at) refl (one_exit (li
         no_exit_at n used exit at (Items m None (labelled_item item ∷ []) ∷ more) e
         ∙ f (or_false (at == exit) (is_among (boundaries (at + size at item) items) exit) (turned exit at e) i)
 
--- A name that is not one of the labels.
+-- The name is not one of the labels of the rows.
 abbrev IsOther : Name → List Row → Type 0
 IsOther name rows = AllByRecursion (λ label. bytes_eq name label ≡ false) (labels_of rows)
 

@@ -1,4 +1,4 @@
--- The operands of an instruction that names no offset are read again, form by form.
+-- Lemmas: the operands of an instruction without a jump target are read again, form by form.
 use Rattle.std.proofs.Common.{◌≡◌, ◌<◌, ℕ, zero, suc, ◌+◌, ◌*◌, ◌/◌, ◌%◌, Bool, true, false, eqb}
 use Rattle.std.proofs.Common.{List, [], ◌∷◌, ◌++◌, length, refl, sym, ap, subst, ◌∙◌, arith, Some}
 use Rattle.std.specs.Prelude.{◌&&◌, ◌==◌, nat_le, nat_lt, codes, if◌then◌else◌}
@@ -34,7 +34,7 @@ pub record IsOfForm (form : Form) (i : Instr) (named : List ℕ) : Type 0 where
   pub count : length named ≡ i.count
   pub bytes : AllByRecursion IsByte named
 
--- The meaning of an instruction with these operand bytes.
+-- Returns the meaning of an instruction with these operand bytes.
 abbrev pub said_plain : Instr → List ℕ → Said (Item Name)
 said_plain i named = Some (Plain i named, NoFlaw)
 

@@ -1,4 +1,4 @@
--- The shown lines of a procedure spell a procedure with labels, which means this procedure.
+-- Lemmas: the shown lines of a procedure spell a procedure with labels that means this procedure.
 use Rattle.std.proofs.Common.{◌≡◌, ◌<◌, ◌≤◌, ℕ, ◌+◌, ◌*◌, ◌%◌, Bool, true, false, eqb, List, [], ◌∷◌}
 use Rattle.std.proofs.Common.{◌++◌, length, map, refl, sym, ap, subst, ◌∙◌, arith, Some, append_assoc}
 use Rattle.std.specs.Prelude.{◌||◌, ◌==◌, max, codes}
@@ -119,7 +119,7 @@ named_within : (places : List ℕ) (items : List (Item ℕ)) → AllByRecursion 
 named_within places [] h = tt
 named_within places (item ∷ items) h = all_append (IsIn places) (item_places item) (named_places items) h.0 (named_within places items h.1)
 
--- An offset whose label leads to it.
+-- The label of the offset `q` leads to `q`.
 abbrev pub IsKnown : Places → ℕ → Type 0
 IsKnown places q = places (label_text q) ≡ Some q
 

@@ -1,4 +1,4 @@
--- The text that is shown for a program spells the program.
+-- Lemmas: the text that is shown for a program spells the program.
 use Rattle.std.proofs.Common.{◌≡◌, ◌<◌, ◌≤◌, ℕ, zero, suc, ◌+◌, ◌-◌, Bool, true, false, eqb, List, [], ◌∷◌}
 use Rattle.std.proofs.Common.{◌++◌, length, map, reverse, refl, sym, ap, subst, ◌∙◌, arith, None, append_assoc}
 use Rattle.std.specs.Prelude.{◌==◌, codes, nat_eq, slice_index}

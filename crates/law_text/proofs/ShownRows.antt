@@ -1,4 +1,5 @@
--- The rows that the shown lines of the code of a procedure spell.
+-- Lemmas for the rows that the shown lines of a procedure's code spell. A *row* is the items of a line with an optional
+-- label, or the exit.
 use Rattle.std.proofs.Common.{◌≡◌, ◌<◌, ◌≤◌, ℕ, ◌^◌, ◌+◌, ◌*◌, Bool, true, false, eqb, List, []}
 use Rattle.std.proofs.Common.{◌∷◌, ◌++◌, length, map, refl, sym, ap, subst, ◌∙◌, arith, Some, None}
 use Rattle.std.specs.Prelude.{◌==◌, codes, if◌then◌else◌}
@@ -35,14 +36,14 @@ rows_at n used exit at rest = put_if (is_among used at) (Items n (Some (label_te
 abbrev pub line_behind : ℕ → List ℕ → ℕ → ℕ → ℕ
 line_behind n used exit at = next_if (exit == at) (next_if (is_among used at) n)
 
--- The rows of items, with lines numbered from `n` on.
+-- Returns the rows of the items, with lines numbered from `n` on.
 abbrev pub rows_of : ℕ → List ℕ → ℕ → ℕ → List (Item ℕ) → List Row
 rows_of n used exit at [] = rows_at n used exit at []
 rows_of n used exit at (item ∷ items) =
     rows_at n used exit at (Items (line_behind n used exit at) None (labelled_item item ∷ [])
     ∷ rows_of (line_behind n used exit at + 1) used exit (at + size at item) items)
 
--- Texts that spell statements, as lines numbered from `n` on.
+-- The texts spell the statements `said`, as lines numbered from `n` on.
 abbrev pub Show : ℕ → List (List ℕ) → List Statement → Type 0
 Show n texts said = AreSaid (lines_from n texts) said
 
@@ -63,12 +64,12 @@ shows_at n used exit at texts rows said l h =
     (put_if (exit == at) Exit rows) said (label_line n at l)
     (shows_if (exit == at) (next_if (is_among used at) n) (codes ".EXIT") Exit texts rows said (exit_line (next_if (is_among used at) n)) h)
 
--- The number of the line after the code.
+-- Returns the number of the line after the code.
 abbrev pub line_after : ℕ → List ℕ → ℕ → ℕ → List (Item ℕ) → ℕ
 line_after n used exit at [] = line_behind n used exit at
 line_after n used exit at (item ∷ items) = line_after (line_behind n used exit at + 1) used exit (at + size at item) items
 
--- Items that are shown, and what follows them.
+-- Returns the shown lines of the items, followed by the lines `rest`.
 abbrev pub lines_then : List ℕ → ℕ → ℕ → List (Item ℕ) → List (List ℕ) → List (List ℕ)
 lines_then used exit at [] rest = lines_at used exit at rest
 lines_then used exit at (item ∷ items) rest = lines_at used exit at ((32 ∷ 32 ∷ shown_item item) ∷ lines_then used exit (at + size at item) items rest)

@@ -1,4 +1,4 @@
--- A segment of a program is shown as one with the same bytes.
+-- Lemmas: a segment of a program is shown as a segment with the same bytes.
 use Rattle.std.proofs.Common.{◌≡◌, ◌≤◌, ℕ, ◌+◌, ◌-◌, ◌*◌, false, cond, ltb, List, [], ◌∷◌, ◌++◌, length, map, drop}
 use Rattle.std.proofs.Common.{reverse, refl, sym, ap, ◌∙◌, subst, arith, length-append, length-drop, drop-drop, Some}
 use Rattle.std.specs.List.{AllByRecursion}

@@ -1,4 +1,4 @@
--- Each kind of shown line is read again.
+-- Lemmas: each kind of shown line is read again.
 use Rattle.std.proofs.Common.{◌≡◌, ◌<◌, ◌≤◌, ℕ, ◌%◌, Bool, true, false, List, [], ◌∷◌, ◌++◌, length, map, refl, sym, ap, subst, ◌∙◌, arith, Option, Some, None}
 use Rattle.std.specs.Prelude.{◌&&◌, ◌==◌, nat_le, codes}
 use Rattle.std.specs.List.{list_all, AllByRecursion}
@@ -33,7 +33,7 @@ use Rattle.law_text.proofs.Quoting.{shown_target, IsWritable, target_shown, targ
 use Rattle.law_text.proofs.Mnemonics.{IsNamed, IsShort, is_named, is_short, is_plain, plain_is, is_unassigned, no_number}
 use Rattle.law_text.proofs.ShownInstructions.{IsOfForm, IsReadAs, said_plain, cleared, unnamed, read_as}
 
--- An item as it is in a text.
+-- Returns an item as a text spells it, with labels for its targets.
 abbrev pub labelled_item : Item ℕ → Item Name
 labelled_item (Plain i named) = Plain i named
 labelled_item (Jump op target) = Jump op (shown_target target)

@@ -1,4 +1,4 @@
--- Where the procedures of a segment and its dictionary are found.
+-- Lemmas for where the procedures of a segment and its dictionary are.
 use Rattle.std.proofs.Common.{◌≡◌, ℕ, ◌+◌, List, [], ◌∷◌, ◌++◌, length, map, drop, reverse, sym, ap, ◌∙◌, arith, append_assoc, drop-drop}
 use Rattle.std.specs.List.{AllByRecursion}
 use Rattle.std.proofs.Math.Seq.{drop-append_seam}

@@ -1,4 +1,4 @@
--- The symbols of segments are those of their procedures and labels.
+-- Lemmas: the symbols of segments are exactly those of their procedures and labels.
 use Rattle.std.proofs.Common.{◌≡◌, ◌⊎◌, ℕ, zero, suc, ◌+◌, ◌-◌, true, List, [], ◌∷◌, ◌++◌, ◌∙◌, ap, sym, subst, refl, inl, inr}
 use Rattle.std.proofs.Common.{length, map, Option, Some, None, Ok, Err, arith}
 use Rattle.std.specs.List.{Contains}
@@ -57,7 +57,7 @@ map-contains f b (x ∷ xs) h = elim (front-or-rest (f x) b (map f xs) h) [
 
 -- ---- labels
 
--- A label of code has an offset there.
+-- If a name is a label of the code, then it has an offset in the code.
 placed : (rows : List Row) (at : ℕ) (name : Name) → Contains (labels_of rows) name → (place : ℕ) × (place_of at rows name ≡ Some place)
 placed [] at name h = absurd (none-there name h)
 placed (Exit ∷ rows) at name h = placed rows at name h
@@ -71,7 +71,7 @@ placed (Items line (Some label) items ∷ rows) at name h = elim (cases_Bool (by
       ]
 ]
 
--- A name with an offset there is a label of the code.
+-- If a name has an offset in the code, then it is a label of the code.
 labelled : (rows : List Row) (at : ℕ) (name : Name) (place : ℕ) → place_of at rows name ≡ Some place → Contains (labels_of rows) name
 labelled [] at name place h = cc
 labelled (Exit ∷ rows) at name place h = labelled rows at name place h

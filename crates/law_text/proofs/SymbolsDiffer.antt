@@ -1,4 +1,4 @@
--- No symbol of a text is printed twice.
+-- Lemmas: no symbol of a text is printed twice.
 use Rattle.std.proofs.Common.{◌≡◌, ◌<◌, ◌≤◌, ℕ, ◌+◌, Bool, true, false, List, [], ◌∷◌, ◌++◌, map, refl, sym, subst, arith, None}
 use Rattle.std.specs.Prelude.{◌&&◌, nat_eq}
 use Rattle.std.specs.List.{AllByRecursion, IsDistinct}
@@ -18,7 +18,7 @@ both_parts : {K : Type 0} (P : K → Type 0) (xs ys : List K) → AllByRecursion
 both_parts P [] ys front back = back
 both_parts P (x ∷ xs) ys front back = (front.0, both_parts P xs ys front.1 back)
 
--- A symbol is different from all others.
+-- The symbol `x` is different from all symbols in `ys`.
 abbrev IsOther : List Symbol → Symbol → Type 0
 IsOther ys x = AllByRecursion (λ y. is_same_symbol x y ≡ false) ys
 
@@ -77,7 +77,7 @@ procedure_distinct segment n at p h =
 
 -- ---- one segment
 
--- A symbol of a segment, of a procedure with the number `n` or a greater one.
+-- The symbol `x` belongs to the segment `segment`, and to a procedure with the number `n` or a greater number.
 record IsFrom (segment n : ℕ) (x : Symbol) : Type 0 where
   owner : x.segment ≡ segment
   from : n ≤ x.procedure
@@ -122,7 +122,7 @@ segment_distinct segment n at (p ∷ ps) h =
 
 -- ---- the segments
 
--- A symbol of another segment.
+-- The symbol belongs to another segment than `number`.
 abbrev IsElsewhere : ℕ → Symbol → Type 0
 IsElsewhere number y = nat_eq number y.segment ≡ false
 
@@ -162,7 +162,7 @@ symbols_distinct (s ∷ ss) h =
     distinct_parts own (symbols ss) (segment_distinct s.number 1 0 s.procedures h.1.0) (symbols_distinct ss (h.0.1, h.1.1))
     (all_apart s.number own (symbols ss) (all_from s.number 1 1 0 s.procedures (omega arith)) (all_elsewhere s.number ss h.0.0))
 
--- A text that spells a program has no symbol twice.
+-- If a text spells a program, then it has no symbol twice.
 pub symbols_differ : (text : List ℕ) (p : List Segment) → Spells text p → IsDistinct is_same_symbol (symbols (source_of text))
 symbols_differ text p h =
     let said = said_is_faultless text h.source h.said h.sound in

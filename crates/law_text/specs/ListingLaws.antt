@@ -8,30 +8,31 @@ use Rattle.pm_code.specs.Item.{IsByte}
 use Rattle.pm_code.specs.Program.{IsSegment, Segment, segment_bytes}
 use Rattle.pm_disasm.specs.Listing.{slot_listing, table_listing_or}
 
--- The text of procedure `n` in the listing of `segment` consists of lines. The first line begins at the first byte of
--- the code, and each other line at the end of the line before it. The joined bytes of the lines are those of the
--- segment from there to the end of the table of the procedure.
+-- The listing of procedure `n` of `segment` consists of lines. The first line begins at the first byte of the code, and
+-- each other line at the end of the line before it. The joined bytes of the lines are the bytes of the segment from the
+-- first byte of the code to the end of the table of the procedure.
 pub record CoversProcedure (slot : ℕ) (segment : List ℕ) (n : ℕ) (a : Attributes) : Type 0 where
   pub lines : List Listed
   pub text : table_listing_or slot segment n (Some a) ≡ listed_lines slot lines
   pub placed : StandFrom a.enter lines
   pub bytes : listed_bytes lines ≡ take (a.jtab + 2 - a.enter) (drop a.enter segment)
 
--- The lines cover each procedure of a segment of bytes if the procedure has a table and its exit code is not before its
--- code.
+-- If a procedure of a segment of bytes has a table, and its exit code is not before its code, then the lines of the
+-- listing cover it.
 abbrev pub LinesCoverProcedures : Type 0
 LinesCoverProcedures = (slot : ℕ) (segment : List ℕ) (n : ℕ) (a : Attributes) → AllByRecursion IsByte segment
     → attributes_in segment n ≡ Some a → a.enter ≤ a.exit → CoversProcedure slot segment n a
 
--- The text of a whole segment consists of lines. The first line begins at offset 0, and each other line at the end of
--- the line before it. The joined bytes of the lines are the segment.
+-- The listing of the whole segment consists of lines. The first line begins at offset 0, and each other line at the end
+-- of the line before it. The joined bytes of the lines are the segment.
 pub record CoversSegment (slot : ℕ) (segment : List ℕ) : Type 0 where
   pub lines : List Listed
   pub text : slot_listing slot (Some segment) ≡ listed_lines slot lines
   pub placed : StandFrom 0 lines
   pub bytes : listed_bytes lines ≡ segment
 
--- The lines cover each segment of a program with at most 65,534 bytes, even if some of its code is not instructions.
+-- If a segment of a program has at most 65,534 bytes, then the lines of the listing cover it, even if some of its code
+-- is not instructions.
 abbrev pub LinesCoverSegments : Type 0
 LinesCoverSegments = (s : Segment) → IsSegment s → length (segment_bytes s) ≤ 65534
     → CoversSegment s.number (segment_bytes s)

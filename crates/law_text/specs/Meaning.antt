@@ -1,4 +1,5 @@
--- What a statement does, in the terms of its text, and the law that the machine does this.
+-- What a statement does, as its text states, and the law that the machine does it. A `Part` is an operation of a
+-- statement with its item (its instruction in the code). A `Tree` is an operation with the trees of its operands.
 use Rattle.std.specs.Prelude.{◌≡◌, ℕ, zero, suc, ◌+◌, ◌-◌, ◌*◌, ◌%◌, ◌<◌, ◌≤◌, ◌==◌, ◌&&◌, Bool, false, not, nat_le}
 use Rattle.std.specs.Prelude.{nat_lt, true, List, [], ◌∷◌, length, Result, Ok, Err, if◌then◌else◌, int_le}
 use Rattle.pm_words.specs.declared.error.ExecError.{ExecError}
@@ -36,13 +37,14 @@ use Rattle.pm_trees.specs.Trees.Forest.{Bare, Tree}
 
 -- ---- what a text states
 
--- What a text states about a value: the value, the error of the machine instead of it, or nothing (`Unsaid`).
+-- What a text states about a value: the value (`Gives`), the error of the machine instead of the value (`Fails`), or
+-- nothing (`Unsaid`).
 pub data Said (A : Type 0) : Type 0 where
   Gives : A → Said A
   Fails : ExecError → Said A
   Unsaid : Said A
 
--- One computation after another; the first error is the result.
+-- Returns the result of one computation after another. An error of the first computation, or `Unsaid`, is the result.
 abbrev pub then_said : {A B : Type 0} → Said A → (A → Said B) → Said B
 then_said (Gives x) f = f x
 then_said (Fails e) f = Fails e
@@ -52,7 +54,7 @@ abbrev pub as_said : {A : Type 0} → Result A ExecError → Said A
 as_said (Ok x) = Gives x
 as_said (Err e) = Fails e
 
--- An operation is `Unsaid` if the number of its operands differs from the number that it requires.
+-- Returns `x` for an operation without operands. The result is `Unsaid` if operands are given.
 abbrev pub on_none : {A : Type 0} → Said A → List ℕ → Said A
 on_none x [] = x
 on_none x (a ∷ ws) = Unsaid
@@ -62,7 +64,8 @@ on_one f [] = Unsaid
 on_one f (a ∷ []) = f a
 on_one f (b ∷ a ∷ ws) = Unsaid
 
--- An operation on two operands `a` and `b`; the last operand is the first in the list.
+-- Returns the result of an operation on two operands `a` and `b`. The last operand is the first in the list. The result
+-- is `Unsaid` if the list does not have two operands.
 abbrev pub on_two : {A : Type 0} → (ℕ → ℕ → Said A) → List ℕ → Said A
 on_two f [] = Unsaid
 on_two f (b ∷ []) = Unsaid
@@ -78,16 +81,16 @@ on_three f (d ∷ c ∷ b ∷ a ∷ ws) = Unsaid
 
 -- ---- variables of a state
 
--- Whether address `a` is on the free stack, from NP up to but not including SP. Operands are pushed there, so nothing
--- is stated about what a statement reads there.
+-- Returns whether the address `a` is on the free stack, which is from NP up to but not including SP. Operands are
+-- pushed there, so nothing is stated about a statement that reads a word there.
 abbrev pub is_free : State → ℕ → Bool
 is_free s a = nat_le s.registers.np a && nat_lt a s.registers.sp
 
--- The word at address `a`: `InvalidMemory` if `a` is odd, `Unsaid` if it is on the free stack.
+-- Returns the word at the address `a`: `InvalidMemory` if `a` is odd, and `Unsaid` if `a` is on the free stack.
 unfoldable pub word_there : State → ℕ → Said ℕ
 word_there s a = if is_even a then (if is_free s a then Unsaid else Gives (word_at s.memory a)) else Fails InvalidMemory
 
--- The frame that is reached from frame `f` by `n` static links.
+-- Returns the frame that is reached from the frame `f` by following `n` static links.
 unfoldable pub frame_up : State → ℕ → ℕ → Said ℕ
 frame_up s f zero = Gives f
 frame_up s f (suc n) = then_said (frame_up s f n) (word_there s)
@@ -97,7 +100,7 @@ frame_there s Global = Gives s.registers.base
 frame_there s Local = Gives s.registers.mp
 frame_there s (Intermediate n) = if nat_lt 127 n then Fails NoSegment else frame_up s s.registers.mp n
 
--- The address of variable `b` of a scope.
+-- Returns the address of the variable `b` of a scope.
 abbrev pub variable_there : State → Scope → ℕ → Said ℕ
 variable_there s scope b = then_said (frame_there s scope) (λ f. Gives ((f + 10 + 2 * b) % 65536))
 
@@ -119,7 +122,8 @@ variable_said s (variable.Address scope b) ws = on_none (variable_there s scope 
 variable_said s (variable.Load scope b) ws = on_none (then_said (variable_there s scope b) (word_there s)) ws
 variable_said s (variable.Store scope b) ws = Unsaid
 
--- x.k as an address and as a value, and the address of an item of an array.
+-- Returns the value of an operation on a pointer: `x.k` as an address or as a value, or the address of an item of an
+-- array.
 abbrev pub pointer_said : State → Pointer → List ℕ → Said ℕ
 pointer_said s (pointer.Increment k) ws = on_one (λ a. Gives ((a + 2 * k) % 65536)) ws
 pointer_said s (pointer.Load k) ws = on_one (λ a. word_there s ((a + 2 * k) % 65536)) ws
@@ -132,8 +136,8 @@ value_said s (operation.Variable o) ws = variable_said s o ws
 value_said s (operation.Pointer o) ws = pointer_said s o ws
 value_said s other ws = Unsaid
 
--- The distance of a jump from the next instruction, as a word. For entry `k` of the jump table, the distance of this
--- entry from JTAB.
+-- Returns the distance of the target of a jump from the next instruction, as a word. For entry `k` of the jump table,
+-- returns the distance of this entry from JTAB.
 abbrev pub distance : ℕ → Target ℕ → ℕ
 distance next (To place) = place - next
 distance next (Through k) = 65526 - 2 * k
@@ -146,8 +150,8 @@ item_operation at other = operation.Unimplemented
 abbrev pub operation_at : Part → Operation
 operation_at p = item_operation p.place.offset p.item
 
--- The values of trees, the value of the last tree first. Before each operation its operands are executed, from left to
--- right.
+-- Returns the values of the trees, the value of the last tree first. Before each operation its operands are executed,
+-- from left to right.
 unfoldable pub values_said : State → Forest → Said (List ℕ)
 values_said s Bare = Gives []
 values_said s (Tree p missing operands before) =
@@ -157,8 +161,7 @@ values_said s (Tree p missing operands before) =
 
 -- ---- statements
 
--- What a statement does: it writes a word at an address, it jumps to an address, or execution continues with the next
--- statement.
+-- The effect of a statement: it writes a word at an address, jumps to an address, or continues with the next statement.
 pub data Done : Type 0 where
   Writes : ℕ → ℕ → Done
   Jumps : ℕ → Done
@@ -167,8 +170,9 @@ pub data Done : Type 0 where
 abbrev pub written_said : ℕ → ℕ → Said Done
 written_said a w = if is_even a then Gives (Writes a w) else Fails InvalidMemory
 
--- The address to which a jump leads, in a segment that begins at `origin`: an offset of the segment, or the address
--- that entry `k` of its jump table states. The entry states how far below itself this address is.
+-- States the address to which a jump leads, in a segment that begins at `origin`. The target is an offset of the
+-- segment, or the address that entry `k` of the jump table states. The entry states how far the address is below the
+-- entry.
 abbrev pub leads_said : State → ℕ → Target ℕ → Said Done
 leads_said s origin (To place) = Gives (Jumps ((origin + place) % 65536))
 leads_said s origin (Through k) =
@@ -197,36 +201,37 @@ abbrev pub jump_item_said : State → ℕ → Jump → Item ℕ → List ℕ →
 jump_item_said s origin o (JumpItem op target) ws = jump_by o (leads_said s origin target) ws
 jump_item_said s origin o other ws = Unsaid
 
--- What the last operation of a statement does with the values `ws` of its operands.
+-- States the effect of the last operation of a statement on the values `ws` of its operands.
 abbrev pub done_said : State → ℕ → Operation → Item ℕ → List ℕ → Said Done
 done_said s origin (operation.Variable o) item ws = store_said s o ws
 done_said s origin (operation.Pointer o) item ws = store_through_said o ws
 done_said s origin (operation.Jump o) item ws = jump_item_said s origin o item ws
 done_said s origin other item ws = Unsaid
 
--- What a statement states that it does.
+-- States the effect of a statement whose last operation is `p` and whose operands are the trees `operands`.
 abbrev pub statement_said : State → ℕ → Part → Forest → Said Done
 statement_said s origin p operands =
     then_said (values_said s operands) (λ ws. done_said s origin (operation_at p) p.item ws)
 
 -- ---- the machine
 
--- The memory `t` differs from that of the state `s` only on the free stack.
+-- The memory `t` differs from the memory of the state `s` only on the free stack.
 pub record IsLike (s : State) (t : List ℕ) : Type 0 where
   pub size : length t ≡ 32768
   pub words : (a : ℕ) → is_even a ≡ true → is_free s a ≡ false → word_at t a ≡ word_at s.memory a
 
--- The bytes are in the memory of the state `s` from address `a` on, none of them on the free stack.
+-- The bytes are in the memory of the state `s` from the address `a` on, and none of them is on the free stack.
 abbrev pub StandThere : State → ℕ → List ℕ → Type 0
 StandThere s a [] = Unit {0}
 StandThere s a (b ∷ bs) = (a < 65536) × (is_free s a ≡ false) × (byte_at s.memory a ≡ b) × StandThere s (a + 1) bs
 
--- The part `p` is in a segment that begins at `origin`: it is valid at its offset, and its bytes are there.
+-- The item of `p` is in a segment that begins at `origin`. It is valid at its offset, and its bytes are in memory at
+-- this offset.
 pub record Stands (s : State) (origin : ℕ) (p : Part) : Type 0 where
   pub item : IsItem p.place.offset p.item
   pub bytes : StandThere s (origin + p.place.offset) (item_bytes p.place.offset p.item)
 
--- The parts follow each other from offset `at` on.
+-- The items of the list follow each other in memory without gaps from the offset `at` on.
 abbrev pub StandFrom : State → ℕ → ℕ → List Part → Type 0
 StandFrom s origin at [] = Unit {0}
 StandFrom s origin at (p ∷ ps) =
@@ -236,7 +241,8 @@ abbrev pub behind_parts : ℕ → List Part → ℕ
 behind_parts at [] = at
 behind_parts at (p ∷ ps) = behind_parts (at + size at p.item) ps
 
--- The machine runs, and IPC is at offset `at` of a segment that begins at `origin`.
+-- The machine runs, its memory and its stack are valid, and IPC is at the offset `at` of a segment that begins at
+-- `origin`.
 pub record StandsAt (s : State) (origin at : ℕ) : Type 0 where
   pub segment : origin % 2 ≡ 0
   pub running : s.status ≡ status.Running
@@ -254,14 +260,14 @@ ipc_behind (Writes a w) next = next
 ipc_behind (Jumps ipc) next = ipc
 ipc_behind GoesOn next = next
 
--- The state `t` after a statement: the statement has done `d`, and nothing else has changed except the free stack and
+-- The state `t` is the state after a statement with the effect `d`. Nothing else has changed except the free stack and
 -- the count of steps.
 pub record Does (s : State) (next : ℕ) (d : Done) (t : State) : Type 0 where
   pub memory : IsLike (record s { memory = memory_behind d s.memory }) t.memory
   pub registers : t.registers ≡ record s.registers { ipc = ipc_behind d next }
   pub others : t ≡ record s { memory = t.memory; registers = t.registers; steps = t.steps }
 
--- The machine has halted with the error `e`, and only the free stack has been written.
+-- The machine has halted with the error `e`, and only words on the free stack have been written.
 pub record Halts (s : State) (e : ExecError) (t : State) : Type 0 where
   pub status : t.status ≡ status.Halted e
   pub memory : IsLike s t.memory
@@ -271,9 +277,9 @@ DoesAsSaid s next (Gives d) t = Does s next d t
 DoesAsSaid s next (Fails e) t = Halts s e t
 DoesAsSaid s next Unsaid t = Unit {0}
 
--- After the steps of all its instructions, a statement has done what it states. There are three premises. The machine
--- `s` runs, with IPC at the beginning of the statement. The bytes of the statement are in memory outside the free
--- stack. The free stack has space for a word for each of its instructions except the last.
+-- If a machine executes all instructions of a statement, then it has done what the statement states. The premises are:
+-- the machine `s` runs, with IPC at the beginning of the statement; the bytes of the statement are in memory outside
+-- the free stack; the free stack has space for a word for each instruction of the statement except the last.
 abbrev pub StatementsDoWhatTheySay : Type 0
 StatementsDoWhatTheySay =
     (s : State) (origin at : ℕ) (p : Part) (missing : Missing) (operands : Forest) →

@@ -1,5 +1,5 @@
-//! Laws of texts: what an assembler text spells, which fault is reported, listings, the text of a code file, and what
-//! statements do. A law states a fact about definitions. The functions do nothing.
+//! Laws of texts: the program that an assembler text spells, the fault that is reported, listings, the text of a code
+//! file, and the meaning of statements. A law states a fact about definitions. Each function has an empty body.
 #![tactic(auto)]
 
 pub mod asm;

@@ -1,8 +1,8 @@
-//! The law of shown texts. The function does nothing.
+//! The law that the disassembler's text of a program spells this program. The function has an empty body.
 
 ghost use Rattle.pm_source.specs.Laws.{ShownIsSpelled};
 
-/// The text that the disassembler shows for a program whose segments have at most 65,534 bytes each spells this
+/// If the segments of a program have at most 65,534 bytes each, then the disassembler's text of the program spells this
 /// program, by the definitions of the assembler.
 pub fn shown_is_spelled()
     ensures law { ShownIsSpelled }

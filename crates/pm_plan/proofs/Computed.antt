@@ -1,4 +1,4 @@
--- The worked examples of the limits hold.
+-- Proofs of the worked examples of the maximum number of steps.
 use Rattle.std.proofs.Common.{arith, ◌≡◌, ◌≤◌, ◌<◌, ℕ, true, false}
 use Rattle.std.specs.Prelude.{None}
 use Rattle.pm_plan.specs.Asked.{IsRunLimit}

@@ -1,4 +1,4 @@
--- The arguments that clap finds, as rows.
+-- Lemmas about the arguments that clap finds, which definitions see as rows.
 use Rattle.std.proofs.Common.{◌≡◌, ℕ, List, Option, None, Some, refl, option_map}
 use Rattle.std.specs.Prelude.{Box}
 use Rattle.std.specs.Box.{box_value}
@@ -21,12 +21,13 @@ module _ {Z : Type 0} where
   unnamed None is_name = refl
   unnamed (Some below) is_name = cc
 
--- The command or verb that is found, with its arguments.
+-- If clap finds a command or verb with the name `name` and the arguments `rows`, then `subcommand_rows_of m` is this
+-- pair.
 pub found_below : (m : ArgMatches) (name : List ℕ) (rows : List Row) → Some name ≡ subcommand_name_of m
     → Some rows ≡ option_map (λ p. p.1) (subcommand_rows_of m) → subcommand_rows_of m ≡ Some (name, rows)
 found_below m name rows is_name are_rows = named (out-ArgMatches m).subcommand name rows is_name are_rows
 
--- No command or verb is found.
+-- If clap finds no command or verb, then `subcommand_rows_of m` is `None`.
 pub none_below : (m : ArgMatches) → None ≡ subcommand_name_of m → subcommand_rows_of m ≡ None
 none_below m is_name = unnamed (out-ArgMatches m).subcommand is_name
 

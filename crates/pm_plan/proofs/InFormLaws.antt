@@ -1,4 +1,4 @@
--- The contents of files in a form.
+-- Lemmas about files that are converted from another form.
 use Rattle.std.proofs.Common.{◌≡◌, ◌∙◌, ℕ, List, [], Option, None, Some, Result, Ok, Err, IfOk, OnOk, Vec, ap, refl, sym, subst}
 use Rattle.std.proofs.Common.{option_map}
 use Rattle.std.specs.Option.{unwrap_or}
@@ -15,7 +15,7 @@ use Rattle.pm_check.specs.declared.order.Order.{Order}
 use Rattle.pm_check.specs.declared.order.Order.TheVariants as orders
 use Rattle.pm_plan.specs.InForm.{IsFound, PutsFormed, PutsVolume, form_at, in_form}
 
--- The volume of a file that is read is seen.
+-- If the file at `path` contains `bytes`, then the converted file at `path` contains the volume in `bytes`.
 pub holds_volume : (form : Form) (system printer : Option (List ℕ)) (files : Files) (path bytes : List ℕ)
     → HoldsFile files path bytes
     → HoldsFile (in_form form system printer files) path (volume_of (form_at form system printer path) bytes)
@@ -23,14 +23,15 @@ holds_volume form system printer None path bytes holds = tt
 holds_volume form system printer (Some files) path bytes holds =
     ap (option_map (volume_of (form_at form system printer path))) holds
 
--- If there is no file, there is no file in the form.
+-- If no file exists at `path`, then no converted file exists at `path`.
 pub holds_none : (form : Form) (system printer : Option (List ℕ)) (files : Files) (path : List ℕ)
     → HoldsNone files path → HoldsNone (in_form form system printer files) path
 holds_none form system printer None path none = tt
 holds_none form system printer (Some files) path none =
     ap (option_map (volume_of (form_at form system printer path))) none
 
--- A file that is read is the file that is found. Nothing is found if there is no file.
+-- If the file at `path` contains `bytes`, then `bytes` are found. If no file exists at `path`, then the empty list is
+-- found.
 pub found_held : (files : Files) (path bytes : List ℕ) → HoldsFile files path bytes → IsFound files path bytes
 found_held None path bytes holds = tt
 found_held (Some files) path bytes holds = sym (ap (λ held. unwrap_or held []) holds)
@@ -39,7 +40,8 @@ pub found_none : (files : Files) (path : List ℕ) → HoldsNone files path → 
 found_none None path none = tt
 found_none (Some files) path none = sym (ap (λ held. unwrap_or held []) none)
 
--- A file that is written contains the volume that is written into it.
+-- If `file` is written to `path` and `bytes` is the volume in `file`, then the converted file at `path` contains
+-- `bytes`.
 pub puts_formed : (form : Form) (system printer : Option (List ℕ)) (old new : Files) (path file bytes : List ℕ)
     → Puts old new path file → volume_of (form_at form system printer path) file ≡ bytes
     → Puts (in_form form system printer old) (in_form form system printer new) path bytes
@@ -50,7 +52,7 @@ puts_formed form system printer (Some old) (Some new) path file bytes puts is = 
   λ other apart. ap (option_map (volume_of (form_at form system printer other))) (puts.1 other apart),
 )
 
--- The volume read from a file is the volume seen.
+-- If the result `r` is the volume in the bytes of the file at `path`, then `r` is the contents of the converted file.
 pub read_volume : (r : Result (Vec ℕ Global) DiskFault) (form at : Form) (system printer : Option (List ℕ)) (files : Files)
     (path bytes : List ℕ) → at ≡ form_at form system printer path → HoldsFile files path bytes
     → IfOk r (λ made. made.items ≡ volume_of at bytes)
@@ -78,7 +80,7 @@ put_blocks (Ok done) form system printer old new path bytes is puts =
     (ap (λ form. volume_of form bytes) (sym is) ∙ turned_blocks bytes)
 put_blocks (Err fault) form system printer old new path bytes is puts = tt
 
--- ---- files of kind .2mg
+-- ---- .2mg files
 
 pub puts_volume : {A : Type 0} (r : Result A DiskFault) (files between new : Files) (path before made volume : List ℕ)
     → between ≡ files → IsFound files path before → made ≡ filed before volume
@@ -101,7 +103,7 @@ put_volume (Ok done) form system printer old new path bytes is puts =
     (ap (λ form. volume_of form (filed puts.before bytes)) (sym is) ∙ puts.back)
 put_volume (Err fault) form system printer old new path bytes is puts = tt
 
--- ---- the file written
+-- ---- the file that is written
 
 formed : (form : Form) (old new : Files) (path file volume : List ℕ)
     → ((files : List ℕ → Option (List ℕ)) → old ≡ Some files → file ≡ file_of form (unwrap_or (files path) []) volume)

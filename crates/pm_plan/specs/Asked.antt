@@ -1,5 +1,5 @@
--- The jobs that arguments specify. For each command, clap stores the arguments found in rows, each under an id. The
--- command or verb after them is stored separately, with its name and its own rows.
+-- The jobs that command lines specify. clap stores each argument of a command as a row: an id and the argument's bytes.
+-- clap stores a command or verb that follows separately, with its name and its own rows.
 use Rattle.std.specs.Prelude.{◌≡◌, ◌≤◌, ◌⊎◌, ◌||◌, ⊤, ℕ, Bool, true, false, List, [], ◌∷◌, Option, String}
 use Rattle.std.specs.Prelude.{None, Some, map, option_map, string_bytes, codes}
 use Rattle.std.specs.declared.alloc.Global.{Global}
@@ -43,20 +43,20 @@ use Rattle.pm_plan.specs.declared.words.Asked.{Asked}
 use Rattle.pm_plan.specs.declared.words.Plan.{Plan}
 use Rattle.pm_plan.specs.declared.words.Plan.TheVariants as plans
 
--- The arguments of a command, without those of a command or verb that follows.
+-- Returns the rows of the arguments in `m`, without those of a command or verb that follows.
 abbrev pub words_of : ArgMatches → List Row
 words_of m = rows_of (found_of m)
 
--- The argument under `id`.
+-- Returns the argument under `id` in `rows`, or `None` if it is missing.
 abbrev pub word_found : List Row → List ℕ → Option (List ℕ)
 word_found rows id = first_of id rows
 
--- An argument is a number up to `most`: one or more decimal digits, with or without leading zeros, whose value is at
--- most `most`. A sign is not a digit.
+-- Is true if `word` is a decimal number up to `most`: one or more decimal digits, with or without leading zeros, whose
+-- value is at most `most`. A sign is not a digit.
 abbrev pub IsNumberUpTo : ℕ → List ℕ → Type 0
 IsNumberUpTo most word = IsNumeral 10 word × (digits_value 10 word ≤ most)
 
--- An argument is the number that its decimal digits write.
+-- Is true if `word` spells `number` in decimal digits.
 abbrev pub IsNumber : List ℕ → ℕ → Type 0
 IsNumber word number = IsNumeral 10 word × (number ≡ digits_value 10 word)
 
@@ -64,64 +64,66 @@ abbrev pub IsSpelled : Option (List ℕ) → ℕ → Type 0
 IsSpelled None number = ⊥
 IsSpelled (Some word) number = IsNumber word number
 
--- There is an argument, and it is a number up to `most`.
+-- Is true if the argument exists and is a decimal number up to `most`.
 abbrev pub IsNumberWord : ℕ → Option (List ℕ) → Type 0
 IsNumberWord most None = ⊥
 IsNumberWord most (Some word) = IsNumberUpTo most word
 
--- The limit of a run. The default is 10,000,000.
+-- Is true if `limit` is the maximum number of steps that the value of `--limit` gives. The default is 10,000,000.
 abbrev pub IsLimit : Option (List ℕ) → ℕ → Type 0
 IsLimit None limit = limit ≡ 10000000
 IsLimit (Some word) limit = IsNumber word limit
 
--- The argument of an option without a value states that the option is given.
+-- Returns whether the argument of an option without a value is the text `true`, which means that the option is given.
 abbrev pub is_set : Option (List ℕ) → Bool
 is_set None = false
 is_set (Some word) = bytes_eq word (codes "true")
 
--- The limit of a run or a trace. With `--unlimited`, it is 2 ^ 64 - 1.
+-- Is true if `limit` is the maximum number of steps of a run or a trace. The first argument states whether
+-- `--unlimited` is given. With `--unlimited`, `limit` is 2 ^ 64 - 1.
 abbrev pub IsRunLimit : Bool → Option (List ℕ) → ℕ → Type 0
 IsRunLimit true word limit = limit ≡ 18446744073709551615
 IsRunLimit false word limit = IsLimit word limit
 
--- There is no limit argument, or it is a number below 2 ^ 32.
+-- Is true if the argument is missing, or is a decimal number below 2 ^ 32.
 abbrev pub IsLimitWord : Option (List ℕ) → Type 0
 IsLimitWord None = ⊤
 IsLimitWord (Some word) = IsNumberUpTo 4294967295 word
 
--- The limit of a run or a trace is valid. With `--unlimited`, there is no limit argument.
+-- Is true if the value of `--limit` is valid. The first argument states whether `--unlimited` is given. With
+-- `--unlimited`, the value of `--limit` must be missing.
 abbrev pub IsRunLimitWord : Bool → Option (List ℕ) → Type 0
 IsRunLimitWord true None = ⊤
 IsRunLimitWord true (Some word) = ⊥
 IsRunLimitWord false word = IsLimitWord word
 
--- The number of a slot, if there is an argument for it.
+-- Is true if `slot` is the number that the value of `--slot` spells, or `None` if `--slot` is not given.
 abbrev pub IsSlot : Option (List ℕ) → Option ℕ → Type 0
 IsSlot None slot = slot ≡ None
 IsSlot (Some word) None = ⊥
 IsSlot (Some word) (Some slot) = IsNumber word slot
 
--- A kind of file, selected by its name or by its number.
+-- Is true if `kind` is the kind of file that the argument gives by its name or by its number.
 abbrev pub IsKind : Option (List ℕ) → ℕ → Type 0
 IsKind None kind = ⊥
 IsKind (Some word) kind = (kind_word kind ≡ Some word) ⊎ IsNumber word kind
 
--- Whether an option without a value is given.
+-- `flag` states whether an option without a value is given. `found` is the argument of this option.
 pub record IsFlag (found : Option (List ℕ)) (flag : Bool) : Type 0 where
   pub absent : found ≡ None → flag ≡ false
   pub given : found ≡ Some (codes "true") → flag ≡ true
   pub denied : found ≡ Some (codes "false") → flag ≡ false
 
--- Paths as lists of bytes.
+-- Returns each path in `paths` as a list of bytes.
 abbrev pub paths_in : List (Option (String Global)) → List (Option (List ℕ))
 paths_in paths = map (option_map string_bytes) paths
 
--- The arguments for the disks on the units other than 4, each under the option of its unit.
+-- Returns the paths of the disks for the units 5, 9, 10, 11 and 12, which are the values of `--d5` to `--d12`.
 abbrev pub other_words : List Row → List (Option (List ℕ))
 other_words rows = word_found rows (codes "d5") ∷ word_found rows (codes "d9") ∷ word_found rows (codes "d10")
     ∷ word_found rows (codes "d11") ∷ word_found rows (codes "d12") ∷ []
 
--- The arguments of run, trace and debug. Each disk has the option of its unit.
+-- The arguments `rows` of `run`, `trace` or `debug` specify `program`.
 pub record AsksProgram (rows : List Row) (program : Program) : Type 0 where
   pub disk : word_found rows (codes "d4") ≡ Some (string_bytes program.disk)
   pub others : paths_in program.others ≡ other_words rows
@@ -129,27 +131,29 @@ pub record AsksProgram (rows : List Row) (program : Program) : Type 0 where
   pub limit : IsRunLimit (is_set (word_found rows (codes "unlimited"))) (word_found rows (codes "limit")) program.limit
   pub system : word_found rows (codes "system") ≡ option_map string_bytes program.system
 
--- The images that `--save-all` saves. With `--system`, the image of unit 4 is not saved, since it contains the system's
--- segment.
+-- Returns which images `--save-all` saves. The argument is the value of `--system`. With `--system`, the image of unit
+-- 4 is not saved, because it contains the system's segment.
 abbrev pub all_own : Option (List ℕ) → Saving
 all_own None = savings.All
 all_own (Some system) = savings.Others
 
--- The images that are saved, as `--save` and `--save-all` state. They are not both given.
+-- Is true if `saving` states which images are saved. The first two arguments state whether `--save` and `--save-all`
+-- are given, which must not both be given. `system` is the value of `--system`.
 abbrev pub IsSaving : Bool → Bool → Option (List ℕ) → Saving → Type 0
 IsSaving false false system saving = saving ≡ savings.Nothing
 IsSaving true false system saving = saving ≡ savings.First
 IsSaving false true system saving = saving ≡ all_own system
 IsSaving true true system saving = ⊥
 
--- The further arguments of run.
+-- The arguments `rows` of `run` specify the options `choices`.
 pub record AsksChoices (rows : List Row) (choices : RunChoices) : Type 0 where
   pub saving : IsSaving (is_set (word_found rows (codes "save"))) (is_set (word_found rows (codes "save-all")))
       (word_found rows (codes "system")) choices.saving
   pub printer : word_found rows (codes "printer") ≡ option_map string_bytes choices.printer
   pub escape : IsFlag (one_of (codes "escape") rows) choices.escape
 
--- A name is given under `id` and no slot is given; or no name is given and the number of a slot is given.
+-- `AsksName` is true if `name` is given under `id`, and `--slot` is not given. `AsksSlot` is true if no name is given
+-- under `id`, and the value of `--slot` spells `slot`.
 abbrev pub AsksName : List ℕ → List Row → List ℕ → Type 0
 AsksName id rows name = (word_found rows id ≡ Some name) × (word_found rows (codes "slot") ≡ None)
 
@@ -160,23 +164,26 @@ abbrev pub AsksEither : List ℕ → List Row → Chosen → Type 0
 AsksEither id rows (chosen.Named name) = AsksName id rows (string_bytes name)
 AsksEither id rows (chosen.InSlot slot) = AsksSlot id rows slot
 
--- No pattern is given.
+-- Is true if `--matching` is not given.
 abbrev pub AsksNoPattern : List Row → Type 0
 AsksNoPattern rows = word_found rows (codes "matching") ≡ None
 
--- This pattern is given, and `given` states whether the option without a value is given too.
+-- Is true if the value of `--matching` is `pattern`, and `given` states whether the option `option`, which takes no
+-- value, is given.
 abbrev pub AsksPattern : List Row → List ℕ → List ℕ → Bool → Type 0
 AsksPattern rows pattern option given =
     (word_found rows (codes "matching") ≡ Some pattern) × (is_set (word_found rows option) ≡ given)
 
--- The files that match a pattern are listed: by `list`, or by `remove --dry-run`.
+-- Is true if `verb` lists the files whose names match `pattern`. Such a verb is `list` without `--all`, or `remove`
+-- with `--dry-run`.
 abbrev pub ListsFitting : List ℕ → List Row → List ℕ → Type 0
 ListsFitting verb rows pattern =
     ((verb ≡ codes "list") × AsksPattern rows pattern (codes "all") false)
     ⊎ ((verb ≡ codes "remove") × AsksPattern rows pattern (codes "dry-run") true)
 
--- The arguments of a command on a volume, with its verb. The bytes to put or copy are read later. With `--slot`, the
--- only name argument of `change` is the new name, and that of `kind` is the kind.
+-- Is true if `verb` with its arguments `rows` specifies the command on a volume. The bytes to put or copy are read
+-- later, so they are empty here. With `--slot`, the argument `OLD` of `change` is the new name, and `NAME` of `kind` is
+-- the kind.
 abbrev pub AsksOrder : List ℕ → List Row → Order → Type 0
 AsksOrder verb rows ListFiles =
     (verb ≡ codes "list") × (is_set (word_found rows (codes "all")) ≡ false) × AsksNoPattern rows
@@ -226,27 +233,29 @@ AsksVerb verb rows (verbs.New name blocks) =
 AsksVerb verb rows verbs.Repair = verb ≡ codes "repair"
 AsksVerb verb rows verbs.Check = verb ≡ codes "check"
 
--- The path of an image, which is given before the verb or after it.
+-- Is true if `path` is the path of the image, which is given either before or after the verb, and not at both
+-- positions.
 abbrev pub IsPath : Option (List ℕ) → Option (List ℕ) → List ℕ → Type 0
 IsPath (Some before) None path = path ≡ before
 IsPath None (Some behind) path = path ≡ behind
 IsPath None None path = ⊥
 IsPath (Some before) (Some behind) path = ⊥
 
--- The arguments of `files`, with its verb and the arguments after it, and the path of the file that gets the output.
+-- Is true if the arguments `m` of `files` specify `plan`: its verb, the path of its image and the path of its output.
 abbrev pub AsksFiles : ArgMatches → FilesPlan → Type 0
 AsksFiles m plan = (verb : List ℕ) × (rows : List Row) × (subcommand_rows_of m ≡ Some (verb, rows))
     × IsPath (word_found (words_of m) (codes "image")) (word_found rows (codes "image")) (string_bytes plan.path)
     × AsksVerb verb rows plan.verb × (word_found rows (codes "output") ≡ option_map string_bytes plan.output)
 
--- The arguments of `files salvage`, which also specify a new volume.
+-- Is true if the arguments `m` of `files salvage` specify `plan`.
 abbrev pub AsksSalvage : ArgMatches → SalvagePlan → Type 0
 AsksSalvage m plan = (rows : List Row) × (subcommand_rows_of m ≡ Some (codes "salvage", rows))
     × IsPath (word_found (words_of m) (codes "image")) (word_found rows (codes "image")) (string_bytes plan.path)
     × (word_found rows (codes "NEWPATH") ≡ Some (string_bytes plan.target))
     × IsFlag (one_of (codes "second") rows) plan.second
 
--- Which files are exported: all, those that match a pattern, or that of a slot.
+-- Is true if `rows` select the files that are exported: all files, the files whose names match the value of `--only`,
+-- or the file that `--slot` selects.
 abbrev pub AsksWanted : List Row → Wanted → Type 0
 AsksWanted rows wanted.All = (word_found rows (codes "only") ≡ None) × (word_found rows (codes "slot") ≡ None)
 AsksWanted rows (wanted.Matching pattern) =
@@ -254,7 +263,7 @@ AsksWanted rows (wanted.Matching pattern) =
 AsksWanted rows (wanted.Slot slot) =
     (word_found rows (codes "only") ≡ None) × IsSpelled (word_found rows (codes "slot")) slot
 
--- The words of files with the verb export, which name a new folder too.
+-- Is true if the arguments `m` of `files export` specify `plan`.
 abbrev pub AsksExport : ArgMatches → ExportPlan → Type 0
 AsksExport m plan = (rows : List Row) × (subcommand_rows_of m ≡ Some (codes "export", rows))
     × IsPath (word_found (words_of m) (codes "image")) (word_found rows (codes "image")) (string_bytes plan.path)
@@ -272,12 +281,13 @@ AsksImport m plan = (rows : List Row) × (subcommand_rows_of m ≡ Some (codes "
 
 -- ---- lines of a trace
 
--- The first step whose line is shown. The default is 0: all steps.
+-- Is true if `first` is the number of the first step whose line is shown, given by `--from`. The default is 0.
 abbrev pub IsFirst : Option (List ℕ) → ℕ → Type 0
 IsFirst None first = first ≡ 0
 IsFirst (Some word) first = IsNumber word first
 
--- The code whose steps are shown, by the arguments for a segment and a procedure of it.
+-- Is true if `wanted` is the code whose steps are shown. The first two arguments are the values of `--segment` and
+-- `--procedure`. A procedure requires a segment.
 abbrev pub IsCode : Option (List ℕ) → Option (List ℕ) → Code → Type 0
 IsCode None None wanted = wanted ≡ code.Anywhere
 IsCode None (Some procedure) wanted = ⊥
@@ -285,7 +295,7 @@ IsCode (Some segment) None wanted = (s : ℕ) × IsNumber segment s × (wanted �
 IsCode (Some segment) (Some procedure) wanted =
     (s : ℕ) × (p : ℕ) × IsNumber segment s × IsNumber procedure p × (wanted ≡ code.Procedure s p)
 
--- The arguments of raw and trace that select lines.
+-- The arguments `rows` of `raw` or `trace` select the lines `selection` of a trace.
 pub record AsksSelection (rows : List Row) (selection : Selection) : Type 0 where
   pub from : IsFirst (word_found rows (codes "from")) selection.from
   pub code : IsCode (word_found rows (codes "segment")) (word_found rows (codes "procedure")) selection.code
@@ -294,7 +304,8 @@ pub record AsksSelection (rows : List Row) (selection : Selection) : Type 0 wher
 
 -- ---- output of asm and dis
 
--- The output of asm. At most one of `--all`, `--list` and `--symbols` is given.
+-- Is true if `what` is the output that `asm` writes. The first three arguments state whether `--all`, `--list` and
+-- `--symbols` are given. At most one of them can be given.
 abbrev pub IsAsm : Bool → Bool → Bool → AsmOutput → Type 0
 IsAsm false false false what = what ≡ asm.File
 IsAsm false true false what = what ≡ asm.Listing
@@ -304,7 +315,8 @@ IsAsm true true symbols what = ⊥
 IsAsm true false true what = ⊥
 IsAsm false true true what = ⊥
 
--- The output of dis without `--indent` and `--blocks`. At most one of `--names`, `--list` and `--statements` is given.
+-- Is true if `what` is the output that `dis` writes without `--indent` and `--blocks`. The first three arguments state
+-- whether `--names`, `--list` and `--statements` are given. At most one of them can be given.
 abbrev pub IsUnindented : Bool → Bool → Bool → DisOutput → Type 0
 IsUnindented false false false what = what ≡ dis.Text
 IsUnindented true false false what = what ≡ dis.Names
@@ -314,19 +326,21 @@ IsUnindented true true statements what = ⊥
 IsUnindented true false true what = ⊥
 IsUnindented false true true what = ⊥
 
--- The output of dis without `--blocks`. With `--indent`, only `--statements` can be given too.
+-- Is true if `what` is the output that `dis` writes without `--blocks`. The fourth argument states whether `--indent`
+-- is given. With `--indent`, the options `--names` and `--list` cannot be given.
 abbrev pub IsUnblocked : Bool → Bool → Bool → Bool → DisOutput → Type 0
 IsUnblocked names list statements false what = IsUnindented names list statements what
 IsUnblocked names list statements true what = (names ≡ false) × (list ≡ false) × (what ≡ dis.Indented)
 
--- The output of dis. With `--blocks`, only `--statements` can be given too.
+-- Is true if `what` is the output that `dis` writes. The fifth argument states whether `--blocks` is given. With
+-- `--blocks`, the options `--names`, `--list` and `--indent` cannot be given.
 abbrev pub IsDis : Bool → Bool → Bool → Bool → Bool → DisOutput → Type 0
 IsDis names list statements indent false what = IsUnblocked names list statements indent what
 IsDis names list statements indent true what =
     (names ≡ false) × (list ≡ false) × (indent ≡ false) × (what ≡ dis.Blocks)
 
--- The input of asm and dis by the arguments for an image and a file: standard input, the file at a path, or a file on
--- an image.
+-- Is true if the last argument is the input of `asm` or `dis`: standard input, the file at a path, or a file on an
+-- image. `image` is the value of `--image`, and `file` is the argument `FILE`.
 abbrev pub IsTextInput : Option (List ℕ) → Option (List ℕ) → TextInput → Type 0
 IsTextInput image file inputs.Standard = (image ≡ None) × (file ≡ None)
 IsTextInput image file (inputs.File path) = (image ≡ None) × (file ≡ Some (string_bytes path))
@@ -336,14 +350,14 @@ IsTextInput image file (inputs.OnImage path name) =
 abbrev pub AsksTextInput : List Row → TextInput → Type 0
 AsksTextInput rows input = IsTextInput (word_found rows (codes "image")) (word_found rows (codes "FILE")) input
 
--- The input, and the path of the file that gets the output instead of standard output.
+-- The arguments `rows` of `asm` or `dis` specify `files`: the input, and the path of the file that gets the output.
 pub record AsksTextFiles (rows : List Row) (files : TextFiles) : Type 0 where
   pub input : AsksTextInput rows files.input
   pub output : word_found rows (codes "output") ≡ option_map string_bytes files.output
 
 -- ---- all arguments
 
--- The arguments of a command specify a job.
+-- Is true if the arguments `m` of the command `command` specify the job.
 abbrev pub Asks : List ℕ → ArgMatches → Plan → Type 0
 Asks command m (plans.Raw limit selection) =
     (command ≡ codes "raw") × IsLimit (word_found (words_of m) (codes "limit")) limit
@@ -369,29 +383,29 @@ Asks command m (plans.Salvage plan) = (command ≡ codes "files") × AsksSalvage
 Asks command m (plans.Export plan) = (command ≡ codes "files") × AsksExport m plan
 Asks command m (plans.Import plan) = (command ≡ codes "files") × AsksImport m plan
 
--- The command among all arguments, and the arguments found for it.
+-- Is true if the arguments `m` contain the command `command`, and the arguments after it have the rows of `below`.
 abbrev pub IsCommand : ArgMatches → List ℕ → ArgMatches → Type 0
 IsCommand m command below = subcommand_rows_of m ≡ Some (command, words_of below)
 
--- The value of `--form` after a verb, if there is one.
+-- Returns the value of `--form` after a verb. Returns `None` if it is missing or no verb is given.
 abbrev pub word_below : Option (List ℕ × List Row) → Option (List ℕ)
 word_below None = None
 word_below (Some behind) = word_found behind.1 (codes "form")
 
--- The form of the images, by the arguments of a command and those of its verb.
+-- Is true if `form` is the form of the images, which `--form` specifies before or after the verb.
 unfoldable pub IsForm : ArgMatches → Form → Type 0
 IsForm m form = AsksForm (word_found (words_of m) (codes "form")) (word_below (subcommand_rows_of m)) form
 
--- Whether `--quiet` is given after a verb.
+-- Returns whether `--quiet` is given after a verb.
 abbrev pub is_quiet_below : Option (List ℕ × List Row) → Bool
 is_quiet_below None = false
 is_quiet_below (Some behind) = is_set (word_found behind.1 (codes "quiet"))
 
--- Whether `--quiet` is given after a command or after its verb.
+-- Returns whether `--quiet` is given after a command or after its verb.
 unfoldable pub is_quiet : ArgMatches → Bool
 is_quiet m = is_set (word_found (words_of m) (codes "quiet")) || is_quiet_below (subcommand_rows_of m)
 
--- All arguments.
+-- Is true if the arguments `m` specify a command, and the arguments of this command specify `asked`.
 abbrev pub IsAsked : ArgMatches → Asked → Type 0
 IsAsked m asked = (command : List ℕ) × (below : ArgMatches) × IsCommand m command below
     × Asks command below asked.plan × IsForm below asked.form × (asked.is_quiet ≡ is_quiet below)

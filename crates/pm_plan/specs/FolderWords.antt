@@ -1,24 +1,25 @@
--- The words of `files export` for texts.
+-- The arguments of `files export` for text files.
 use Rattle.std.specs.Prelude.{◌≡◌, ◌≢◌, ⊤, ℕ, Bool, true, false, List, Option, None, Some, codes}
 use Rattle.std.specs.Prelude.{if◌then◌else◌}
 use Rattle.std.specs.Str.{bytes_eq}
 use Rattle.pm_folder.specs.declared.contents.Ends.{Ends}
 use Rattle.pm_folder.specs.declared.contents.Ends.TheVariants as ends
 
--- The line ends that a word names.
+-- Returns the line ends that `word` names, or `None` if `word` names no line ends.
 abbrev pub ends_named : List ℕ → Option Ends
 ends_named word = if bytes_eq word (codes "lf") then Some ends.Lf
     else (if bytes_eq word (codes "crlf") then Some ends.CrLf
     else (if bytes_eq word (codes "cr") then Some ends.Cr else None))
 
--- The line ends of exported texts: byte 10 if no word names others; none if texts are not asked for.
+-- Is true if `text` is the line ends of exported text files. The first argument states whether `--text` is given, and
+-- the second is the value of `--ends`. The default is a line feed. Without `--text`, `text` is `None`.
 abbrev pub IsText : Bool → Option (List ℕ) → Option Ends → Type 0
 IsText false None text = text ≡ None
 IsText false (Some word) text = ⊥
 IsText true None text = text ≡ Some ends.Lf
 IsText true (Some word) text = (text ≡ ends_named word) × (ends_named word ≢ None)
 
--- A word for line ends requires texts, and names line ends.
+-- Is true if the options are valid: `--ends` requires `--text`, and its value names line ends.
 abbrev pub IsGoodText : Bool → Option (List ℕ) → Type 0
 IsGoodText text None = ⊤
 IsGoodText false (Some word) = ⊥

@@ -1,4 +1,4 @@
--- The forms of images: their names, the volume in a file of each form, and the file that a volume is written as.
+-- The forms of images: their names, the volume in a file of each form, and the file in which a volume is stored.
 use Rattle.std.specs.Prelude.{◌≡◌, ⊤, ℕ, List, Option, None, Some, IsSome, codes, if◌then◌else◌}
 use Rattle.std.specs.Str.{bytes_eq}
 use Rattle.pm_check.specs.Headed.{filed, volume_in}
@@ -7,12 +7,12 @@ use Rattle.pm_plan.specs.declared.form.Form.{Form}
 use Rattle.pm_plan.specs.declared.form.Form.TheVariants as forms
 use Rattle.pm_check.specs.declared.order.Order.TheVariants as orders
 
--- The volume in a file of a form, with its blocks in order.
+-- Returns the volume in the bytes `file` of a file with this form. The blocks of the volume are in order.
 abbrev pub volume_of : Form → List ℕ → List ℕ
 volume_of (forms.In order) file = turned order file
 volume_of forms.Headed file = volume_in file
 
--- The file of a form that `volume` is written as, replacing `old`.
+-- Returns the bytes of the file in which `volume` is stored in this form. `old` is the bytes of the replaced file.
 abbrev pub file_of : Form → List ℕ → List ℕ → List ℕ
 file_of (forms.In order) old volume = turned order volume
 file_of forms.Headed old volume = filed old volume
@@ -26,14 +26,16 @@ form_named word =
     else (if bytes_eq word (codes "swapped") then Some (forms.In orders.Swapped)
     else (if bytes_eq word (codes "2mg") then Some forms.Headed else None)))
 
--- The form, by the argument before a verb or the argument after it. The default is blocks in order.
+-- Is true if `form` is the form that `--form` names. The first argument is its value before the verb, and the second
+-- its value after the verb. At most one of them can be given. The default is `In Blocks`.
 abbrev pub AsksForm : Option (List ℕ) → Option (List ℕ) → Form → Type 0
 AsksForm None None form = form ≡ forms.In orders.Blocks
 AsksForm (Some word) None form = form_named word ≡ Some form
 AsksForm None (Some word) form = form_named word ≡ Some form
 AsksForm (Some before) (Some behind) form = ⊥
 
--- The argument is one of the four forms, and is not given at both positions.
+-- Is true if `--form` is valid: its value names one of the four forms, and it is not given both before and after the
+-- verb.
 abbrev pub IsFormWord : Option (List ℕ) → Option (List ℕ) → Type 0
 IsFormWord None None = ⊤
 IsFormWord (Some word) None = IsSome (form_named word)

@@ -1,4 +1,4 @@
--- The valid arguments: what each argument of a command line must be.
+-- The requirements for the arguments of each command. A command line is valid if each argument meets its requirement.
 use Rattle.std.specs.Prelude.{◌≡◌, ◌≢◌, ◌≤◌, ⊤, ℕ, Bool, true, false, List, [], ◌∷◌, ◌++◌, Option, None, Some}
 use Rattle.std.specs.Prelude.{codes, is_some, if◌then◌else◌}
 use Rattle.std.specs.Bool.{MatchBool}
@@ -13,109 +13,109 @@ use Rattle.pm_plan.specs.Forms.{IsFormWord}
 use Rattle.pm_plan.specs.declared.words.WordsError.{WordsError}
 use Rattle.pm_plan.specs.declared.words.WordsError.TheVariants as errors
 
--- There is an argument. It may be empty.
+-- Is true if the argument exists. It may be empty.
 abbrev pub IsThere : Option (List ℕ) → Type 0
 IsThere None = ⊥
 IsThere (Some word) = ⊤
 
--- There is an argument, and it is not empty.
+-- Is true if the argument exists and is not empty.
 abbrev pub IsGiven : Option (List ℕ) → Type 0
 IsGiven None = ⊥
 IsGiven (Some word) = word ≢ []
 
--- There is no argument, or it is not empty.
+-- Is true if the argument is missing, or is not empty.
 abbrev pub IsOptional : Option (List ℕ) → Type 0
 IsOptional None = ⊤
 IsOptional (Some word) = word ≢ []
 
--- There is an argument, and it is the name of a kind of file or a number up to 15.
+-- Is true if the argument exists, and is the name of a kind of file or a decimal number up to 15.
 abbrev pub IsKindWord : Option (List ℕ) → Type 0
 IsKindWord word = (kind : ℕ) × (kind ≤ 15) × IsKind word kind
 
--- There is no argument if another option is given.
+-- Is true if the argument is missing, or if the option that the first argument refers to is not given.
 abbrev pub IsAlone : Bool → Option (List ℕ) → Type 0
 IsAlone true None = ⊤
 IsAlone true (Some word) = ⊥
 IsAlone false word = ⊤
 
--- There is no argument, or there is another one too.
+-- Is true if the argument is missing, or if the argument `other` exists too.
 abbrev pub IsBeside : Option (List ℕ) → Option (List ℕ) → Type 0
 IsBeside None other = ⊤
 IsBeside (Some word) None = ⊥
 IsBeside (Some word) (Some other) = ⊤
 
--- At most one of two options without a value is given.
+-- Is true if at most one of two options without a value is given.
 abbrev pub IsNotBoth : Bool → Bool → Type 0
 IsNotBoth true other = other ≡ false
 IsNotBoth false other = ⊤
 
--- Either a name or the number of a slot is given.
+-- Is true if either a name or the number of a slot is given, and not both. The number is at most 65,535.
 abbrev pub IsNameOrSlot : Option (List ℕ) → Option (List ℕ) → Type 0
 IsNameOrSlot (Some name) None = ⊤
 IsNameOrSlot None (Some slot) = IsNumberWord 65535 (Some slot)
 IsNameOrSlot (Some name) (Some slot) = ⊥
 IsNameOrSlot None None = ⊥
 
--- Exactly one of a name, the number of a slot and a pattern is given.
+-- Is true if exactly one of a name, the number of a slot and a pattern is given.
 abbrev pub IsNameSlotOrPattern : Option (List ℕ) → Option (List ℕ) → Option (List ℕ) → Type 0
 IsNameSlotOrPattern name slot None = IsNameOrSlot name slot
 IsNameSlotOrPattern None None (Some pattern) = ⊤
 IsNameSlotOrPattern None (Some slot) (Some pattern) = ⊥
 IsNameSlotOrPattern (Some name) slot (Some pattern) = ⊥
 
--- If an option without a value is given, this argument is given too.
+-- Is true if the option without a value is not given, or if the argument `other` exists.
 abbrev pub IsWith : Bool → Option (List ℕ) → Type 0
 IsWith true other = IsThere other
 IsWith false other = ⊤
 
--- There is no argument for a slot, or it is a number up to 65,535.
+-- Is true if the value of `--slot` is missing, or is a decimal number up to 65,535.
 abbrev pub IsSlotWord : Option (List ℕ) → Type 0
 IsSlotWord None = ⊤
 IsSlotWord (Some word) = IsNumberUpTo 65535 word
 
--- The arguments for a segment and for a procedure of it are numbers up to 255. Both may be missing, but a procedure
--- requires a segment.
+-- Is true if the values of `--segment` and `--procedure` are missing or decimal numbers up to 255, and a procedure is
+-- given only together with a segment.
 abbrev pub IsCodeWords : Option (List ℕ) → Option (List ℕ) → Type 0
 IsCodeWords None None = ⊤
 IsCodeWords None (Some procedure) = ⊥
 IsCodeWords (Some segment) None = IsNumberUpTo 255 segment
 IsCodeWords (Some segment) (Some procedure) = IsNumberUpTo 255 segment × IsNumberUpTo 255 procedure
 
--- The requirement for an argument.
+-- A requirement for an argument.
 pub data Need : Type 0 where
-  -- It is given. It may be empty.
+  -- The argument exists. It may be empty.
   Word : Need
-  -- An option that is given, with a value.
+  -- The option is given and its value is not empty.
   Given : Need
-  -- An option that may be missing. Otherwise it has a value.
+  -- The option is missing, or its value is not empty.
   Optional : Need
-  -- A kind of file.
+  -- The argument is a kind of file.
   Kind : Need
-  -- A kind of file. If the argument is missing, the argument under this id is a kind instead.
+  -- The argument is a kind of file. If it is missing, the argument under this id is a kind of file.
   KindOr : List ℕ → Need
-  -- Decimal digits that write a number up to this one.
+  -- The argument is a decimal number up to this number.
   Number : ℕ → Need
-  -- The limit of `raw`. It may be missing.
+  -- The value of `--limit` of `raw` is missing or is a decimal number below 2 ^ 32.
   Limit : Need
-  -- The limit of a run or a trace. It may be missing. With `--unlimited` it must be missing.
+  -- The value of `--limit` of a run or a trace is valid. With `--unlimited`, it must be missing.
   RunLimit : Need
-  -- An option that must be missing with `--save`.
+  -- The option must be missing if `--save` is given.
   NotSaved : Need
-  -- An option without a value that must be missing if this one is given.
+  -- The option takes no value, and must be missing if the option under this id is given.
   NotBeside : List ℕ → Need
-  -- An option that must be missing if the argument under this id is missing.
+  -- The option must be missing if the argument under this id is missing.
   Beside : List ℕ → Need
-  -- A name. It must be missing if and only if `--slot` has a number up to 65,535.
+  -- The argument is a name. It must be missing if and only if `--slot` has a decimal number up to 65,535.
   NameOrSlot : Need
-  -- A name, the number of a slot after `--slot`, or a pattern after `--matching`: exactly one of them.
+  -- Exactly one of these is given: the name, the number of a slot after `--slot`, or a pattern after `--matching`.
   NameSlotOrPattern : Need
-  -- An option that must be missing if this option without a value is given.
+  -- The option must be missing if the option under this id, which takes no value, is given.
   Without : List ℕ → Need
-  -- An option without a value that requires this argument.
+  -- The option takes no value. If it is given, the argument under this id must exist.
   With : List ℕ → Need
-  -- The number of a slot up to 65,535. It may be missing.
+  -- The number of a slot is missing, or is at most 65,535.
   Slot : Need
-  -- The number of a segment. It may be missing, but not if there is the number of a procedure.
+  -- The number of a segment is valid together with that of a procedure. A procedure requires a segment.
   Segment : Need
 
 abbrev pub Meets : List Row → Need → Option (List ℕ) → Type 0
@@ -138,12 +138,12 @@ Meets rows (With other) word = IsWith (is_set word) (word_found rows other)
 Meets rows Slot word = IsSlotWord word
 Meets rows Segment word = IsCodeWords word (word_found rows (codes "procedure"))
 
--- Each argument meets its requirement.
+-- Is true if each argument in `rows` meets its requirement. A requirement is a pair of an id and a `Need`.
 abbrev pub MeetEach : List Row → List (List ℕ × Need) → Type 0
 MeetEach rows [] = ⊤
 MeetEach rows (need ∷ needs) = Meets rows need.1 (word_found rows need.0) × MeetEach rows needs
 
--- There are requirements, and each argument meets its own.
+-- Is true if the requirements are not `None`, and each argument in `rows` meets its requirement.
 abbrev pub MeetAll : List Row → Option (List (List ℕ × Need)) → Type 0
 MeetAll rows None = ⊥
 MeetAll rows (Some needs) = MeetEach rows needs
@@ -153,50 +153,50 @@ abbrev pub others_needs : List (List ℕ × Need)
 others_needs = (codes "d5", Optional) ∷ (codes "d9", Optional) ∷ (codes "d10", Optional) ∷ (codes "d11", Optional)
     ∷ (codes "d12", Optional) ∷ []
 
--- The requirements of run, trace and debug: the disk of unit 4 and the program's name.
+-- The requirements of `run`, `trace` and `debug` for the program.
 abbrev pub program_needs : List (List ℕ × Need)
 program_needs = (codes "d4", Given) ∷ (codes "d5", Optional) ∷ (codes "d9", Optional) ∷ (codes "d10", Optional)
     ∷ (codes "d11", Optional) ∷ (codes "d12", Optional) ∷ (codes "NAME", Word) ∷ (codes "limit", RunLimit)
     ∷ (codes "system", Optional) ∷ []
 
--- The further requirements of run.
+-- The requirements of `run` for its other options.
 abbrev pub choices_needs : List (List ℕ × Need)
 choices_needs = (codes "system", NotSaved) ∷ (codes "save-all", NotBeside (codes "save"))
     ∷ (codes "printer", Optional) ∷ []
 
--- The requirements of debug.
+-- The requirements of `debug`.
 abbrev pub debug_needs : List (List ℕ × Need)
 debug_needs = (codes "input", Optional) ∷ program_needs
 
--- The requirements of raw and trace for the selection of lines.
+-- The requirements of `raw` and `trace` for the options that select lines.
 abbrev pub selection_needs : List (List ℕ × Need)
 selection_needs = (codes "from", Limit) ∷ (codes "segment", Segment) ∷ []
 
--- The requirements of trace.
+-- The requirements of `trace`.
 abbrev pub trace_needs : List (List ℕ × Need)
 trace_needs = (codes "output", Optional) ∷ (selection_needs ++ program_needs)
 
--- The requirements of asm for its output.
+-- The requirements of `asm` for the options that select its output.
 abbrev pub asm_needs : List (List ℕ × Need)
 asm_needs = (codes "all", NotBeside (codes "list")) ∷ (codes "symbols", NotBeside (codes "list"))
     ∷ (codes "symbols", NotBeside (codes "all")) ∷ []
 
--- The requirements of dis for its output.
+-- The requirements of `dis` for the options that select its output.
 abbrev pub dis_needs : List (List ℕ × Need)
 dis_needs = (codes "list", NotBeside (codes "names")) ∷ (codes "statements", NotBeside (codes "names"))
     ∷ (codes "statements", NotBeside (codes "list")) ∷ (codes "indent", NotBeside (codes "names"))
     ∷ (codes "indent", NotBeside (codes "list")) ∷ (codes "blocks", NotBeside (codes "names"))
     ∷ (codes "blocks", NotBeside (codes "list")) ∷ (codes "blocks", NotBeside (codes "indent")) ∷ []
 
--- The requirements of asm and dis for their input.
+-- The requirements of `asm` and `dis` for their input.
 abbrev pub input_needs : List (List ℕ × Need)
 input_needs = (codes "image", Optional) ∷ (codes "FILE", Optional) ∷ (codes "image", Beside (codes "FILE")) ∷ []
 
--- The requirements of asm and dis for their files.
+-- The requirements of `asm` and `dis` for their input and output files.
 abbrev pub text_files_needs : List (List ℕ × Need)
 text_files_needs = input_needs ++ ((codes "output", Optional) ∷ [])
 
--- The requirements of each command except `files`. `None` if there is no such command.
+-- Returns the requirements of `command`. Returns `None` if it is `files` or no command.
 abbrev pub command_needs : List ℕ → Option (List (List ℕ × Need))
 command_needs command =
     if bytes_eq command (codes "raw") then Some ((codes "limit", Limit) ∷ selection_needs)
@@ -206,7 +206,7 @@ command_needs command =
     else (if bytes_eq command (codes "asm") then Some (asm_needs ++ text_files_needs)
     else (if bytes_eq command (codes "dis") then Some (dis_needs ++ text_files_needs) else None)))))
 
--- The requirements of each verb of `files`. `None` if there is no such verb.
+-- Returns the requirements of `verb` of `files`. Returns `None` if its arguments are not listed here.
 abbrev pub verb_needs : List ℕ → Option (List (List ℕ × Need))
 verb_needs verb =
     if bytes_eq verb (codes "list") then Some ((codes "matching", Without (codes "all")) ∷ [])
@@ -231,39 +231,40 @@ verb_needs verb =
     else (if bytes_eq verb (codes "copy") then Some ((codes "NAME", Word) ∷ (codes "slot", Slot) ∷ [])
     else None))))))))))))))))
 
--- The path of an image is given before the verb or after it, not at both positions, and is not empty.
+-- Is true if the path of the image is given either before or after the verb, not at both positions, and is not empty.
 abbrev pub IsOnePath : Option (List ℕ) → Option (List ℕ) → Type 0
 IsOnePath (Some before) None = before ≢ []
 IsOnePath None (Some behind) = behind ≢ []
 IsOnePath None None = ⊥
 IsOnePath (Some before) (Some behind) = ⊥
 
--- The arguments before a verb, the verb and the arguments after it are valid.
+-- Is true if the arguments `rows` before a verb, the verb and the arguments after the verb are valid.
 abbrev pub AreGoodBefore : List Row → Option (List ℕ × List Row) → Type 0
 AreGoodBefore rows None = ⊥
 AreGoodBefore rows (Some behind) =
     IsOnePath (word_found rows (codes "image")) (word_found behind.1 (codes "image"))
     × IsOptional (word_found behind.1 (codes "output")) × MeetAll behind.1 (verb_needs behind.0)
 
--- Whether the verb has this name.
+-- Returns whether the verb is `name`.
 abbrev pub is_verb : List ℕ → Option (List ℕ × List Row) → Bool
 is_verb name None = false
 is_verb name (Some after) = bytes_eq after.0 name
 
--- The arguments before `salvage`, the verb and the arguments after it are valid. They specify the new volume.
+-- Is true if the verb is `salvage`, and the arguments before and after it are valid.
 abbrev pub IsGoodSalvage : List Row → Option (List ℕ × List Row) → Type 0
 IsGoodSalvage rows None = ⊥
 IsGoodSalvage rows (Some behind) = (behind.0 ≡ codes "salvage")
     × IsOnePath (word_found rows (codes "image")) (word_found behind.1 (codes "image"))
     × IsThere (word_found behind.1 (codes "NEWPATH"))
 
--- A pattern and a slot are not both given, and a slot is a number.
+-- Is true if `--only` and `--slot` are not both given, and the value of `--slot` is missing or a decimal number up to
+-- 65,535.
 abbrev pub IsGoodWanted : Option (List ℕ) → Option (List ℕ) → Type 0
 IsGoodWanted None slot = IsSlotWord slot
 IsGoodWanted (Some pattern) None = ⊤
 IsGoodWanted (Some pattern) (Some slot) = ⊥
 
--- The words before the verb export, the verb, and the words after it are accepted.
+-- Is true if the verb is `export`, and the arguments before and after it are valid.
 abbrev pub IsGoodExport : List Row → Option (List ℕ × List Row) → Type 0
 IsGoodExport rows None = ⊥
 IsGoodExport rows (Some after) = (after.0 ≡ codes "export")
@@ -279,28 +280,28 @@ IsGoodImport rows (Some after) = (after.0 ≡ codes "import")
     × IsOnePath (word_found rows (codes "image")) (word_found after.1 (codes "image"))
     × IsThere (word_found after.1 (codes "FOLDER")) × AreGoodEnds (word_found after.1 (codes "ends"))
 
--- The arguments of `files` are valid for its verb.
+-- Is true if the arguments of `files` are valid for its verb.
 abbrev pub AreGoodFiles : List Row → Option (List ℕ × List Row) → Type 0
 AreGoodFiles rows after = MatchBool (is_verb (codes "salvage") after) (IsGoodSalvage rows after)
     (MatchBool (is_verb (codes "export") after) (IsGoodExport rows after)
     (MatchBool (is_verb (codes "import") after) (IsGoodImport rows after) (AreGoodBefore rows after)))
 
--- The arguments of a command are valid.
+-- Is true if the arguments `m` are valid for the command `command`.
 abbrev pub AreGood : List ℕ → ArgMatches → Type 0
 AreGood command m = MatchBool (bytes_eq command (codes "files"))
     (AreGoodFiles (words_of m) (subcommand_rows_of m)) (MeetAll (words_of m) (command_needs command))
 
--- The argument for the form of the images is valid.
+-- Is true if `--form` in the arguments `m` of a command is valid.
 unfoldable pub IsGoodForm : ArgMatches → Type 0
 IsGoodForm m = IsFormWord (word_found (words_of m) (codes "form")) (word_below (subcommand_rows_of m))
 
--- All arguments are valid: for each command that is found, its arguments and its form are valid.
+-- Is true if a command is given, and its arguments and its form are valid.
 abbrev pub AreAllGood : ArgMatches → Type 0
 AreAllGood m = (is_some (subcommand_rows_of m) ≡ true)
     × ((command : List ℕ) (below : ArgMatches) → IsCommand m command below → AreGood command below)
     × ((command : List ℕ) (below : ArgMatches) → IsCommand m command below → IsGoodForm below)
 
--- The error is `Wrong`, whose text states the valid arguments.
+-- Is true if the error is `Wrong`. The text of `Wrong` states the valid arguments.
 abbrev pub IsWrong : WordsError → Type 0
 IsWrong (errors.Wrong text) = ⊤
 IsWrong error = ⊥

@@ -1,4 +1,4 @@
-//! The definitions of the commands for clap: names, arguments, options and help texts.
+//! The tables of all commands, arguments, options and help texts, and their conversion to the types of clap.
 use clap::{Arg, ArgAction, Command};
 use std::alloc::{AllocError, Global};
 
@@ -10,17 +10,18 @@ const VERSION: &str = "0.1";
 enum Form {
     /// A required argument, found by its position.
     Word,
-    /// An option that is required. The name of its value.
+    /// A required option. The string names its value in the help text.
     Needed(&'static str),
-    /// An optional option. The name of its value.
+    /// An option that can be omitted. The string names its value in the help text.
     Free(&'static str),
     /// An option without a value.
     Flag,
-    /// An argument found by its position. It is required unless this option is given.
+    /// An argument found by its position. It is required unless the option with this id is given.
     Unless(&'static str),
     /// An optional argument, found by its position.
     Maybe,
-    /// An optional option that also has a letter. The letter and the name of its value.
+    /// An option that can be omitted and also has a short name, as in `-o`. The fields are the letter and the name of
+    /// the value in the help text.
     Lettered(char, &'static str),
 }
 
@@ -128,7 +129,7 @@ const FORM: WordRow = (
 
 const FILE: WordRow = ("NAME", Form::Word, "File name, in upper or lower case");
 
-/// The name of the file. Required unless `--slot` is given.
+/// The name of a file, required unless `--slot` is given.
 const FILE_OR_SLOT: WordRow = (
     "NAME",
     Form::Unless("slot"),
@@ -387,7 +388,7 @@ const VERBS: &[CommandRow] = &[
     ),
 ];
 
-/// The commands of the debugger.
+/// The help text that lists the commands of the debugger.
 const DEBUG_HELP: &str = "\
 Commands, one per line. Numbers are decimal, or $ and at most four hexadecimal digits, as in $1F:
   break S P O    set a breakpoint at offset O, in bytes from the entry of procedure P of segment S; with `if A = W`
@@ -506,17 +507,17 @@ const BLOCKS: WordRow = (
     "Print statements in blocks: IF, ELSE, WHILE, REPEAT, CASE; cannot be used with --names, --list or --indent",
 );
 
-/// The input file.
+/// The argument for the path of the input file.
 const READ: WordRow = (
     "FILE",
     Form::Maybe,
     "Read this file instead of standard input; with --image, a file on that volume",
 );
 
-/// The image that contains the input file.
+/// The option for the path of the image that contains the input file.
 const ON_IMAGE: WordRow = ("image", Form::Free("PATH"), "Disk image that contains FILE");
 
-/// The output file.
+/// The option for the path of the output file.
 const WRITTEN: WordRow = (
     "output",
     Form::Lettered('o', "PATH"),
@@ -585,7 +586,7 @@ fn args<'a>(alloc: Global, rows: &[WordRow]) -> Result<Vec<Arg<'a>>, AllocError>
     Ok(args)
 }
 
-/// An option of each command.
+/// The option `--quiet`, which each command accepts.
 const QUIET: WordRow = (
     "quiet",
     Form::Flag,
@@ -599,7 +600,7 @@ fn command_of<'a>(alloc: Global, row: CommandRow) -> Result<Command<'a>, AllocEr
     Command::new(alloc, name).about(about).args(words)
 }
 
-/// Adds the commands of these table rows.
+/// Appends the commands that the table `rows` describes to `commands`.
 fn add<'a>(
     alloc: Global,
     commands: &mut Vec<Command<'a>>,
@@ -611,7 +612,7 @@ fn add<'a>(
     Ok(())
 }
 
-/// Adds `files` with its verbs.
+/// Appends the command `files` with its verbs to `commands`.
 fn add_files<'a>(alloc: Global, commands: &mut Vec<Command<'a>>) -> Result<(), AllocError> {
     let mut verbs = Vec::new(alloc);
     add(alloc, &mut verbs, VERBS)?;
@@ -621,7 +622,7 @@ fn add_files<'a>(alloc: Global, commands: &mut Vec<Command<'a>>) -> Result<(), A
     Ok(commands.push(files)?)
 }
 
-/// Adds `debug`. Its option `--limit` has no effect.
+/// Appends the command `debug` to `commands`. Its option `--limit` has no effect.
 fn add_debug<'a>(alloc: Global, commands: &mut Vec<Command<'a>>) -> Result<(), AllocError> {
     let debug = command_of(alloc, DEBUG)?.after_help(DEBUG_HELP);
     Ok(commands.push(debug)?)

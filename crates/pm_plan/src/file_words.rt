@@ -18,7 +18,7 @@ use std::alloc::Global;
 /// The message for an invalid slot.
 const SLOT: &str = "invalid --slot: it must be a decimal number, at most 65535";
 
-/// A verb of `files` with its image file and its output.
+/// A verb of `files`, with the paths of its image file and its output file.
 #[derive(Drop)]
 pub struct FilesPlan {
     /// The path of the image file.
@@ -29,7 +29,7 @@ pub struct FilesPlan {
     pub output: Option<String>,
 }
 
-/// The arguments of `salvage`: the files of an image are saved in a new volume.
+/// The arguments of `files salvage`, which copies the files of an image to a new volume.
 #[derive(Drop)]
 pub struct SalvagePlan {
     /// The path of the image.
@@ -43,18 +43,18 @@ pub struct SalvagePlan {
 /// A verb of `files`.
 #[derive(Drop)]
 pub enum Verb {
-    /// A command on the volume in the image.
+    /// A command that reads or changes the volume in the image.
     Command(pm_filer::FileCommand),
-    /// A new volume with this name and this number of blocks.
+    /// Creates a new volume with this name and this number of blocks.
     New(String, u16),
-    /// Repairs the first copy of the image's directory.
+    /// Replaces the first copy of the directory by the second copy.
     Repair,
     /// Reports the faults of the image.
     Check,
 }
 
 impl Verb {
-    /// Whether the command writes the bytes of a file.
+    /// Returns whether the verb writes the bytes of a file to its output.
     pub fn gets(&self) -> bool {
         use pm_filer::FileCommand;
         matches!(
@@ -63,7 +63,7 @@ impl Verb {
         )
     }
 
-    /// Whether the command reads standard input.
+    /// Returns whether the verb reads standard input.
     pub fn reads(&self) -> bool {
         use pm_filer::FileCommand;
         matches!(
@@ -74,8 +74,8 @@ impl Verb {
     }
 }
 
-/// Returns the number of a kind of file, from 0 to 15. `text` is the name of the kind or its decimal number. `None` if
-/// it is neither.
+/// Returns the number, from 0 to 15, of the kind of file that `text` gives by its name or as a decimal number. Returns
+/// `None` if `text` is neither the name of a kind nor such a number.
 fn kind(text: &str) -> Option<u8>
     ensures value { IfSome result (λ kind. IsKind (Some text.now) kind) }
     ensures accepted { IsSome result ↔ ((kind : ℕ) × (kind ≤ 15) × IsKind (Some text.now) kind) }
@@ -89,14 +89,15 @@ fn kind(text: &str) -> Option<u8>
     if kind < 16 { Some(kind as u8) } else { None }
 }
 
-/// Returns the decimal number of blocks or of a slot. `None` if `text` is no number up to 65,535.
+/// Returns the number that `text` spells in decimal digits. Returns `None` if `text` is no decimal number up to 65,535.
 fn short_number(text: &str) -> Option<u16>
     ensures exact { SomeIff result (IsNumberUpTo 65535 text.now) (digits_value 10 text.now) }
 {
     u16::try_from(number(text)?).ok()
 }
 
-/// Returns a copy of a required argument. `NoCommand` if it is missing, and `NoMemory` if memory is exhausted.
+/// Returns a copy of the argument under `id`. Returns `NoCommand` if the argument is missing, and `NoMemory` if memory
+/// is exhausted.
 pub(crate) fn word(alloc: Global, matches: &ArgMatches<'_>, id: &str) -> Result<String, WordsError>
     ensures value { IfOk result (λ text. word_found (words_of matches.now) id.now ≡ Some (string_bytes text)) }
     ensures taken { IsThere (word_found (words_of matches.now) id.now) → IsOkUnless result NoMemory }
@@ -104,7 +105,8 @@ pub(crate) fn word(alloc: Global, matches: &ArgMatches<'_>, id: &str) -> Result<
     Ok(String::from_str(alloc, needed(matches, id)?)?)
 }
 
-/// Returns a part of a date. `Wrong` if it is no decimal number up to 255, and `NoCommand` if it is missing.
+/// Returns the year, month or day under `id`. Returns `Wrong` if the argument is no decimal number up to 255, and
+/// `NoCommand` if the argument is missing.
 fn part(matches: &ArgMatches<'_>, id: &str) -> Result<u8, WordsError>
     ensures value { IfOk result (λ part. IsSpelled (word_found (words_of matches.now) id.now) part) }
     ensures accepted { IsOk result ↔ IsNumberWord 255 (word_found (words_of matches.now) id.now) }
@@ -116,7 +118,8 @@ fn part(matches: &ArgMatches<'_>, id: &str) -> Result<u8, WordsError>
     }
 }
 
-/// Returns the kind of a file. `Wrong` if the argument names none, and `NoCommand` if it is missing.
+/// Returns the number of the kind of file under `id`. Returns `Wrong` if the argument is no kind, and `NoCommand` if
+/// the argument is missing.
 fn kind_of(matches: &ArgMatches<'_>, id: &str) -> Result<u8, WordsError>
     ensures value { IfOk result (λ kind. IsKind (word_found (words_of matches.now) id.now) kind) }
     ensures accepted { IsOk result ↔ IsKindWord (word_found (words_of matches.now) id.now) }
@@ -127,8 +130,8 @@ fn kind_of(matches: &ArgMatches<'_>, id: &str) -> Result<u8, WordsError>
     ))
 }
 
-/// Returns the number of blocks of a new volume. `Wrong` if it is no decimal number up to 65,535, and `NoCommand` if it
-/// is missing.
+/// Returns the argument `BLOCKS`, the number of blocks of a new volume. Returns `Wrong` if the argument is no decimal
+/// number up to 65,535, and `NoCommand` if the argument is missing.
 fn blocks_of(matches: &ArgMatches<'_>) -> Result<u16, WordsError>
     ensures value { IfOk result (λ blocks. IsSpelled (word_found (words_of matches.now) (codes "BLOCKS")) blocks) }
     ensures accepted { IsOk result ↔ IsNumberWord 65535 (word_found (words_of matches.now) (codes "BLOCKS")) }
@@ -168,13 +171,13 @@ enum Chosen {
     InSlot(u16),
 }
 
-/// Returns the name under `id`, or the slot.
+/// Returns the file that the name under `id` or the option `--slot` selects.
 ///
 /// # Errors
 ///
-/// - A name and a slot are given: `Wrong`.
-/// - The slot is no decimal number up to 65,535: `Wrong`.
-/// - Neither is given: `NoCommand`.
+/// - Both a name and `--slot` are given: `Wrong`.
+/// - The value of `--slot` is no decimal number up to 65,535: `Wrong`.
+/// - Neither a name nor `--slot` is given: `NoCommand`.
 /// - Out of memory: `NoMemory`.
 fn name_or_slot(alloc: Global, matches: &ArgMatches<'_>, id: &str) -> Result<Chosen, WordsError>
     ensures named { IfOk result (λ chosen. AsksEither id.now (words_of matches.now) chosen) }
@@ -218,7 +221,8 @@ fn get_text(alloc: Global, matches: &ArgMatches<'_>) -> Result<Verb, WordsError>
     }))
 }
 
-/// Lists all files, all with further details of the directory, or those that match a pattern.
+/// Returns the verb `list`: it lists all files, all files with more details (`--all`), or the files whose names match a
+/// pattern (`--matching`).
 fn list(alloc: Global, matches: &ArgMatches<'_>) -> Result<Verb, WordsError>
     ensures asked { IfOk result (λ verb. AsksVerb (codes "list") (words_of matches.now) verb) }
     ensures good { IsOk result → MeetAll (words_of matches.now) (verb_needs (codes "list")) }
@@ -236,7 +240,8 @@ fn list(alloc: Global, matches: &ArgMatches<'_>) -> Result<Verb, WordsError>
     }
 }
 
-/// Removes the files that match a pattern. With `--dry-run` it lists them instead.
+/// Returns the verb that removes the files whose names match `pattern`. With `--dry-run`, returns the verb that only
+/// lists these files.
 fn remove_fitting(
     alloc: Global,
     matches: &ArgMatches<'_>,
@@ -278,7 +283,7 @@ fn remove(alloc: Global, matches: &ArgMatches<'_>) -> Result<Verb, WordsError>
     }))
 }
 
-/// With `--slot`, the only name is the new name.
+/// Returns the verb `change`, which renames a file. With `--slot`, the only name argument is the new name.
 fn change(alloc: Global, matches: &ArgMatches<'_>) -> Result<Verb, WordsError>
     ensures asked { IfOk result (λ verb. AsksVerb (codes "change") (words_of matches.now) verb) }
     ensures good { IsOk result → MeetAll (words_of matches.now) (verb_needs (codes "change")) }
@@ -292,7 +297,7 @@ fn change(alloc: Global, matches: &ArgMatches<'_>) -> Result<Verb, WordsError>
     }))
 }
 
-/// With `--slot`, the only argument is the kind.
+/// Returns the verb `kind`, which changes the kind of a file. With `--slot`, the only other argument is the new kind.
 fn set_kind(alloc: Global, matches: &ArgMatches<'_>) -> Result<Verb, WordsError>
     ensures asked { IfOk result (λ verb. AsksVerb (codes "kind") (words_of matches.now) verb) }
     ensures good { IsOk result → MeetAll (words_of matches.now) (verb_needs (codes "kind")) }
@@ -306,7 +311,8 @@ fn set_kind(alloc: Global, matches: &ArgMatches<'_>) -> Result<Verb, WordsError>
     }))
 }
 
-/// Returns the slot if it is given. `Wrong` if it is no decimal number up to 65,535.
+/// Returns the value of `--slot`, or `None` if `--slot` is not given. Returns `Wrong` if the value is no decimal number
+/// up to 65,535.
 pub(crate) fn slot_of(matches: &ArgMatches<'_>) -> Result<Option<u16>, WordsError>
     ensures value { IfOk result (λ slot. IsSlot (word_found (words_of matches.now) (codes "slot")) slot) }
     ensures accepted { IsOk result ↔ IsSlotWord (word_found (words_of matches.now) (codes "slot")) }
@@ -321,7 +327,7 @@ pub(crate) fn slot_of(matches: &ArgMatches<'_>) -> Result<Option<u16>, WordsErro
     }
 }
 
-/// The slot selects a file of the volume that standard input contains.
+/// Returns the verb `copy`. `--slot` selects a file of the volume whose image is in standard input.
 fn copy(alloc: Global, matches: &ArgMatches<'_>) -> Result<Verb, WordsError>
     ensures asked { IfOk result (λ verb. AsksVerb (codes "copy") (words_of matches.now) verb) }
     ensures good { IsOk result → MeetAll (words_of matches.now) (verb_needs (codes "copy")) }
@@ -365,8 +371,8 @@ fn verb_of(alloc: Global, verb: &str, words: &ArgMatches<'_>) -> Result<Verb, Wo
     Ok(Verb::Command(command))
 }
 
-/// Returns the path of the image, which is given before the verb or after it. `Wrong` if it is given at neither
-/// position, or at both.
+/// Returns the path of the image, which is given either before the verb (`before`) or after the verb (`behind`).
+/// Returns `Wrong` if both or neither are given.
 pub(crate) fn path_of(before: Option<String>, behind: Option<String>) -> Result<String, WordsError>
     ensures path { IfOk result (λ path. IsPath (option_map string_bytes before) (option_map string_bytes behind)
         (string_bytes path)) }
@@ -409,7 +415,7 @@ pub fn files_plan(alloc: Global, matches: &ArgMatches<'_>) -> Result<FilesPlan, 
     Ok(FilesPlan { path, verb, output })
 }
 
-/// Whether the verb of `files` has this name.
+/// Returns whether the verb of `files` is `name`.
 pub fn is_verb(matches: &ArgMatches<'_>, name: &str) -> bool
     ensures value { result ≡ is_verb name.now (subcommand_rows_of matches.now) }
 {

@@ -12,17 +12,17 @@ use clap::ArgMatches;
 use pm_folder::{Ends, Wanted};
 use std::alloc::Global;
 
-/// What is wrong with the word for line ends.
+/// The message for an invalid value of `--ends`.
 const ENDS: &str = "invalid --ends: it must be lf, crlf or cr";
 
-/// The files of a volume that are written to a new folder.
+/// The arguments of `files export`, which writes the files of a volume to a new folder.
 #[derive(Drop)]
 pub struct ExportPlan {
-    /// The path of the image.
+    /// The path of the image file.
     pub path: String,
     /// The path of the folder.
     pub folder: String,
-    /// The line ends of text files that are written as plain text. `None`: all files are written byte for byte.
+    /// The line ends with which text files are written as plain text. `None` if all files are written byte for byte.
     pub text: Option<Ends>,
     /// Which files are written.
     pub wanted: Wanted,
@@ -41,7 +41,7 @@ pub struct ImportPlan {
     pub is_trial: bool,
 }
 
-/// Returns the line ends that a word names. `None` if it names none.
+/// Returns the line ends that `word` names: `lf`, `crlf` or `cr`. Returns `None` for any other `word`.
 fn ends_named(word: &str) -> Option<Ends>
     ensures value { result ≡ ends_named word.now }
 {
@@ -53,11 +53,12 @@ fn ends_named(word: &str) -> Option<Ends>
     }
 }
 
-/// Returns the line ends of exported texts. `None` if texts are not asked for.
+/// Returns the line ends of exported text files, or `None` if `--text` is not given.
 ///
 /// # Errors
 ///
-/// `Wrong` for `--ends` without `--text`, and for a word that names no line ends.
+/// - `--ends` is given without `--text`: `Wrong`.
+/// - The value of `--ends` names no line ends: `Wrong`.
 fn text_of(matches: &ArgMatches<'_>) -> Result<Option<Ends>, WordsError>
     ensures value { IfOk result (IsText (is_set (word_found (words_of matches.now) (codes "text")))
         (word_found (words_of matches.now) (codes "ends"))) }
@@ -80,7 +81,9 @@ fn text_of(matches: &ArgMatches<'_>) -> Result<Option<Ends>, WordsError>
 ///
 /// # Errors
 ///
-/// `Wrong` for a slot that is no number up to 65,535, and for a pattern with a slot. `NoMemory`.
+/// - The value of `--slot` is no decimal number up to 65,535: `Wrong`.
+/// - `--only` and `--slot` are both given: `Wrong`.
+/// - Out of memory: `NoMemory`.
 fn wanted(alloc: Global, matches: &ArgMatches<'_>) -> Result<Wanted, WordsError>
     ensures asked { IfOk result (AsksWanted (words_of matches.now)) }
     ensures good { IsOk result → IsGoodWanted (word_found (words_of matches.now) (codes "only"))
@@ -96,7 +99,7 @@ fn wanted(alloc: Global, matches: &ArgMatches<'_>) -> Result<Wanted, WordsError>
     }
 }
 
-/// Returns what the words of `files` with the verb `export` ask for.
+/// Returns the job that the arguments of `files` with the verb `export` specify.
 pub fn export_plan(alloc: Global, matches: &ArgMatches<'_>) -> Result<ExportPlan, WordsError>
     ensures asked { IfOk result (AsksExport matches.now) }
     ensures good { IsOk result → IsGoodExport (words_of matches.now) (subcommand_rows_of matches.now) }

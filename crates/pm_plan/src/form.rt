@@ -1,4 +1,4 @@
-//! The form of the images: how an image is stored in its file.
+//! The form of an image: how its bytes are stored in its file (`--form`).
 ghost use Rattle.std.specs.Prelude.{◌≡◌, IfErr, IfOk, IsOk, IsOkUnless, codes, option_map};
 ghost use Rattle.pm_plan.specs.Asked.{IsForm, word_below, word_found, words_of};
 ghost use Rattle.pm_plan.specs.Forms.{form_named};
@@ -19,12 +19,12 @@ const FORM: &str =
 pub enum Form {
     /// Only the image, with its bytes in this order.
     In(Order),
-    /// A .2mg file. Its header states the position and the order of the image.
+    /// A .2mg file, whose header states the position of the image in the file and the order of its bytes.
     Headed,
 }
 
 impl Form {
-    /// Returns the form with the name `word`. `None` if there is none.
+    /// Returns the form that `word` names. Returns `None` if `word` names no form.
     pub fn named(word: &str) -> Option<Form>
         ensures value { result ≡ form_named word.now }
     {
@@ -38,7 +38,7 @@ impl Form {
     }
 }
 
-/// Returns the value of `--form` after a verb, if there is one.
+/// Returns the value of `--form` after a verb. Returns `None` if it is not given after a verb.
 fn word_below<'a>(matches: &ArgMatches<'a>) -> Option<&'a str>
     ensures word { option_map (λ word. word.now) result ≡ word_below (subcommand_rows_of matches.now) }
 {
@@ -48,7 +48,8 @@ fn word_below<'a>(matches: &ArgMatches<'a>) -> Option<&'a str>
     }
 }
 
-/// Returns the form of the images that the arguments of a command specify. The default is blocks in order.
+/// Returns the form of the images that the arguments of a command specify. The default is `In(Blocks)`: only the image,
+/// with its blocks in order.
 ///
 /// # Errors
 ///

@@ -1,5 +1,5 @@
-//! Files whose images have another form. An image is converted to a volume in blocks when it is read, and back to its
-//! form when it is written.
+//! A file store that converts images. An image in the given form is converted to a volume with its blocks in order when
+//! it is read, and back to its form when it is written.
 ghost use Rattle.std.specs.Prelude.{◌≡◌, Bool, IfErr, IfOk, OnErr, OnOk, Some, option_map, string_bytes};
 ghost use Rattle.pm_files.specs.Held.{Puts};
 ghost use Rattle.pm_plan.specs.Forms.{volume_of};
@@ -11,23 +11,23 @@ use pm_files::{DiskFault, IMAGE_LIMIT, Store};
 use std::alloc::Global;
 use std::io::ErrorKind;
 
-/// The files of a store, whose images have this form. Two files are not converted: those at the paths `system` and
-/// `printer`. A path is one of these two only if it is spelled the same.
+/// A file store that converts all files from and to `form`, except the files at the paths `system` and `printer`. A
+/// path is one of these two only if it has the same bytes.
 #[derive(Drop)]
 pub struct InForm<S> {
-    /// The unconverted files.
+    /// The store with the unconverted files.
     pub store: S,
     /// The form of the images.
     pub form: Form,
-    /// The path of the system's code file, or of another file that is not converted.
+    /// The path of a file that is not converted, such as the system's code file.
     pub system: Option<String>,
-    /// The path of the printer's file, or of another file that is not converted.
+    /// The path of another file that is not converted, such as the printer's file.
     pub printer: Option<String>,
     /// The allocator for converted images.
     pub alloc: Global,
 }
 
-/// Whether `path` is spelled the same as `one`. `false` if there is no `one`.
+/// Returns whether `path` has the same bytes as `one`. Returns `false` if `one` is `None`.
 fn is_path(path: &str, one: &Option<String>) -> bool
     ensures value { result ≡ is_path path.now (option_map string_bytes one.now) }
 {
@@ -37,8 +37,7 @@ fn is_path(path: &str, one: &Option<String>) -> bool
     }
 }
 
-/// Returns the form of the file at `path`: blocks in order if it is the system's or the printer's file, and `form`
-/// otherwise.
+/// Returns the form of the file at `path`: `In(Blocks)` if `path` is `system` or `printer`, and `form` otherwise.
 fn form_at(form: Form, system: &Option<String>, printer: &Option<String>, path: &str) -> Form
     ensures value { result ≡ form_at form (option_map string_bytes system.now)
         (option_map string_bytes printer.now) path.now }
@@ -50,7 +49,8 @@ fn form_at(form: Form, system: &Option<String>, printer: &Option<String>, path: 
     }
 }
 
-/// Returns the volume in a file of this form, with its blocks in order. The only error is `NoMemory`.
+/// Returns the volume in a file with the bytes `file` and the form `form`. The blocks of the volume are in order. The
+/// only error is `NoMemory`.
 #[tactic(auto, using(pm_check::proofs::OrderLaws::turned_blocks))]
 fn volume_of(alloc: Global, form: Form, file: Vec<u8>) -> Result<Vec<u8>, DiskFault>
     ensures value { IfOk result (λ volume. volume.items ≡ volume_of form file.items) }
@@ -63,7 +63,7 @@ fn volume_of(alloc: Global, form: Form, file: Vec<u8>) -> Result<Vec<u8>, DiskFa
     }
 }
 
-/// Returns the bytes of the file at `path`, or none if there is no file. No file changes.
+/// Returns the bytes of the file at `path`, or an empty list if no file exists at `path`. No file is changed.
 #[tactic(auto, using(crate::proofs::InFormLaws::found_held, crate::proofs::InFormLaws::found_none))]
 fn found<S: Store>(store: &mut S, alloc: Global, path: &str) -> Result<Vec<u8>, DiskFault>
     ensures stays { S.files store.new ≡ S.files store.old }
@@ -76,8 +76,8 @@ fn found<S: Store>(store: &mut S, alloc: Global, path: &str) -> Result<Vec<u8>, 
     }
 }
 
-/// Writes a volume into a .2mg file. The data around the blocks of the old file are unchanged if it has as many blocks.
-/// Otherwise a new file replaces it. On an error, no file has changed.
+/// Writes `volume` into the .2mg file at `path`. If the old file has as many blocks as `volume`, the bytes before and
+/// after its blocks remain unchanged. Otherwise a new file replaces it. On an error, no file has changed.
 ///
 /// # Errors
 ///

@@ -24,7 +24,7 @@ pub struct Program {
     pub others: Others,
     /// The name of the code file on unit 4.
     pub name: String,
-    /// The maximal number of steps: 18,446,744,073,709,551,615 if there is no limit.
+    /// The maximum number of steps. It is 18,446,744,073,709,551,615 with `--unlimited`.
     pub limit: u64,
     /// The path of the code file whose segment in slot 0 replaces the program's empty slot 0.
     pub system: Option<String>,
@@ -33,15 +33,15 @@ pub struct Program {
 /// The options of `run` that do not specify the program.
 #[derive(Drop)]
 pub struct RunChoices {
-    /// The images that are saved.
+    /// Which images are saved.
     pub saving: Saving,
     /// The path of the file for the printer's output.
     pub printer: Option<String>,
-    /// Whether Ctrl-D is a byte of the program's input on a terminal.
+    /// Whether Ctrl-C and Ctrl-D on a terminal are passed to the program as bytes 3 and 4.
     pub escape: bool,
 }
 
-/// Returns the maximal number of steps of a run.
+/// Returns the maximum number of steps of a run.
 ///
 /// # Errors
 ///
@@ -78,7 +78,8 @@ fn disk_of(alloc: Global, matches: &ArgMatches<'_>) -> Result<String, WordsError
     given(alloc, matches, "d4")?.ok_or(WordsError::NoCommand)
 }
 
-/// Returns the paths of the image files for the other units. `NoValue` if one of them is empty.
+/// Returns the paths of the image files for the units 5, 9, 10, 11 and 12. Returns `NoValue` if a path is empty, and
+/// `NoMemory` if memory is exhausted.
 fn others_of(alloc: Global, matches: &ArgMatches<'_>) -> Result<Others, WordsError>
     ensures asked { IfOk result (λ others. paths_in others ≡ other_words (words_of matches.now)) }
     ensures good { IsOk result → MeetEach (words_of matches.now) others_needs }
@@ -117,7 +118,7 @@ pub fn program_of(alloc: Global, matches: &ArgMatches<'_>) -> Result<Program, Wo
     })
 }
 
-/// Returns which images `--save-all` saves. With `--system`, the image of unit 4 is not saved, since it contains the
+/// Returns which images `--save-all` saves. With `--system`, the image of unit 4 is not saved, because it contains the
 /// system's segment.
 fn all_own(matches: &ArgMatches<'_>) -> Saving
     ensures value { result ≡ all_own (word_found (words_of matches.now) (codes "system")) }
@@ -145,7 +146,8 @@ fn saving_of(matches: &ArgMatches<'_>) -> Result<Saving, WordsError>
     }
 }
 
-/// Returns `Wrong` if both `--save` and `--system` are given: the saved image would contain the system's segment.
+/// Returns `Wrong` if both `--save` and `--system` are given, because the saved image would contain the system's
+/// segment.
 fn unsaved(matches: &ArgMatches<'_>) -> Result<(), WordsError>
     ensures good { IsOk result ↔ IsAlone (is_set (word_found (words_of matches.now) (codes "save")))
         (word_found (words_of matches.now) (codes "system")) }

@@ -1,4 +1,4 @@
-//! The files of `asm` and `dis`.
+//! The input and output files of `asm` and `dis`.
 ghost use Rattle.std.specs.Prelude.{IfOk, IsOk, IsOkUnless};
 ghost use Rattle.pm_plan.specs.Asked.{AsksTextFiles, AsksTextInput, words_of};
 ghost use Rattle.pm_plan.specs.Needed.{MeetEach, input_needs, text_files_needs};

@@ -1,4 +1,4 @@
-//! The arguments of `raw` and `trace` that select lines.
+//! The arguments of `raw` and `trace` that select the lines of a trace.
 ghost use Rattle.std.specs.Prelude.{◌↔◌, IfErr, IfOk, IfSome, IsOk, IsSome, SomeIff, codes, option_map};
 ghost use Rattle.std.specs.Str.Parse.{digits_value};
 ghost use Rattle.pm_plan.specs.Asked.{AsksSelection, IsCode, IsFirst, IsLimitWord, IsNumberUpTo, word_found, words_of};
@@ -8,15 +8,16 @@ use crate::words::{WordsError, flag, found, number};
 use clap::ArgMatches;
 use pm_jobs::{Code, Selection};
 
-/// Returns the number of a segment or a procedure. `None` if `text` is no decimal number up to 255.
+/// Returns the number of a segment or procedure that `text` spells. Returns `None` if `text` is no decimal number up to
+/// 255.
 fn small(text: &str) -> Option<u8>
     ensures exact { SomeIff result (IsNumberUpTo 255 text.now) (digits_value 10 text.now) }
 {
     u8::try_from(number(text)?).ok()
 }
 
-/// Returns the first step whose line is shown, 0 by default. `Wrong` if `--from` is no decimal number up to
-/// 4,294,967,295.
+/// Returns the value of `--from`, the number of the first step whose line is shown. The default is 0. Returns `Wrong`
+/// if the value is no decimal number up to 4,294,967,295.
 fn first_of(matches: &ArgMatches<'_>) -> Result<u32, WordsError>
     ensures value { IfOk result (λ first. IsFirst (word_found (words_of matches.now) (codes "from")) first) }
     ensures accepted { IsOk result ↔ IsLimitWord (word_found (words_of matches.now) (codes "from")) }
@@ -30,8 +31,8 @@ fn first_of(matches: &ArgMatches<'_>) -> Result<u32, WordsError>
     }
 }
 
-/// Returns the code that the arguments for a segment and a procedure select. `None` if one of them is no decimal number
-/// up to 255, or if there is a procedure without a segment.
+/// Returns the code that the values of `--segment` and `--procedure` select. Returns `None` if one of them is no
+/// decimal number up to 255, or if `procedure` is given without `segment`.
 fn code_by(segment: Option<&str>, procedure: Option<&str>) -> Option<Code>
     ensures value { IfSome result (λ code. IsCode (option_map (λ word. word.now) segment.entry)
         (option_map (λ word. word.now) procedure.entry) code) }
@@ -51,7 +52,8 @@ fn code_by(segment: Option<&str>, procedure: Option<&str>) -> Option<Code>
     }
 }
 
-/// Returns the code whose steps are shown. `Wrong` if the arguments select none, as `code_by` states.
+/// Returns the code whose steps are shown. Returns `Wrong` if `--segment` or `--procedure` is invalid, or if
+/// `--procedure` is given without `--segment`.
 fn code_of(matches: &ArgMatches<'_>) -> Result<Code, WordsError>
     ensures value { IfOk result (λ code. IsCode (word_found (words_of matches.now) (codes "segment"))
         (word_found (words_of matches.now) (codes "procedure")) code) }

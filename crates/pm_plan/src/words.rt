@@ -1,4 +1,4 @@
-//! The arguments of the command line.
+//! The job that the command line specifies, and the reasons for which a command line is invalid.
 ghost use Rattle.std.specs.Prelude.{◌≡◌, ◌↔◌, Err, IfErr, IfOk, IsOk, IsOkUnless, None, Some, SomeIff, [], false};
 ghost use Rattle.std.specs.Prelude.{option_map, string_bytes, codes};
 ghost use Rattle.std.specs.Str.Parse.{digits_value};
@@ -23,7 +23,7 @@ use std::alloc::{AllocError, Global};
 use std::env::Args;
 use std::{fmt, io};
 
-/// The maximal number of steps of a run by default.
+/// The maximum number of steps of a run without `--limit`.
 const LIMIT: u32 = 10_000_000;
 
 /// The message for an invalid date.
@@ -32,32 +32,32 @@ pub(crate) const DATE: &str = "invalid date: Y, M and D must be decimal numbers,
 /// A job that the arguments specify.
 #[derive(Drop)]
 pub enum Plan {
-    /// Runs and traces the program in standard input for at most `limit` steps. `selection` selects the lines that are
-    /// written.
+    /// Runs and traces the program in standard input for at most `limit` steps. Writes the lines that `selection`
+    /// selects.
     Raw { limit: u32, selection: Selection },
-    /// Assembles a text: the output that is requested, and the files.
+    /// Assembles a text. The fields are the requested output and the files.
     Asm(AsmOutput, TextFiles),
-    /// Disassembles a code file: the output that is requested, and the files.
+    /// Disassembles a code file. The fields are the requested output and the files.
     Dis(DisOutput, TextFiles),
     /// Executes a verb of `files`.
     Files(FilesPlan),
     /// Runs a program.
     Run(Program, RunChoices),
-    /// Traces a program. The selection states which lines are written. The path names the file that gets the trace
-    /// instead of standard output, if there is one.
+    /// Traces a program, and writes the lines that the selection states. The path names the file that gets the trace;
+    /// `None` for standard output.
     Trace(Program, Selection, Option<String>),
-    /// Debugs a program. The path names the file whose bytes are in the console's input queue at the start, if there is
-    /// one.
+    /// Debugs a program. The path names a file whose bytes are appended to the console input queue at the start. `None`
+    /// for an empty queue.
     Debug(Program, Option<String>),
-    /// Saves the files of an image in a new volume.
+    /// Copies the files of an image to a new volume.
     Salvage(SalvagePlan),
-    /// The files of a volume that are written to a new folder.
+    /// Writes the files of a volume to a new folder.
     Export(ExportPlan),
     /// Adds the files of a folder to a volume.
     Import(ImportPlan),
 }
 
-/// The job, and the form of its images.
+/// The job that the command line specifies, with the options that each command accepts.
 #[derive(Drop)]
 pub struct Asked {
     pub plan: Plan,
@@ -72,15 +72,15 @@ pub struct Asked {
 pub enum WordsError {
     /// The arguments do not match a command, or they ask for help.
     Usage(clap::Error),
-    /// The arguments do not match a command. The line is a hint.
+    /// The arguments do not match a command. The string is a hint that is printed after the message.
     Tried(clap::Error, &'static str),
-    /// The arguments do not match a command. The line is a hint that is printed only on a terminal.
+    /// The arguments do not match a command. The string is a hint that is printed only on a terminal.
     Meant(clap::Error, &'static str),
     /// There are options, but no command.
     NoCommand,
     /// An option has no value, as in `--image=`.
     NoValue,
-    /// An argument is invalid, or an option is missing or given twice. The text states which.
+    /// An argument is invalid, or an option is missing or given twice. The string is the message.
     Wrong(&'static str),
     /// The arguments ask for the version.
     Version(clap::Error),
@@ -89,7 +89,7 @@ pub enum WordsError {
     NoMemory,
 }
 
-/// The message for standard error, with its line feeds.
+/// Writes the message for standard error, including its line feeds.
 impl fmt::Display for WordsError {
     fn fmt<W: fmt::Write>(&self, f: &mut fmt::Formatter<W>) -> fmt::Result {
         match self {
@@ -110,7 +110,7 @@ impl fmt::Display for WordsError {
 }
 
 impl WordsError {
-    /// Returns the hint that a terminal shows after the message, if there is one.
+    /// Returns the hint that is shown after the message only on a terminal, or `None`.
     pub fn hint(&self) -> Option<&'static str> {
         match self {
             WordsError::Meant(_, line) => Some(line),
@@ -149,8 +149,8 @@ impl From<AllocError> for WordsError {
     }
 }
 
-/// Returns the number that `text` spells with decimal digits only; leading zeros are allowed. `None` for any other
-/// text, for example with a sign or without a digit, and for a number above 4,294,967,295.
+/// Returns the number that `text` spells with decimal digits only. Leading zeros are allowed. Returns `None` for any
+/// other text, for example with a sign or without a digit, and for a number above 4,294,967,295.
 pub fn number(text: &str) -> Option<u32>
     ensures exact { SomeIff result (IsNumberUpTo 4294967295 text.now) (digits_value 10 text.now) }
 {
@@ -160,28 +160,28 @@ pub fn number(text: &str) -> Option<u32>
     text.parse().ok()
 }
 
-/// Returns the argument under `id`, if there is one.
+/// Returns the argument under `id`, or `None` if it is missing.
 pub fn found<'a>(matches: &ArgMatches<'a>, id: &str) -> Option<&'a str>
     ensures word { option_map (λ word. word.now) result ≡ word_found (words_of matches.now) id.now }
 {
     matches.get_str(id)
 }
 
-/// Whether the argument under `id` is an option without a value that is given.
+/// Returns whether the option `id`, which takes no value, is given. The argument under `id` is then the text `true`.
 pub fn is_set(matches: &ArgMatches<'_>, id: &str) -> bool
     ensures value { result ≡ is_set (word_found (words_of matches.now) id.now) }
 {
     found(matches, id) == Some("true")
 }
 
-/// Whether an option without a value is given.
+/// Returns whether the option `id`, which takes no value, is given.
 pub fn flag(matches: &ArgMatches<'_>, id: &str) -> bool
     ensures flag { IsFlag (one_of id.now (words_of matches.now)) result }
 {
     matches.get_flag(id)
 }
 
-/// Returns a required argument. `NoCommand` if it is missing.
+/// Returns the argument under `id`. Returns `NoCommand` if it is missing.
 pub fn needed<'a>(matches: &ArgMatches<'a>, id: &str) -> Result<&'a str, WordsError>
     ensures word { IfOk result (λ word. word_found (words_of matches.now) id.now ≡ Some word.now) }
     ensures refusal { IfErr result (λ error. (error ≡ NoCommand) × (word_found (words_of matches.now) id.now ≡ None)) }
@@ -189,7 +189,7 @@ pub fn needed<'a>(matches: &ArgMatches<'a>, id: &str) -> Result<&'a str, WordsEr
     found(matches, id).ok_or(WordsError::NoCommand)
 }
 
-/// Returns a copy of the value of an option, if the option is given.
+/// Returns a copy of the value of the option `id`, or `None` if the option is not given.
 ///
 /// # Errors
 ///
@@ -212,7 +212,8 @@ pub fn given(
     }
 }
 
-/// Returns the value of `--limit`, or the default. `Wrong` if it is no decimal number up to 4,294,967,295.
+/// Returns the value of `--limit`. The default is 10,000,000. Returns `Wrong` if the value is no decimal number up to
+/// 4,294,967,295.
 pub fn limit_of(matches: &ArgMatches<'_>) -> Result<u32, WordsError>
     ensures value { IfOk result (λ limit. IsLimit (word_found (words_of matches.now) (codes "limit")) limit) }
     ensures accepted { IsOk result ↔ IsLimitWord (word_found (words_of matches.now) (codes "limit")) }
@@ -243,8 +244,8 @@ fn files_asked(alloc: Global, matches: &ArgMatches<'_>) -> Result<Plan, WordsErr
     }
 }
 
-/// Returns the output that is requested from `asm`. `Wrong` if more than one of `--all`, `--list` and `--symbols` is
-/// given.
+/// Returns the output that the options of `asm` request. Returns `Wrong` if more than one of `--all`, `--list` and
+/// `--symbols` is given.
 fn asm_output(matches: &ArgMatches<'_>) -> Result<AsmOutput, WordsError>
     ensures asked { IfOk result (IsAsm (is_set (word_found (words_of matches.now) (codes "all")))
         (is_set (word_found (words_of matches.now) (codes "list")))
@@ -262,15 +263,15 @@ fn asm_output(matches: &ArgMatches<'_>) -> Result<AsmOutput, WordsError>
     }
 }
 
-/// Returns the output that is requested from `dis`.
+/// Returns the output that the options of `dis` request.
 ///
 /// # Errors
 ///
-/// `Wrong` for each of these, in this order:
+/// `Wrong` in each of these cases, which are checked in this order:
 ///
-/// - `--blocks` together with `--names`, `--list` or `--indent`;
-/// - `--indent` together with `--names` or `--list`;
-/// - without `--blocks` and `--indent`: more than one of `--names`, `--list` and `--statements`.
+/// - `--blocks` is given together with `--names`, `--list` or `--indent`;
+/// - `--indent` is given together with `--names` or `--list`;
+/// - `--blocks` and `--indent` are not given, and more than one of `--names`, `--list` and `--statements` is given.
 fn dis_output(matches: &ArgMatches<'_>) -> Result<DisOutput, WordsError>
     ensures asked { IfOk result (IsDis (is_set (word_found (words_of matches.now) (codes "names")))
         (is_set (word_found (words_of matches.now) (codes "list")))
@@ -309,12 +310,12 @@ fn dis_output(matches: &ArgMatches<'_>) -> Result<DisOutput, WordsError>
     }
 }
 
-/// Returns the job that a command and its arguments specify.
+/// Returns the job that `command` and its arguments `matches` specify.
 ///
 /// # Errors
 ///
 /// - The command is none of the seven: `NoCommand`.
-/// - The arguments are invalid: as the function of the command states.
+/// - The arguments are invalid: the errors of the function that reads the arguments of this command.
 fn plan_by(alloc: Global, command: &str, matches: &ArgMatches<'_>) -> Result<Plan, WordsError>
     ensures asked { IfOk result (λ plan. Asks command.now matches.now plan) }
     ensures good { IsOk result → AreGood command.now matches.now }
@@ -357,7 +358,7 @@ fn is_quiet(matches: &ArgMatches<'_>) -> bool
     is_set(matches, "quiet") || is_quiet_below(matches)
 }
 
-/// Returns the job that the arguments found by clap specify. `NoCommand` if there is no command.
+/// Returns the job that the arguments in `matches` specify. Returns `NoCommand` if no command is given.
 fn plan_asked(alloc: Global, matches: &ArgMatches<'_>) -> Result<Asked, WordsError>
     ensures asked { IfOk result (λ asked. IsAsked matches.now asked) }
     ensures taken { AreAllGood matches.now → IsOkUnless result NoMemory }
@@ -375,7 +376,7 @@ fn plan_asked(alloc: Global, matches: &ArgMatches<'_>) -> Result<Asked, WordsErr
     })
 }
 
-/// Returns a hint for arguments that a command does not accept, if it is known what can be meant.
+/// Returns a hint about an argument that the command in `words` does not accept. Returns `None` if no hint applies.
 fn meant_by(words: &[String]) -> Option<&'static str> {
     let has = |option| words.iter().any(|word| word.as_str().starts_with(option));
     match words.get(1)?.as_str() {
@@ -393,7 +394,7 @@ fn meant_by(words: &[String]) -> Option<&'static str> {
     }
 }
 
-/// Returns a hint for an unknown command, if it is a verb of `files` or a common name of a command.
+/// Returns a hint about the unknown command `word`, if `word` is a verb of `files` or a common name of a command.
 fn command_for(word: &str) -> Option<&'static str> {
     match word {
         "list"
@@ -429,8 +430,8 @@ fn command_for(word: &str) -> Option<&'static str> {
     }
 }
 
-/// Returns a hint for an unknown verb of `files`, if it is known what can be meant. clap may suggest a similar word
-/// that does something else, such as `remove` for `rename`.
+/// Returns a hint about an unknown verb of `files` in `words`, or `None` if no hint applies. Without the hint, clap may
+/// suggest a similar word that does something else, such as `remove` for `rename`.
 fn verb_for(words: &[String]) -> Option<&'static str> {
     let has = |name: &str| words.iter().any(|word| word.as_str() == name);
     if has("rename") || has("ren") || has("mv") {
@@ -446,7 +447,7 @@ fn verb_for(words: &[String]) -> Option<&'static str> {
     }
 }
 
-/// Returns the error for arguments that clap rejects, with a hint if it is known what can be meant.
+/// Returns the error for the arguments `words`, which clap rejects. The error includes a hint if one applies.
 fn refused(error: clap::Error, words: &[String]) -> WordsError {
     let line = match error.kind() {
         ErrorKind::UnknownArgument => meant_by(words),
@@ -478,13 +479,13 @@ fn parsed<'a>(alloc: Global, words: &'a [String]) -> Result<Asked, WordsError> {
     plan_asked(alloc, &matches)
 }
 
-/// Returns the job that the arguments specify. The first argument is the program's name. Without further arguments, the
-/// job is `raw`.
+/// Returns the job that the arguments `args` specify. The first argument is the program's name. If it is the only one,
+/// the job is `raw`.
 ///
 /// # Errors
 ///
 /// - The arguments cannot be read, or one is not UTF-8: `NotText`.
-/// - clap rejects the arguments, or they ask for help or the version: `Usage`, `Tried`, `Meant` or `Version`.
+/// - clap rejects the arguments, or they request help or the version: `Usage`, `Tried`, `Meant` or `Version`.
 /// - The arguments of the command are invalid: `NoCommand`, `NoValue` or `Wrong`.
 /// - Out of memory: `NoMemory`.
 pub fn plan_of(alloc: Global, args: io::Result<Args>) -> Result<Asked, WordsError> {

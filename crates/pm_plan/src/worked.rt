@@ -1,7 +1,7 @@
-//! Worked examples for the option of a limit. The function does nothing.
+//! Worked examples of the maximum number of steps. Their functions have an empty body.
 ghost use Rattle.pm_plan.specs.Worked.{WorkedLimits};
 
-/// The maximal number of steps of a run with `--unlimited`, and without a limit option.
+/// States the maximum number of steps of a run with `--unlimited`, and of a run without `--unlimited` and `--limit`.
 #[tactic(auto, using(crate::proofs::Computed::worked_limits))]
 pub fn worked_limits()
     ensures law { WorkedLimits }

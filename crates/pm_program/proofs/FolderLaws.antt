@@ -1,4 +1,4 @@
--- Laws of the folders that are filled.
+-- Lemmas about the folder of a salvage.
 use Rattle.std.proofs.Common.{◌≡◌, ℕ, List, Option, None, Some, IfSome, subst}
 use Rattle.std.specs.Prelude.{Vec, option_map, vec_items, string_bytes}
 use Rattle.std.specs.declared.alloc.Global.{Global}
@@ -12,7 +12,8 @@ use Rattle.pm_tool.specs.Said.{Tells, TellsAll, job_said}
 use Rattle.pm_tool.specs.declared.outcome.Job.TheVariants as jobs
 use Rattle.pm_tool.specs.declared.outcome.Outcome.{Outcome}
 
--- If the input is known, the folder is filled with the files of the new volume that is defined for the image read.
+-- If the input is known, the folder is filled with the files of the new volume that the specification states for
+-- `image`.
 pub known_folder : (before after : Streams) (store old new : Files) (plan : SalvagePlan) (image : Vec ℕ Global)
     (outcome : Outcome) (unwritten : Option (Vec Unwritten Global)) (from : List ℕ) → from ≡ string_bytes plan.path
     → TellsAll before after outcome (job_said (jobs.Salvage image plan.second))

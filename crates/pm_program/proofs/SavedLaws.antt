@@ -1,4 +1,5 @@
--- The image that a verb of `files` saves is the one that the specification of its job states.
+-- Lemmas for the functions of saved.rt: what a job saves is what the specification of the job states. The input is
+-- *known* if the model of the input stream states its remaining bytes.
 use Rattle.std.proofs.Common.{◌≡◌, ◌∙◌, ◌∷◌, [], ℕ, Bool, true, false, List, Option, None, Some, Result, Ok, Err}
 use Rattle.std.proofs.Common.{OnOk, OnErr, inl, inr}
 use Rattle.std.proofs.Common.{refl, sym, subst, IfOk, IfSome, option_map, vec_items, string_bytes, Vec, length, get_or}
@@ -31,7 +32,7 @@ use Rattle.pm_plan.specs.declared.file_words.SalvagePlan.{SalvagePlan}
 use Rattle.pm_plan.specs.declared.file_words.Verb.{Verb}
 use Rattle.pm_plan.specs.declared.file_words.Verb.TheVariants as verbs
 
--- A list of length five consists of the five elements that are read from it.
+-- A list of length 5 consists of its elements at the indices 0 to 4.
 pub five_are : {X : Type 0} (xs : List X) (a b c d e : X) → length xs ≡ 5
     → xs ≡ get_or xs 0 a ∷ get_or xs 1 b ∷ get_or xs 2 c ∷ get_or xs 3 d ∷ get_or xs 4 e ∷ []
 five_are [] a b c d e n = absurd (omega arith)
@@ -42,7 +43,7 @@ five_are (p ∷ q ∷ r ∷ s ∷ []) a b c d e n = absurd (omega arith)
 five_are (p ∷ q ∷ r ∷ s ∷ t ∷ []) a b c d e n = refl
 five_are (p ∷ q ∷ r ∷ s ∷ t ∷ u ∷ xs) a b c d e n = absurd (omega arith)
 
--- None of the list's elements is an image.
+-- Is true if each element of the list is `None`.
 abbrev AreNone : List (Option (List ℕ)) → Type 0
 AreNone [] = Unit {0}
 AreNone (None ∷ images) = AreNone images
@@ -59,7 +60,7 @@ saves_said old new path verbs.Repair job input says saves =
 saves_said old new path verbs.Check job input says saves =
     (says.0, says.1, subst (λ told. Saves old new path told.image) (says.2 input) saves)
 
--- If the input is known, the file contains the image that the specification states.
+-- If the input is known, the file at `path` contains the image that the specification of `verb` states.
 pub known_saves_said : (before after : Streams) (old read new : Files) (path : List ℕ) (verb : Verb) (job : Job)
     (outcome : Outcome) → TellsAll before after outcome (job_said job) → SaysOf old path verb job
     → read ≡ old → Saves read new path (option_map vec_items outcome.image)
@@ -74,31 +75,31 @@ known_saves_said before after old read new path verb job outcome tells says same
         (subst (Saves old new path) told.comes_to.image
         (subst (λ files. Saves files new path (option_map vec_items outcome.image)) same saves))
 
--- If a file contains these bytes already, the effect of saving them is no change.
+-- If the file at `path` contains `bytes`, then writing `bytes` to `path` changes no file.
 pub puts_same : (files : Files) (path bytes : List ℕ) → HoldsFile files path bytes → Puts files files path bytes
 puts_same None path bytes holds = tt
 puts_same (Some files) path bytes holds = (holds, λ other differs. refl)
 
--- Saving the image of the first path is saving each image if there are no other paths.
+-- If `image` is saved at `path`, then each image is saved at its path when the other paths are `None`.
 pub each_alone : (old new : Files) (path : List ℕ) (image : Option (List ℕ)) (others : List (Option (List ℕ)))
     → Saves old new path image → SavesEach old new (Some path ∷ no_others) (image ∷ others)
 each_alone old new path image others saves =
     (new, saves, (new, refl, (new, refl, (new, refl, (new, refl, (new, refl, refl))))))
 
--- Images that are saved at all paths are also saved at a prefix of the paths.
+-- If the images are saved at all paths, then they are also saved at a prefix of the paths.
 each_front : (old new : Files) (paths images : List (Option (List ℕ))) → SavesEach old new paths images
     → SavesFront old new paths images
 each_front old new [] images saves = saves
 each_front old new (path ∷ paths) images saves =
     inr (saves.0, saves.1, each_front saves.0 new paths (next_images images) saves.2)
 
--- If the printer's output is not saved, the images still are.
+-- If the images are saved and then no file changes, then the images are saved at a prefix of the paths.
 pub printer_front : (old new last : Files) (paths images : List (Option (List ℕ))) → SavesEach old new paths images
     → last ≡ new → SavesFront old last paths images
 printer_front old new last paths images saves stays =
     subst (λ files. SavesFront old files paths images) (sym stays) (each_front old new paths images saves)
 
--- A consequence of a statement holds for the same result, `Ok` or `Err`.
+-- If `A` implies `B`, and `A` holds when `r` is `Ok`, then `B` holds when `r` is `Ok`.
 pub where_ok : {X Y A B : Type 0} (r : Result X Y) → (A → B) → OnOk r A → OnOk r B
 where_ok (Ok x) f a = f a
 where_ok (Err e) f a = tt
@@ -107,13 +108,13 @@ pub where_err : {X Y A B : Type 0} (r : Result X Y) → (A → B) → OnErr r A 
 where_err (Ok x) f a = tt
 where_err (Err e) f a = f a
 
--- A statement about the outcome that holds after an `Ok` holds for the combined result.
+-- If `Q` implies `P x`, and `Q` holds when `r` is `Ok`, then `P` holds for the value of `result_and r (Ok x)`.
 pub and_ok : {A B E Q : Type 0} (P : B → Type 0) (r : Result A E) (x : B) → (Q → P x) → OnOk r Q
     → IfOk (result_and r (Ok x)) P
 and_ok P (Ok a) x f q = f q
 and_ok P (Err e) x f q = tt
 
--- What a run saves of its outcome is what it saves of the specified results.
+-- If `outcome` is the outcome that `told` states, then a run saves what `told` states.
 run_told : (old new : Files) (paths : List (Option (List ℕ))) (printing : Printing) (outcome : Outcome) (told : Said)
     → IsOutcome outcome told → SavesRun old new paths printing outcome → SavesTold old new paths printing told
 run_told old new paths printing outcome told is saves = (
@@ -124,7 +125,8 @@ run_told old new paths printing outcome told is saves = (
       (subst (λ exit. PrintsIf (has_run exit) saves.0 new printing outcome.printer.items) is.exit saves.2),
 )
 
--- A prefix of the images of an outcome is a prefix of the images that the specification states.
+-- If `outcome` is the outcome that `told` states, then a saved prefix of its images is a prefix of the images of
+-- `told`.
 said_front : (old new : Files) (paths : List (Option (List ℕ))) (outcome : Outcome) (told : Said)
     → IsOutcome outcome told → SavesFront old new paths (option_map vec_items outcome.image ∷ images_of outcome.others)
     → SavesFront old new paths (images_said told)
@@ -132,7 +134,7 @@ said_front old new paths outcome told is saves =
     subst (λ image. SavesFront old new paths (image ∷ told.others)) is.image
     (subst (λ others. SavesFront old new paths (option_map vec_items outcome.image ∷ others)) is.others saves)
 
--- What is saved after the files were read is saved relative to the files before, since both are equal.
+-- If reading changes no file, then what a run saves relative to the files after reading, it saves relative to `old`.
 pub run_saves : (old read new : Files) (to disk : List ℕ) (others : List (Option (List ℕ))) (saved : SavedOfRun) (outcome : Outcome)
     → read ≡ old → to ≡ disk → SavesRun read new (saved_paths saved.saving to others) saved.printing outcome
     → SavesRun old new (saved_paths saved.saving disk others) saved.printing outcome
@@ -140,7 +142,7 @@ run_saves old read new to disk others saved outcome same is saves =
     subst (λ files. SavesRun files new (saved_paths saved.saving disk others) saved.printing outcome) same
     (subst (λ path. SavesRun read new (saved_paths saved.saving path others) saved.printing outcome) is saves)
 
--- If the input is known, a run saves what the specification states for it and for the images read.
+-- If the input is known, a run saves what the specification states for the input and for the images that were read.
 pub known_run_said : (before after : Streams) (old new : Files) (program : Program) (saved : SavedOfRun)
     (disks : List (Option (Vec ℕ Global))) (system : Option (Vec ℕ Global)) (outcome : Outcome)
     → TellsAll before after outcome (job_said (jobs.Run disks program.name program.limit saved.saving system))
@@ -163,7 +165,7 @@ known_run_said before after old new program saved disks system outcome tells rea
       run_told old new (saved_paths saved.saving (string_bytes program.disk) (paths_in program.others)) saved.printing outcome _ told.comes_to saves,
     )
 
--- If there are no images, nothing is saved.
+-- If each image is `None`, then saving the images changes no file.
 each_none : (old new : Files) (paths images : List (Option (List ℕ))) → AreNone images → SavesEach old new paths images
     → new ≡ old
 each_none old new [] images none saves = saves
@@ -174,7 +176,7 @@ each_none old new (Some path ∷ paths) (None ∷ images) none saves =
     each_none saves.0 new paths images none saves.2 ∙ saves.1
 each_none old new (path ∷ paths) (Some image ∷ images) none saves = absurd none
 
--- A program that was cut short has not run.
+-- If `exit` states that a program was cut short, then the program has not run.
 not_run : (exit : Exit) → IsCutShort exit → has_run exit ≡ false
 not_run exits.Ended cut = absurd (cc)
 not_run exits.Usage cut = refl
@@ -185,7 +187,7 @@ not_run exits.WriteFault cut = refl
 not_run exits.NoMemory cut = refl
 not_run exits.Stopped cut = absurd (cc)
 
--- If a run was cut short, nothing is saved.
+-- If a run was cut short and its outcome has no images, then no file changes.
 pub cut_run : (old new : Files) (paths : List (Option (List ℕ))) (printing : Printing) (outcome : Outcome)
     → IsCutShort outcome.exit → outcome.image ≡ None → images_of outcome.others ≡ no_others
     → SavesRun old new paths printing outcome → new ≡ old
@@ -195,12 +197,13 @@ cut_run old new paths printing outcome cut image others saves =
     (subst (λ image. SavesEach old saves.0 paths (option_map vec_items image ∷ no_others)) image
     (subst (λ others. SavesEach old saves.0 paths (option_map vec_items outcome.image ∷ others)) others saves.1))
 
--- A statement that holds after an error holds for the combined result.
+-- If `P` holds when `r` is an error, then `P` holds when `result_and r (Ok x)` is an error.
 pub and_err : {A B E : Type 0} (P : Type 0) (r : Result A E) (x : B) → OnErr r P → OnErr (result_and r (Ok x)) P
 and_err P (Ok a) x p = tt
 and_err P (Err e) x p = p
 
--- A prefix that is saved after the files were read is saved relative to the files before, since both are equal.
+-- If reading changes no file, then a prefix that is saved relative to the files after reading is saved relative to
+-- `old`.
 pub front_from : (old read new : Files) (to disk : List ℕ) (others : List (Option (List ℕ))) (saving : Saving)
     (images : List (Option (List ℕ))) → read ≡ old → to ≡ disk → SavesFront read new (saved_paths saving to others) images
     → SavesFront old new (saved_paths saving disk others) images
@@ -208,7 +211,7 @@ front_from old read new to disk others saving images same is saves =
     subst (λ files. SavesFront files new (saved_paths saving disk others) images) same
     (subst (λ path. SavesFront read new (saved_paths saving path others) images) is saves)
 
--- If there are no images, saving a prefix changes nothing.
+-- If each image is `None`, then saving a prefix of the images changes no file.
 front_none : (old new : Files) (paths images : List (Option (List ℕ))) → AreNone images
     → SavesFront old new paths images → new ≡ old
 front_none old new [] images none saves = saves
@@ -221,8 +224,8 @@ front_none old new (Some path ∷ paths) (None ∷ images) none (inr saves) =
     front_none saves.0 new paths images none saves.2 ∙ saves.1
 front_none old new (path ∷ paths) (Some image ∷ images) none (inr saves) = absurd none
 
--- If the input is known, the saved prefix consists of images that the specification states for it and for the images
--- read.
+-- If the input is known, the saved prefix consists of images that the specification states for the input and for the
+-- images that were read.
 pub known_front_said : (before after : Streams) (old new : Files) (program : Program) (saved : SavedOfRun)
     (disks : List (Option (Vec ℕ Global))) (system : Option (Vec ℕ Global)) (outcome : Outcome)
     → (IsSoundExit outcome.exit
@@ -258,13 +261,14 @@ known_front_said before after old new program saved disks system outcome tells n
         (subst (λ others. SavesFront old new (saved_paths saved.saving (string_bytes program.disk) (paths_in program.others))
         (option_map vec_items outcome.image ∷ others)) (nothing is).1 saves)))
 
--- If the files cannot be read, no file has changed.
+-- If no file has changed, then the result of a run with an error is as specified.
 pub known_front_none : (had : Option (List ℕ)) (old new : Files) (program : Program) (saved : SavedOfRun) → new ≡ old
     → IfSome had (λ input. SavesFrontSaid old new program saved input)
 known_front_none None old new program saved same = tt
 known_front_none (Some input) old new program saved same = inl same
 
--- If the input is known, a job has the results that the specification states for it and for the images read.
+-- If the input is known, a job has the results that the specification states for the input and for the images that were
+-- read.
 pub known_tells : (job : List (Option (Vec ℕ Global)) → Option (Vec ℕ Global) → Job) (old new : Streams) (files : Files)
     (program : Program) (disks : List (Option (Vec ℕ Global))) (system : Option (Vec ℕ Global)) (outcome : Outcome) (from : List ℕ)
     → from ≡ string_bytes program.disk
@@ -281,7 +285,7 @@ known_tells job old new files program disks system outcome from is_from tells re
     known (Some input) told =
         (disks, system, subst (λ path. ReadsEach files (paths_of path (paths_in program.others)) (images_of disks)) is_from reads, given, told)
 
--- If the input is known, the trace is the one that the specification states, in the output or at a path.
+-- If the input is known, the trace in the output or in the file at `path` is the one that the specification states.
 pub known_traces : (had : Option (List ℕ)) (old new : Files) (path : Option (List ℕ)) (before after : Streams) (outcome : Outcome)
     (program : Program) (selection : Selection) → path ≡ None → new ≡ old
     → IfSome had (λ input. TellsTrace old before after outcome program selection input)
@@ -319,7 +323,7 @@ kept_traces (Err fault) had old read new path to before after program selection 
 kept_traces (Ok outcome) had old read new path to before after program selection disks system from e same is_from reads given saves =
     λ sound. kept_trace had old read new path to before after outcome program selection disks system from e same is_from reads given (saves sound)
 
--- If the input is known, the debugger has the results that the specification states for the bytes read.
+-- If the input is known, the debugger has the results that the specification states for the bytes `typed`.
 pub known_typed : (had : Option (List ℕ)) (files : Files) (old new : Streams) (outcome : Outcome) (program : Program)
     (path : Option (List ℕ)) (typed : Vec ℕ Global) → IsTyped files path typed.items
     → IfSome had (λ input. TellsOf (λ disks system. jobs.Debug disks program.name system typed) files old new outcome program input)
@@ -327,7 +331,7 @@ pub known_typed : (had : Option (List ℕ)) (files : Files) (old new : Streams) 
 known_typed None files old new outcome program path typed is tells = tt
 known_typed (Some input) files old new outcome program path typed is tells = (typed, is, tells)
 
--- If the input is known, the new volume is the one that the specification states for the image read.
+-- If the input is known, the new volume is the one that the specification states for `image`.
 pub known_salvage : (before after : Streams) (old held read new : Files) (plan : SalvagePlan) (image : Vec ℕ Global)
     (outcome : Outcome) (from to : List ℕ) → from ≡ string_bytes plan.path → to ≡ string_bytes plan.target
     → TellsAll before after outcome (job_said (jobs.Salvage image plan.second))

@@ -1,4 +1,4 @@
--- The results of a job on a text are those that its specification states for the input.
+-- Lemmas for the functions of texts.rt: the results of a job on a text are those that its specification states.
 use Rattle.std.proofs.Common.{◌≡◌, ◌∙◌, [], ℕ, false, List, Option, None, Some, refl, subst, arith, IfSome}
 use Rattle.std.specs.Io.KnownBytes.{Appends}
 use Rattle.pm_files.specs.Held.{Files, Saves}
@@ -20,7 +20,7 @@ cut_keeps_none exits.WriteFault bytes cut = refl
 cut_keeps_none exits.NoMemory bytes cut = refl
 cut_keeps_none exits.Stopped bytes cut = absurd (grind (arith, cut))
 
--- A list that was empty contains all that was written.
+-- If the output was empty before the job, then its contents after the job are the output that the specification states.
 pub known_written : (had : Option (List ℕ)) (before after : Streams) (outcome : Outcome) (page : List ℕ)
     (text : List ℕ → Said) → before.sink.contents ≡ Some [] → after.sink.contents ≡ Some page
     → IfSome had (λ input. Tells before after outcome (text input)) → IfSome had (λ input. Comes outcome page (text input))
@@ -34,7 +34,7 @@ known_written (Some input) before after outcome page text first last tells = (
         → page ≡ (text input).written
     by old new e f w = subst (λ n. Appends (Some []) n (text input).written) f (subst (λ o. Appends o new (text input).written) e w)
 
--- The saved output of a job is the output that the specification states.
+-- If `page` is the output that the specification states, then saving it saves the output that the specification states.
 pub known_text : (had : Option (List ℕ)) (old held new : Files) (path : List ℕ) (outcome : Outcome) (page kept : List ℕ)
     (text : List ℕ → Said) → held ≡ old → kept ≡ page → Saves held new path (written_by outcome.exit kept)
     → IfSome had (λ input. Comes outcome page (text input)) → IfSome had (λ input. SavesText old new path outcome (text input))

@@ -1,4 +1,5 @@
--- The files after a run.
+-- The files after a job that saves images, a printer's output or a trace. `old` and `new` are the files before and
+-- after.
 use Rattle.std.specs.Prelude.{◌≡◌, ◌⊎◌, ⊤, ℕ, Bool, true, false, List, [], ◌∷◌}
 use Rattle.std.specs.Prelude.{Option, None, Some, Vec, option_map, vec_items, string_bytes}
 use Rattle.std.specs.declared.alloc.Global.{Global}
@@ -31,7 +32,8 @@ use Rattle.pm_program.specs.declared.saved.Printing.{Printing}
 use Rattle.pm_plan.specs.declared.run_words.Program.{Program}
 use Rattle.pm_program.specs.declared.saved.Printing.TheVariants as printings
 
--- A program was run to its end, to its limit of steps, to the end of its input, or to an execution error.
+-- Returns whether the exit states that a program has run: it ended, or it stopped at its limit of steps, at the end of
+-- its input, or at an execution error.
 abbrev pub has_run : Exit → Bool
 has_run exits.Ended = true
 has_run exits.Usage = false
@@ -42,51 +44,52 @@ has_run exits.WriteFault = false
 has_run exits.NoMemory = false
 has_run exits.Stopped = true
 
--- The printer's output is saved as `printing` states. All other files are unchanged.
+-- Is true if `bytes`, the printer's output, is saved as the destination states. All other files are unchanged.
 abbrev pub Prints : Files → Files → Printing → List ℕ → Type 0
 Prints old new printings.Nowhere bytes = new ≡ old
 Prints old new printings.Output bytes = new ≡ old
 Prints old new (printings.File path) bytes = Puts old new (string_bytes path) bytes
 
--- The printer's output is saved if the program has run. Otherwise no file changes.
+-- Is true if the printer's output is saved if the first argument is true, and if no file changes otherwise.
 abbrev pub PrintsIf : Bool → Files → Files → Printing → List ℕ → Type 0
 PrintsIf true old new printing bytes = Prints old new printing bytes
 PrintsIf false old new printing bytes = new ≡ old
 
--- The paths of a program's disks, in the order of the units 4, 5, 9, 10, 11 and 12.
+-- Returns the paths of a program's disks, in the order of the units 4, 5, 9, 10, 11 and 12. `disk` is the path for unit
+-- 4.
 abbrev pub paths_of : List ℕ → List (Option (List ℕ)) → List (Option (List ℕ))
 paths_of disk others = Some disk ∷ others
 
--- The paths at which a run saves the images of its units: none, that of unit 4, all, or all except that of unit 4.
+-- Returns the path at which a run saves the image of each unit, or `None` for an image that is not saved.
 abbrev pub saved_paths : Saving → List ℕ → List (Option (List ℕ)) → List (Option (List ℕ))
 saved_paths savings.Nothing disk others = None ∷ no_others
 saved_paths savings.First disk others = Some disk ∷ no_others
 saved_paths savings.All disk others = Some disk ∷ others
 saved_paths savings.Others disk others = None ∷ others
 
--- The paths that a run locks before it reads the files: those of the images that it may write.
+-- Returns the paths that a run locks before it reads the files: the paths of the images that it may write.
 abbrev pub held_paths : Saving → List ℕ → List (Option (List ℕ)) → List (Option (List ℕ))
 held_paths savings.Nothing disk others = []
 held_paths savings.First disk others = Some disk ∷ []
 held_paths savings.All disk others = Some disk ∷ others
 held_paths savings.Others disk others = others
 
--- The file at the path is locked in addition, if there is a path.
+-- Returns the locks `held` together with the lock of the file at the path, if there is a path.
 abbrev pub held_at : Option (List ℕ) → Locks → Locks
 held_at None held = held
 held_at (Some path) held = held_too path held
 
--- The files at the paths are locked in addition, one after the other.
+-- Returns the locks `held` together with the locks of the files at the paths.
 abbrev pub held_each : List (Option (List ℕ)) → Locks → Locks
 held_each [] held = held
 held_each (path ∷ paths) held = held_each paths (held_at path held)
 
--- The image is saved at the path, if there are both. Otherwise no file changes.
+-- Is true if `image` is saved at the path. Without a path or without an image, no file changes.
 abbrev pub SavesAt : Files → Files → Option (List ℕ) → Option (List ℕ) → Type 0
 SavesAt old new None image = new ≡ old
 SavesAt old new (Some path) image = Saves old new path image
 
--- The first image, and the images after it.
+-- `first_image` returns the first image of a list, and `next_images` returns the images after it.
 abbrev pub first_image : List (Option (List ℕ)) → Option (List ℕ)
 first_image [] = None
 first_image (image ∷ images) = image
@@ -95,20 +98,20 @@ abbrev pub next_images : List (Option (List ℕ)) → List (Option (List ℕ))
 next_images [] = []
 next_images (image ∷ images) = images
 
--- The images are saved at their paths, one after the other.
+-- Is true if each image is saved at its path, one after the other. Both lists have the order of the units.
 abbrev pub SavesEach : Files → Files → List (Option (List ℕ)) → List (Option (List ℕ)) → Type 0
 SavesEach old new [] images = new ≡ old
 SavesEach old new (path ∷ paths) images = (between : Files)
     × SavesAt old between path (first_image images) × SavesEach between new paths (next_images images)
 
--- The images of the outcome are saved at their paths, in the order of the units. Then the printer's output is saved, if
--- the program has run. No other file changes.
+-- Is true if the images of `outcome` are saved at `paths`, in the order of the units, and then the printer's output is
+-- saved if the program has run. No other file changes.
 abbrev pub SavesRun : Files → Files → List (Option (List ℕ)) → Printing → Outcome → Type 0
 SavesRun old new paths printing outcome = (between : Files)
     × SavesEach old between paths (option_map vec_items outcome.image ∷ images_of outcome.others)
     × PrintsIf (has_run outcome.exit) between new printing outcome.printer.items
 
--- A command on a volume may change it.
+-- Returns whether a command can change its volume.
 abbrev pub may_change : Order → Bool
 may_change ListFiles = false
 may_change (Get name) = false
@@ -134,30 +137,30 @@ may_change ListAll = false
 may_change (ListFitting pattern) = false
 may_change (RemoveFitting pattern) = true
 
--- A verb locks its file before it reads it, if it may write the file.
+-- Returns whether a verb locks its file before it reads the file. It does so if it may write the file.
 abbrev pub takes_lock : Verb → Bool
 takes_lock (verbs.Command command) = may_change (order_of command)
 takes_lock (verbs.New name blocks) = true
 takes_lock verbs.Repair = true
 takes_lock verbs.Check = false
 
--- The locked paths after a verb: the path of its file is added if the verb locks it.
+-- Returns the locks after a verb: `held`, and the lock of the file at `path` if the first argument is true.
 abbrev pub held_by : Bool → List ℕ → Locks → Locks
 held_by true path held = held_too path held
 held_by false path held = held
 
--- The images of a prefix of the paths are saved. No other file changes.
+-- Is true if the images for a prefix of the paths are saved, and no other file changes.
 abbrev pub SavesFront : Files → Files → List (Option (List ℕ)) → List (Option (List ℕ)) → Type 0
 SavesFront old new [] images = new ≡ old
 SavesFront old new (path ∷ paths) images = (new ≡ old) ⊎ ((between : Files)
     × SavesAt old between path (first_image images) × SavesFront between new paths (next_images images))
 
--- Some images are saved at a prefix of the paths.
+-- Is true if some images are saved at a prefix of `paths`, and no other file changes.
 abbrev pub SavesSome : Files → Files → List (Option (List ℕ)) → Type 0
 SavesSome old new paths = (images : List (Option (List ℕ))) × SavesFront old new paths images
 
--- A verb of `files` is executed on the image at `path` and the input. The image that its specification states is saved
--- at `path`, if there is one. No other file changes. A new volume depends on the input only.
+-- Is true if the image that the specification of the verb states is saved at `path`, if it states an image. The verb is
+-- executed on the image at `path` and on `input`. No other file changes. A new volume depends only on `input`.
 abbrev pub SavesSaid : Files → Files → List ℕ → Verb → List ℕ → Type 0
 SavesSaid old new path (verbs.Command command) input = (image : List ℕ)
     × HoldsFile old path image × Saves old new path (said_files image (order_of command) input).image
@@ -168,7 +171,7 @@ SavesSaid old new path verbs.Repair input = (image : List ℕ)
 SavesSaid old new path verbs.Check input = (image : List ℕ)
     × HoldsFile old path image × Saves old new path (said_check image input).image
 
--- For each input, the job has the results that the specification of the verb states for the image at the path.
+-- Is true if, for each input, `job` has the results that the specification of the verb states for the image at `path`.
 abbrev pub SaysOf : Files → List ℕ → Verb → Job → Type 0
 SaysOf files path (verbs.Command command) job = (image : List ℕ) × HoldsFile files path image
     × ((input : List ℕ) → job_said job input ≡ said_files image (order_of command) input)
@@ -179,33 +182,34 @@ SaysOf files path verbs.Repair job = (image : List ℕ) × HoldsFile files path 
 SaysOf files path verbs.Check job = (image : List ℕ) × HoldsFile files path image
     × ((input : List ℕ) → job_said job input ≡ said_check image input)
 
--- The image at the path, or none if there is no path.
+-- Is true if the last argument is the image at the path, or if both are `None`.
 abbrev pub Reads : Files → Option (List ℕ) → Option (List ℕ) → Type 0
 Reads files None None = ⊤
 Reads files None (Some image) = ⊥
 Reads files (Some path) None = ⊥
 Reads files (Some path) (Some image) = HoldsFile files path image
 
--- The images at the paths, in their order.
+-- Is true if the last argument has the image at each of the paths, in the same order.
 abbrev pub ReadsEach : Files → List (Option (List ℕ)) → List (Option (List ℕ)) → Type 0
 ReadsEach files [] [] = ⊤
 ReadsEach files [] (image ∷ images) = ⊥
 ReadsEach files (path ∷ paths) [] = ⊥
 ReadsEach files (path ∷ paths) (image ∷ images) = Reads files path image × ReadsEach files paths images
 
--- The images that the specification states, in the order of the units.
+-- Returns the images of all units that `told` states, in the order of the units. A record of type `Said` has the
+-- results that the specification of a job states.
 abbrev pub images_said : Said → List (Option (List ℕ))
 images_said told = told.image ∷ told.others
 
--- The images that the specification states are saved at their paths, in the order of the units. Then the printer's
--- output is saved, if the program has run. No other file changes.
+-- Is true if the images that `told` states are saved at `paths`, in the order of the units, and then the printer's
+-- output is saved if the program has run. No other file changes.
 abbrev pub SavesTold : Files → Files → List (Option (List ℕ)) → Printing → Said → Type 0
 SavesTold old new paths printing told = (between : Files)
     × SavesEach old between paths (told.image ∷ told.others)
     × PrintsIf (has_run told.exit) between new printing told.printer
 
--- A program is run on the images at its paths, each on its unit, and on the system's code file, if there is one. What
--- is saved is what the specification of the run states for them and for the input.
+-- Is true if a run saves what the specification of the run states for `input`, the images at the program's paths, and
+-- the system's code file if there is one.
 abbrev pub SavesRunSaid : Files → Files → Program → SavedOfRun → List ℕ → Type 0
 SavesRunSaid old new program saved input = (disks : List (Option (Vec ℕ Global))) × (system : Option (Vec ℕ Global))
     × ReadsEach old (paths_of (string_bytes program.disk) (paths_in program.others)) (images_of disks)
@@ -214,7 +218,7 @@ SavesRunSaid old new program saved input = (disks : List (Option (Vec ℕ Global
     (job_said (jobs.Run disks program.name program.limit saved.saving system) input)
 
 -- The result if a file cannot be read or written: no file has changed, or the images for a prefix of the paths are
--- saved. These are the images that the specification states for the files read and the input.
+-- saved. These images are those that the specification states for the files that were read and for `input`.
 abbrev pub SavesFrontSaid : Files → Files → Program → SavedOfRun → List ℕ → Type 0
 SavesFrontSaid old new program saved input = (new ≡ old) ⊎ ((disks : List (Option (Vec ℕ Global)))
     × (system : Option (Vec ℕ Global))
@@ -223,8 +227,8 @@ SavesFrontSaid old new program saved input = (new ≡ old) ⊎ ((disks : List (O
     × SavesFront old new (saved_paths saved.saving (string_bytes program.disk) (paths_in program.others))
     (images_said (job_said (jobs.Run disks program.name program.limit saved.saving system) input)))
 
--- A job runs a program on the images at its paths, each on its unit, and on the system's code file, if there is one.
--- Output, outcome and unread input are those that the specification states for them and for the input.
+-- Is true if the output, the outcome and the unread input are those that the specification of the job states for
+-- `input`. `job disks system` is the job that runs a program on the images `disks` and the system's code file `system`.
 abbrev pub TellsOf : (List (Option (Vec ℕ Global)) → Option (Vec ℕ Global) → Job) → Files → Streams → Streams → Outcome
     → Program → List ℕ → Type 0
 TellsOf job files old new outcome program input = (disks : List (Option (Vec ℕ Global)))
@@ -238,7 +242,8 @@ TellsTrace files old new outcome program selection input =
     TellsOf (λ disks system. jobs.Trace disks program.name program.limit system selection) files old new outcome
     program input
 
--- Without a path, the trace is appended to the output and no file changes. With a path, the trace is saved there.
+-- Without a path, the trace is appended to the output, and no file changes. With a path, the trace is saved as the file
+-- at the path.
 abbrev pub TracesTo : Files → Files → Option (List ℕ) → Streams → Streams → Outcome → Program → Selection → List ℕ
     → Type 0
 TracesTo old new None before after outcome program selection input =
@@ -249,19 +254,19 @@ TracesTo old new (Some path) before after outcome program selection input =
     × Reads old (option_map string_bytes program.system) (option_map vec_items system)
     × SavesText old new path outcome (job_said (jobs.Trace disks program.name program.limit system selection) input)
 
--- The bytes of the file at the path, or none if there is no path.
+-- Is true if `bytes` is the contents of the file at the path, or is empty without a path.
 abbrev pub IsTyped : Files → Option (List ℕ) → List ℕ → Type 0
 IsTyped files None bytes = bytes ≡ []
 IsTyped files (Some path) bytes = HoldsFile files path bytes
 
--- A debugger is executed. At the start, the console's input queue contains the bytes of the file at the path, if there
--- is one.
+-- Is true if the results of a debugger job are those that its specification states. At the start, the console's input
+-- queue contains the bytes of the file at `path`, if there is a path.
 abbrev pub TellsDebug : Files → Streams → Streams → Outcome → Program → Option (List ℕ) → List ℕ → Type 0
 TellsDebug files old new outcome program path input = (typed : Vec ℕ Global) × IsTyped files path typed.items
     × TellsOf (λ disks system. jobs.Debug disks program.name system typed) files old new outcome program input
 
--- The files of the image at `plan.path` are saved: the new volume that the specification states is saved at
--- `plan.target`, if there is one. No other file changes.
+-- Is true if the new volume that the specification of `salvage` states for the image at `plan.path` is saved at
+-- `plan.target`, if it states one. No other file changes.
 abbrev pub SavesSalvage : Files → Files → SalvagePlan → List ℕ → Type 0
 SavesSalvage old new plan input = (image : List ℕ) × HoldsFile old (string_bytes plan.path) image
     × Saves old new (string_bytes plan.target) (said_salvage image plan.second input).image

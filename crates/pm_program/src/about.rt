@@ -1,4 +1,5 @@
-//! The files that a refusal is about, by the names that the user typed: for the second line on a terminal.
+//! The file that a refusal is about, with the path that the user typed. A terminal shows this file in the second line
+//! of a message.
 use crate::say::Plain;
 use pm_filer::{FileCommand, FilerFault};
 use pm_plan::{Form, Order, Plan, Program, TextInput, Verb};
@@ -7,10 +8,10 @@ use pm_volume::VolumeFault;
 use std::alloc::{AllocError, Global};
 use std::fmt;
 
-/// The maximal number of characters of a file name that a message prints.
+/// The maximum number of characters of a file name in a message.
 const MOST: usize = 120;
 
-/// A file's name in a message, cut after 120 characters.
+/// A file's name for a message. It is printed up to 120 characters.
 #[derive(Clone, Copy)]
 struct Short<'a>(&'a str);
 
@@ -43,7 +44,7 @@ pub enum Named {
     Image(String),
 }
 
-/// Returns a copy of a path, if there is one.
+/// Returns a copy of `path`, or `None` if `path` is `None`.
 pub(crate) fn copy_of(alloc: Global, path: &Option<String>) -> Result<Option<String>, AllocError> {
     match path {
         Some(path) => Ok(Some(String::from_str(alloc, path.as_str())?)),
@@ -51,7 +52,7 @@ pub(crate) fn copy_of(alloc: Global, path: &Option<String>) -> Result<Option<Str
     }
 }
 
-/// Returns the name and the paths of a program.
+/// Returns a copy of the name and the paths of `program`.
 fn disks_of(alloc: Global, program: &Program) -> Result<Disks, AllocError> {
     let [fifth, ninth, tenth, eleventh, twelfth] = &program.others;
     Ok(Disks {
@@ -68,8 +69,8 @@ fn disks_of(alloc: Global, program: &Program) -> Result<Disks, AllocError> {
     })
 }
 
-/// Returns the path of the image of a plan. `None` for `check`, which prints the faults itself, and for verbs whose
-/// refusal can be about another volume: `new`, which creates one, and `copy`, which reads one from standard input.
+/// Returns the path of the image of `plan`. Returns `None` for `check`, which prints the faults of the image itself.
+/// Returns `None` also for `new` and `copy`, because their refusals can be about another volume.
 fn image_of(plan: &Plan) -> Option<&str> {
     match plan {
         Plan::Files(plan) => match &plan.verb {
@@ -88,7 +89,8 @@ fn image_of(plan: &Plan) -> Option<&str> {
     }
 }
 
-/// Returns the files of a plan that a refusal can be about. `None` if there are none, or if memory is exhausted.
+/// Returns the files of `plan` that a refusal can be about. Returns `None` if no such files exist, or if memory is
+/// exhausted.
 pub fn named_in(alloc: Global, plan: &Plan) -> Option<Named> {
     match plan {
         Plan::Run(program, _) | Plan::Trace(program, ..) | Plan::Debug(program, _) => {
@@ -98,8 +100,8 @@ pub fn named_in(alloc: Global, plan: &Plan) -> Option<Named> {
     }
 }
 
-/// Returns the path of the image on a unit, together with the unit. `None` if there is no image, or if memory is
-/// exhausted.
+/// Returns a text with the path of the image on the unit `unit` and the unit's number. Returns `None` if the unit has
+/// no image, or if memory is exhausted.
 fn on_unit(alloc: Global, disks: &Disks, unit: u8) -> Option<String> {
     let path = match unit {
         4 => disks.paths[0].as_ref()?,
@@ -112,8 +114,8 @@ fn on_unit(alloc: Global, disks: &Disks, unit: u8) -> Option<String> {
     format!(in alloc; "{path} (unit {unit})").ok()
 }
 
-/// Returns the file that a refusal is about: its path, and its unit if it is a disk of a program. `None` if it is about
-/// no file, or if memory is exhausted.
+/// Returns the file that the refusal in `outcome` is about: its path, and its unit if it is a disk of a program.
+/// Returns `None` if the refusal is about no file, or if memory is exhausted.
 pub fn about(alloc: Global, named: &Named, outcome: &Outcome) -> Option<String> {
     match (named, outcome.about, outcome.refusal) {
         (Named::Program(disks), Some(About::Unit(unit)), _) => on_unit(alloc, disks, unit),
@@ -126,7 +128,8 @@ pub fn about(alloc: Global, named: &Named, outcome: &Outcome) -> Option<String> 
     }
 }
 
-/// Returns the option for a form in a suggested command, with a space before it; an empty text for blocks in order.
+/// Returns the option `--form` for a suggested command, with a space before it. Returns an empty text for blocks in
+/// order, the default.
 fn form_option(form: Form) -> &'static str {
     match form {
         Form::In(Order::Blocks) => "",
@@ -136,8 +139,8 @@ fn form_option(form: Form) -> &'static str {
     }
 }
 
-/// Returns the message for a program that is not found (`refused boot 1`) or is not a code file (`refused boot 2`),
-/// with the command that helps. `None` for any other refusal, or if memory is exhausted.
+/// Returns the message for a program that is not found (`refused boot 1`) or is not a code file (`refused boot 2`). The
+/// message contains a command that helps. Returns `None` for any other refusal, or if memory is exhausted.
 pub fn no_program(alloc: Global, named: &Named, form: Form, outcome: &Outcome) -> Option<String> {
     let (Named::Program(disks), Some(Refusal::Boot(fault))) = (named, outcome.refusal) else {
         return None;

@@ -1,17 +1,17 @@
-//! Standard input and output on a terminal.
+//! Standard input and output on a terminal: prompts, the key that ends the input, and control characters.
 ghost use Rattle.std.specs.Io.{ReadsAtMost, WritesAtMost};
 
 use std::alloc::Global;
 use std::io;
 use std::io::{Read, Write};
 
-/// The byte that ends the input of a terminal that delivers each key at once: Ctrl-D.
+/// The byte of Ctrl-D, which ends the input from a terminal that delivers each key at once.
 pub const END: u8 = 4;
 
-/// The byte that ends the input if Ctrl-D is input for the program: Ctrl-].
+/// The byte of Ctrl-], which ends the input if Ctrl-D is passed to the program.
 pub const ESCAPE: u8 = 29;
 
-/// A reader that prints a prompt on standard error: before the first byte of each line, or once.
+/// A reader that prints a prompt on standard error, either before the first byte of each line or only once.
 #[derive(Drop)]
 pub struct Prompted<'a, E, R> {
     rt: &'a E,
@@ -24,7 +24,7 @@ pub struct Prompted<'a, E, R> {
 }
 
 impl<'a, E: Eprint, R: Read> Prompted<'a, E, R> {
-    /// Returns a reader that prints a prompt before each line.
+    /// Returns a reader that prints `prompt` before each line.
     pub fn each_line(rt: &'a E, inner: R, prompt: &'a str) -> Prompted<'a, E, R> {
         Prompted {
             rt,
@@ -35,7 +35,7 @@ impl<'a, E: Eprint, R: Read> Prompted<'a, E, R> {
         }
     }
 
-    /// Returns a reader that prints a prompt once. It prints none if `prompt` is empty.
+    /// Returns a reader that prints `prompt` once. It prints nothing if `prompt` is empty.
     pub fn once(rt: &'a E, inner: R, prompt: &'a str) -> Prompted<'a, E, R> {
         Prompted {
             rt,
@@ -63,7 +63,8 @@ impl<E: Eprint, R: Read> Read for Prompted<'_, E, R> {
     }
 }
 
-/// A reader that, on a terminal, ends at a certain byte. After that it can return further bytes.
+/// A reader that, on a terminal, returns the end of the input when it reads the byte `end`. Later reads can return
+/// further bytes.
 #[derive(Drop)]
 pub struct Keys<R> {
     inner: R,
@@ -72,7 +73,8 @@ pub struct Keys<R> {
 }
 
 impl<R: Read> Keys<R> {
-    /// Returns a reader. `is_terminal`: whether it reads from a terminal. `end`: the byte that ends its input.
+    /// Returns a reader of `inner`. `is_terminal` states whether `inner` is a terminal. `end` is the byte that ends the
+    /// input of a terminal.
     pub fn new(inner: R, is_terminal: bool, end: u8) -> Keys<R> {
         Keys {
             inner,
@@ -81,8 +83,8 @@ impl<R: Read> Keys<R> {
         }
     }
 
-    /// Reads one byte of a terminal into `buf`. It reads only one byte, so that none after `end` is read. Returns 0 at
-    /// the end of the input.
+    /// Reads one byte of a terminal into `buf`, and returns the number of bytes read. It reads only one byte, so that
+    /// no byte after `end` is read. Returns 0 at the end of the input.
     fn key(&mut self, buf: &mut [u8]) -> io::Result<usize>
         ensures bound { ReadsAtMost result buf.new }
     {
@@ -109,58 +111,60 @@ impl<R: Read> Read for Keys<R> {
     }
 }
 
-/// What a writer does with bytes.
+/// How a writer changes the bytes that it writes.
 #[derive(Clone, Copy, PartialEq, Eq)]
 pub enum Lines {
-    /// It writes them unchanged.
+    /// Writes the bytes unchanged.
     Plain,
-    /// It writes a line feed after each carriage return.
+    /// Writes a line feed after each carriage return.
     Added,
-    /// It writes only bytes that can be in a text, and fails at the first other byte.
+    /// Writes only bytes that a text can contain, and fails at the first other byte.
     TextAlone,
-    /// It writes `?` for each control character that is not a tab, a line feed or a carriage return.
+    /// Writes `?` instead of each control character, except tab, line feed and carriage return.
     Shown,
-    /// It collects them, and writes 65,536 of them at a time.
+    /// Collects the bytes, and writes up to 65,536 of them at a time.
     Paged,
 }
 
-/// How many bytes are collected before they are written.
+/// The number of bytes for which a `Paged` writer has memory.
 const PAGE: usize = 65536;
 
-/// Why a writer failed, if that is known.
+/// The reason why a writer failed.
 #[derive(Clone, Copy, PartialEq, Eq)]
 pub enum Failed {
-    /// The reader of the output has closed it.
+    /// The reader of the output, such as `head`, has closed it.
     Closed,
-    /// A byte cannot be in a text.
+    /// A text cannot contain one of the bytes.
     NoText,
 }
 
-/// Whether a byte cannot be in a text. That is so for control characters, except backspace, tab, line feed, vertical
-/// tab, form feed and carriage return.
+/// Returns whether a text cannot contain `byte`. These bytes are the control characters except backspace, tab, line
+/// feed, vertical tab, form feed and carriage return.
 fn is_binary(byte: u8) -> bool {
     byte < 8 || (14..32).contains(&byte) || byte == 127
 }
 
-/// Whether a terminal can interpret a byte as the start of a command, for example one that sets its title. That is so
-/// for a control character, except tab, line feed and carriage return. Bytes from 128 to 159 are control characters.
+/// Returns whether a terminal can interpret `byte` as the start of a command, such as a command that sets its title.
+/// These bytes are the control characters except tab, line feed and carriage return. Bytes from 128 to 159 are control
+/// characters.
 fn is_control(byte: u8) -> bool {
     byte < 9 || (11..13).contains(&byte) || (14..32).contains(&byte) || (127..160).contains(&byte)
 }
 
-/// A writer that records whether a line is unfinished, and adapts bytes for a terminal.
+/// A writer that adapts bytes for a terminal, and records whether the last line is unfinished.
 #[derive(Drop)]
 pub struct Lined<W> {
     inner: W,
     lines: Lines,
     begun: bool,
     failed: Option<Failed>,
-    /// The bytes that were collected, and are not written yet. It has memory for a page, or for none.
+    /// The collected bytes that are not written yet. Its capacity is a page, or 0 if nothing is collected.
     page: Vec<u8>,
 }
 
 impl<W: Write> Lined<W> {
-    /// Returns a writer that treats the bytes as `lines` states. If memory for a page is refused, it collects none.
+    /// Returns a writer to `inner` that changes the bytes as `lines` states. If memory for a page is refused, the
+    /// writer collects no bytes.
     pub fn new(alloc: Global, inner: W, lines: Lines) -> Lined<W> {
         let page = match lines {
             Lines::Paged => Vec::with_capacity(alloc, PAGE).unwrap_or(Vec::new(alloc)),
@@ -175,7 +179,7 @@ impl<W: Write> Lined<W> {
         }
     }
 
-    /// Writes the bytes that were collected.
+    /// Writes the collected bytes.
     pub fn finish(&mut self) -> io::Result<()> {
         if self.page.is_empty() {
             return Ok(());
@@ -186,7 +190,7 @@ impl<W: Write> Lined<W> {
         written
     }
 
-    /// Notes why a write failed.
+    /// Records the reason if `written` is an error.
     fn note<T>(&mut self, written: &io::Result<T>) {
         if let Err(error) = written {
             if error.kind() == io::ErrorKind::BrokenPipe {
@@ -195,7 +199,7 @@ impl<W: Write> Lined<W> {
         }
     }
 
-    /// Collects bytes, and writes those that were collected first if there is no more memory for them.
+    /// Collects the bytes `buf`. If the remaining capacity is too small, it first writes the collected bytes.
     fn write_paged(&mut self, buf: &[u8]) -> io::Result<usize>
         ensures bound { WritesAtMost result buf.now }
     {
@@ -209,18 +213,18 @@ impl<W: Write> Lined<W> {
         Ok(buf.len())
     }
 
-    /// Returns why the writer failed, if that is known.
+    /// Returns the reason why the writer failed. Returns `None` if it has not failed, or if the reason is not recorded.
     pub fn failed(&self) -> Option<Failed> {
         self.failed
     }
 
-    /// Whether a line is unfinished: the last byte written is not a line feed, nor a carriage return to which a line
-    /// feed was added.
+    /// Returns whether the last line is unfinished. It is finished if the last byte written is a line feed, or a
+    /// carriage return after which the writer added a line feed.
     pub fn has_begun(&self) -> bool {
         self.begun
     }
 
-    /// Writes `buf` if all its bytes can be in a text. Fails with `InvalidData` otherwise.
+    /// Writes `buf` if a text can contain all its bytes. Fails with `InvalidData` otherwise.
     fn write_text(&mut self, buf: &[u8]) -> io::Result<usize>
         ensures bound { WritesAtMost result buf.now }
     {
@@ -231,7 +235,7 @@ impl<W: Write> Lined<W> {
         self.inner.write(buf)
     }
 
-    /// Writes bytes as its `lines` states.
+    /// Writes `buf` as `self.lines` states.
     fn write_some(&mut self, buf: &[u8]) -> io::Result<usize>
         ensures bound { WritesAtMost result buf.now }
     {
@@ -244,7 +248,8 @@ impl<W: Write> Lined<W> {
         }
     }
 
-    /// Writes the bytes before the first control character. If `buf` begins with one, it writes `?` for that character.
+    /// Writes the bytes of `buf` before the first control character. If `buf` begins with a control character, writes
+    /// `?` instead of that character.
     fn write_shown(&mut self, buf: &[u8]) -> io::Result<usize>
         ensures bound { WritesAtMost result buf.now }
     {
@@ -258,8 +263,8 @@ impl<W: Write> Lined<W> {
         Ok(1)
     }
 
-    /// Writes the bytes before the first carriage return. If `buf` begins with one, it writes that byte and a line
-    /// feed.
+    /// Writes the bytes of `buf` before the first carriage return. If `buf` begins with a carriage return, writes a
+    /// carriage return and a line feed.
     fn write_lines(&mut self, buf: &[u8]) -> io::Result<usize>
         ensures bound { WritesAtMost result buf.now }
     {

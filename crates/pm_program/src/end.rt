@@ -15,11 +15,11 @@ pub enum Conflict {
     PrinterIsSystem,
     /// The path for the printer's output is a folder.
     PrinterIsFolder,
-    /// A file of the job has the path of the temporary file for another one.
+    /// The path of a file of the job is also the path of the temporary file with which another file is written.
     FileInTheWay,
-    /// The file for a new volume exists.
+    /// The file for a new volume exists already.
     TargetIsThere,
-    /// The folder for the files of a volume exists.
+    /// The folder for the files of a volume exists already.
     FolderIsThere,
     /// The output would overwrite a file that is read.
     OutputIsInput,
@@ -28,7 +28,7 @@ pub enum Conflict {
 }
 
 impl Conflict {
-    /// Returns the line that reports it on standard error.
+    /// Returns the message for this conflict on standard error.
     pub fn text(self) -> &'static str {
         match self {
             Conflict::SavedTwice =>
@@ -54,11 +54,12 @@ impl Conflict {
 /// How the program ends. It determines the exit status and the message on standard error.
 #[derive(Drop)]
 pub enum End {
-    /// The result of a job, and the file (with its unit) that its refusal is about, if known.
+    /// A job ended with this outcome. The text names the file, and its unit, that a refusal is about, or is `None`.
     Outcome(Outcome, Option<String>),
-    /// A file could not be read or written: the reason, and its path if known.
+    /// A file could not be read or written. The fields are the reason and the path of the file, if the path is known.
     File(DiskFault, Option<String>),
-    /// A folder was created; these of its files could not be written.
+    /// A folder was created, but some of its files could not be written. The fields are the folder's path and these
+    /// files.
     Folder(String, Vec<Unwritten>),
     /// The files of a folder were added to a volume, except these. The line is the message.
     Import(String, Vec<Left>, String),

@@ -1,4 +1,4 @@
-//! The whole program. It runs on any runtime.
+//! The whole program, which runs on any host system.
 ghost use Rattle.std.specs.Prelude.{◌≡◌};
 
 use crate::end::End;
@@ -10,8 +10,8 @@ use pm_tool::Exit;
 use std::env::Env;
 use std::io::{ErrorKind, Input};
 
-/// Returns the exit status of a command line that specifies no job. Out of memory has its own status, different from
-/// that of an invalid command line.
+/// Returns the exit of a command line that specifies no job. Out of memory has a different exit from an invalid command
+/// line.
 fn exit_of(error: &WordsError) -> Exit
     ensures memory { error.now ≡ WordsError.NoMemory → result ≡ Exit.NoMemory }
 {
@@ -22,8 +22,8 @@ fn exit_of(error: &WordsError) -> Exit
     }
 }
 
-/// Prints on standard error why the command line is invalid. It quotes the arguments unchanged, except on a terminal:
-/// there it replaces control characters, and adds a hint if there is one.
+/// Prints on standard error why the command line is invalid. It quotes the arguments unchanged, except on a terminal.
+/// On a terminal, it replaces control characters, and adds a hint if one exists.
 fn tell<R: Host + Eprint + AllocGlobal>(rt: &R, error: &WordsError) {
     if !rt.is_terminal(Stream::Error) {
         let _ = eprint!(rt; "{error}");
@@ -38,7 +38,8 @@ fn tell<R: Host + Eprint + AllocGlobal>(rt: &R, error: &WordsError) {
     }
 }
 
-/// Prints why the command line specifies no job, or prints the version. Returns the exit status.
+/// Prints why the command line specifies no job, or prints the version if the arguments request it. Returns the exit
+/// status.
 fn refuse<R: Host + Print + Eprint + AllocGlobal>(rt: &R, error: &WordsError) -> u8 {
     if let WordsError::Version(_) = error {
         return match print!(rt; "{error}") {
@@ -62,7 +63,7 @@ fn refuse<R: Host + Print + Eprint + AllocGlobal>(rt: &R, error: &WordsError) ->
 
 /// Executes the job that the command line specifies, and returns the exit status.
 ///
-/// If the command line is invalid, nothing is read or written. The program prints why, and the status is 1.
+/// If the command line is invalid, the program reads and writes no file. It prints the reason, and returns 1.
 pub fn program<R: Host + Env + Input + Print + Eprint + AllocGlobal>(rt: &R) -> u8 {
     let asked = match plan_of(rt.alloc(), std::env::args(rt)) {
         Ok(asked) => asked,

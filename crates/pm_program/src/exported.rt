@@ -1,4 +1,4 @@
-//! The files of a volume, written to a new folder.
+//! Jobs that write the files of a volume to a new folder: `export`, and `salvage` to a folder.
 ghost use Rattle.std.specs.Prelude.{◌≡◌, IfOk, IfSome, OnErr, option_map, vec_items};
 ghost use Rattle.pm_jobs.specs.Streams.{AreWell, both};
 ghost use Rattle.pm_program.specs.Exported.{BreaksOffExport, Exports, FillsFrom, IsFilled, SavesFolder};
@@ -14,17 +14,17 @@ use pm_tool::{Job, Outcome};
 use pm_volume::Volume;
 use std::alloc::Global;
 
-/// How an export ended.
+/// The result of an export.
 #[derive(Drop)]
 pub enum Exported {
     /// The image is not a volume. No folder was created.
     Refused(Outcome),
-    /// The folder was created. It has all files and the list, except these.
+    /// The folder was created. It has the list and all requested files, except these files, which could not be written.
     Written(Vec<Unwritten>),
 }
 
-/// Creates a folder with the files of the volume that an image is. `None`: it is not a volume, and no folder was
-/// created.
+/// Creates a folder at `path` with the files of the volume in `image`. Returns the files that could not be written.
+/// Returns `None`, and creates no folder, if `image` is not a volume.
 fn fill_from<F: Folder>(
     alloc: Global,
     folder: &mut F,
@@ -39,7 +39,8 @@ fn fill_from<F: Folder>(
     }
 }
 
-/// Creates a folder with the files of a new volume, if there is one.
+/// Creates a folder at `path` with the files of `volume`. Returns the files that could not be written. Returns `None`,
+/// and creates no folder, if `volume` is `None` or not a volume.
 fn fill_with<F: Folder>(
     alloc: Global,
     folder: &mut F,
@@ -55,13 +56,13 @@ fn fill_with<F: Folder>(
     }
 }
 
-/// Writes the files of a volume to a new folder, with a list of them. No file of the store changes, and none is held.
-/// Neither stream may have failed before.
+/// Writes the files of a volume, and a list of them, to a new folder. No file of `store` is changed or locked. `source`
+/// and `sink` must not have failed.
 ///
 /// # Errors
 ///
-/// The fault of the image that could not be read, or of the folder that could not be created; then there is no new
-/// folder. `NoMemory`: the new folder, if there is one, has some of the files, each of them whole.
+/// - The image could not be read, or the folder could not be created: the fault. No folder was created.
+/// - Out of memory: `NoMemory`. If the folder was created, it has only some of the files, and each of them is complete.
 pub fn do_export<S: Store, I: Source, O: Sink, F: Folder>(
     alloc: Global,
     store: &mut S,
@@ -95,21 +96,22 @@ pub fn do_export<S: Store, I: Source, O: Sink, F: Folder>(
     }
 }
 
-/// How a salvage to a folder ended.
+/// The result of a salvage to a folder.
 #[derive(Drop)]
 pub struct SavedFolder {
     /// The outcome of the job, without the image of the new volume.
     pub outcome: Outcome,
-    /// The files that the new folder could not get. `None`: there is no new volume, and no folder was created.
+    /// The files that could not be written to the new folder. `None` if the job has no new volume, so that no folder
+    /// was created.
     pub unwritten: Option<Vec<Unwritten>>,
 }
 
-/// Saves the files of an image: writes those of the new volume to a new folder. No file of the store changes, and none
-/// is held. Neither stream may have failed before.
+/// Executes `salvage`, and writes the files of the new volume to a new folder. No file of `store` is changed or locked.
+/// `source` and `sink` must not have failed.
 ///
 /// # Errors
 ///
-/// As those of `do_export`.
+/// The same as those of `do_export`.
 pub fn do_salvage_folder<S: Store, I: Source, O: Sink, F: Folder>(
     alloc: Global,
     store: &mut S,

@@ -1,4 +1,4 @@
-//! Executing a plan: its streams, its files and its job.
+//! The execution of a plan: its streams, its files, the conflicts of its paths, and its job.
 ghost use Rattle.std.specs.Prelude.{◌≡◌, IfSome, Some, option_map, string_bytes};
 ghost use Rattle.pm_jobs.specs.Streams.{AreWell, both};
 ghost use Rattle.pm_plan.specs.Asked.{paths_in};
@@ -28,14 +28,14 @@ use std::alloc::{AllocError, Global};
 use std::io;
 use std::io::{Input, Read};
 
-/// The second line on a terminal for a .2mg file that is too short for a volume.
+/// The second line of the message on a terminal if the image with `--form 2mg` is too short for a volume.
 const HEADLESS: &str =
     "the file does not begin with a valid .2mg header, or the header gives fewer than 6 blocks";
 
 /// The path of the file that is standard output.
 const OUTPUT: &str = "/dev/stdout";
 
-/// Which streams are terminals.
+/// States which standard streams are terminals.
 #[derive(Clone, Copy)]
 struct Terminals {
     input: bool,
@@ -44,7 +44,7 @@ struct Terminals {
 }
 
 impl Terminals {
-    /// Returns which standard streams are terminals. If `is_quiet`, standard error counts as no terminal.
+    /// Returns which standard streams are terminals. If `is_quiet`, standard error does not count as a terminal.
     fn of<R: Host>(rt: &R, is_quiet: bool) -> Terminals {
         Terminals {
             input: rt.is_terminal(Stream::Input),
@@ -53,7 +53,7 @@ impl Terminals {
         }
     }
 
-    /// Returns what a writer does with the output of a plan's job.
+    /// Returns how a writer changes the output of the job of `plan`.
     fn lines_of(self, plan: &Plan) -> Lines {
         match plan {
             Plan::Run(_, _) if self.output => Lines::Added,
@@ -65,7 +65,8 @@ impl Terminals {
         }
     }
 
-    /// Returns the prompt for the input of a plan. It is empty unless standard input and standard error are terminals.
+    /// Returns the prompt for the input of `plan`. The prompt is empty unless standard input and standard error are
+    /// terminals.
     fn prompt(self, plan: &Plan) -> Prompt {
         if self.input && self.error {
             prompt_of(plan)
@@ -75,7 +76,7 @@ impl Terminals {
     }
 }
 
-/// Whether a verb writes the text of a file.
+/// Returns whether `verb` writes the text of a text file.
 fn gets_text(verb: &Verb) -> bool {
     matches!(
         verb,
@@ -83,7 +84,7 @@ fn gets_text(verb: &Verb) -> bool {
     )
 }
 
-/// A prompt on standard error before input is read from a terminal.
+/// A prompt that is printed on standard error before input is read from a terminal: once, or before each line.
 #[derive(Clone, Copy)]
 enum Prompt {
     Once(&'static str),
@@ -132,20 +133,20 @@ fn prompted<'a, E: Eprint, R: Read>(rt: &'a E, keys: R, prompt: Prompt) -> Promp
     }
 }
 
-/// The result of a plan.
+/// The result of executing a plan.
 #[derive(Drop)]
 pub struct Done {
     pub end: End,
-    /// Whether the last line of the output is unfinished and both output and standard error are terminals.
+    /// Whether the last line of the output is unfinished, and both standard output and standard error are terminals.
     pub begun: bool,
-    /// Whether no message is printed. That is so if the options request it. It is also so if standard error is a
-    /// terminal and the reader of the output has closed it, as `head` does.
+    /// Whether no message is printed. This is the case if `--quiet` is given. It is also the case if standard error is
+    /// a terminal and the reader of the output, such as `head`, has closed the output.
     pub is_silent: bool,
     /// Whether the system's segment was put into the program.
     pub has_system: bool,
 }
 
-/// Whether the system's segment is put into the program of a plan.
+/// Returns whether `plan` puts the system's segment into its program.
 fn has_system(plan: &Plan) -> bool {
     match plan {
         Plan::Run(program, _) => program.system.is_some(),
@@ -153,7 +154,7 @@ fn has_system(plan: &Plan) -> bool {
     }
 }
 
-/// Executes a verb of `files`. The output of a command is saved as the file of the plan's output path, if there is one.
+/// Executes a verb of `files`. If `plan.output` is a path, the output of the verb is saved as the file at that path.
 fn act_on_files<S: Store, I: Source, O: Sink>(
     alloc: Global,
     store: &mut S,
@@ -179,12 +180,13 @@ fn act_on_files<S: Store, I: Source, O: Sink>(
     }
 }
 
-/// How a plan ended.
+/// The result of the job of a plan.
 #[derive(Drop)]
 enum Ended {
-    /// A job was done, or refused.
+    /// The job has ended, or was refused.
     Job(Outcome),
-    /// A folder was created; these of its files could not be written.
+    /// A folder was created, but some of its files could not be written. The fields are the folder's path and these
+    /// files.
     Folder(String, Vec<Unwritten>),
     /// The files of a folder were added to a volume, except these.
     Import(String, Vec<Left>),
@@ -207,7 +209,7 @@ fn import<S: Store, F: Folder, I: Source, O: Sink>(
     }
 }
 
-/// Writes the files of a volume to a new folder.
+/// Executes `plan`, which writes the files of a volume to a new folder.
 fn export<S: Store, F: Folder, I: Source, O: Sink>(
     alloc: Global,
     store: &mut S,
@@ -224,12 +226,12 @@ fn export<S: Store, F: Folder, I: Source, O: Sink>(
     }
 }
 
-/// Whether the path of a new volume asks for a folder.
+/// Returns whether `target`, the path for a new volume, requests a folder: it ends with a slash.
 fn is_folder(target: &str) -> bool {
     target.ends_with('/')
 }
 
-/// Saves the files of an image to a new folder.
+/// Executes `plan`, which writes the files that are saved from an image to a new folder.
 fn salvage<S: Store, F: Folder, I: Source, O: Sink>(
     alloc: Global,
     store: &mut S,
@@ -249,7 +251,7 @@ fn salvage<S: Store, F: Folder, I: Source, O: Sink>(
     }
 }
 
-/// Executes the job of a plan on its streams and files.
+/// Executes the job of `plan` on its streams and files.
 fn act<S: Store, F: Folder, I: Source, O: Sink>(
     alloc: Global,
     store: &mut S,
@@ -285,8 +287,8 @@ fn act<S: Store, F: Folder, I: Source, O: Sink>(
     Ok(Ended::Job(outcome))
 }
 
-/// Returns which images are saved, and where the printer's output goes. A path that names the file of standard output
-/// means standard output.
+/// Returns which images are saved, and the destination of the printer's output. A path that names the file of standard
+/// output means standard output.
 fn saved_of<S: Store>(store: &S, choices: RunChoices) -> SavedOfRun {
     let RunChoices {
         saving,
@@ -305,7 +307,7 @@ fn saved_of<S: Store>(store: &S, choices: RunChoices) -> SavedOfRun {
     SavedOfRun { saving, printing }
 }
 
-/// Whether `path` names the file of `image`. `false` if there is no image.
+/// Returns whether `path` names the same file as the path `image`. Returns `false` if `image` is `None`.
 fn names_image<S: Store>(store: &S, path: &str, image: &Option<String>) -> bool
     ensures value { IfSome (S.same store.now) (λ same.
         result ≡ names_image same path.now (option_map string_bytes image.now)) }
@@ -316,7 +318,7 @@ fn names_image<S: Store>(store: &S, path: &str, image: &Option<String>) -> bool
     }
 }
 
-/// Whether `path` names the file of one of the images.
+/// Returns whether `path` names the same file as one of the paths in `images`.
 fn is_other<S: Store>(store: &S, path: &str, images: &[Option<String>]) -> bool
     ensures value { IfSome (S.same store.now) (λ same. result ≡ is_other same path.now (paths_in images.now)) }
 {
@@ -326,7 +328,7 @@ fn is_other<S: Store>(store: &S, path: &str, images: &[Option<String>]) -> bool
     }
 }
 
-/// Whether two of the images are the same file.
+/// Returns whether two of the paths in `images` name the same file.
 fn are_shared<S: Store>(store: &S, images: &[Option<String>]) -> bool
     ensures value { IfSome (S.same store.now) (λ same. result ≡ are_shared same (paths_in images.now)) }
 {
@@ -337,11 +339,12 @@ fn are_shared<S: Store>(store: &S, images: &[Option<String>]) -> bool
     }
 }
 
-/// Returns the conflict of the printer's path, if there is one. It checks in this order:
+/// Returns the first conflict of the path `printer`. Returns `None` if `printer` is `None` or has no conflict. The
+/// conflicts are checked in this order:
 ///
 /// - the path names an image of the run;
-/// - it names the system's code file;
-/// - it names a directory.
+/// - the path names the system's code file;
+/// - the path names a directory.
 fn printer_conflict<S: Store>(
     store: &S,
     program: &Program,
@@ -366,7 +369,8 @@ fn printer_conflict<S: Store>(
     None
 }
 
-/// Whether writing the file at `path` would remove the file `other`. `false` if there is no `other`.
+/// Returns whether writing the file at `path` would remove the file at the path `other`. Returns `false` if `other` is
+/// `None`.
 fn takes<S: Store>(store: &S, path: &str, other: &Option<String>) -> bool
     ensures value { IfSome (S.beside store.now) (λ beside.
         result ≡ names_image beside path.now (option_map string_bytes other.now)) }
@@ -377,7 +381,7 @@ fn takes<S: Store>(store: &S, path: &str, other: &Option<String>) -> bool
     }
 }
 
-/// Whether writing the file at `path` would remove one of the images.
+/// Returns whether writing the file at `path` would remove the file at one of the paths in `images`.
 fn takes_other<S: Store>(store: &S, path: &str, images: &[Option<String>]) -> bool
     ensures value { IfSome (S.beside store.now) (λ beside. result ≡ is_other beside path.now (paths_in images.now)) }
 {
@@ -387,8 +391,8 @@ fn takes_other<S: Store>(store: &S, path: &str, images: &[Option<String>]) -> bo
     }
 }
 
-/// Whether writing the file at `path` would remove a file of the run: an image, the system's code file or the printer's
-/// file. `false` if there is no path.
+/// Returns whether writing the file at `path` would remove a file of the run: an image, the system's code file or the
+/// file at the path `printer`. Returns `false` if `path` is `None`.
 fn takes_away<S: Store>(
     store: &S,
     path: &Option<String>,
@@ -404,7 +408,8 @@ fn takes_away<S: Store>(
     }
 }
 
-/// Whether writing the file at `path` would remove a file of the run.
+/// Returns whether writing the file at `path` would remove a file of the run: an image, the system's code file or the
+/// file at the path `printer`.
 fn takes_away_at<S: Store>(
     store: &S,
     path: &str,
@@ -420,7 +425,7 @@ fn takes_away_at<S: Store>(
         || takes(store, path, printer)
 }
 
-/// Whether writing one of the images would remove a file of the run.
+/// Returns whether writing one of the files at the paths in `images` would remove a file of the run.
 fn others_take_away<S: Store>(
     store: &S,
     images: &[Option<String>],
@@ -439,7 +444,7 @@ fn others_take_away<S: Store>(
     }
 }
 
-/// Whether writing one of the files that a run writes would remove another of its files.
+/// Returns whether writing one of the files that the run writes would remove another file of the run.
 fn is_taken_away<S: Store>(
     store: &S,
     program: &Program,
@@ -454,19 +459,19 @@ fn is_taken_away<S: Store>(
         || takes_away(store, printer, program, printer)
 }
 
-/// Whether a file or directory is at `path`: a path names the same file as itself only if the file exists.
+/// Returns whether a file or directory exists at `path`. It exists if and only if `path` names the same file as itself.
 fn is_there<S: Store>(store: &S, path: &str) -> bool
     ensures value { IfSome (S.same store.now) (λ same. result ≡ same path.now path.now) }
 {
     store.is_same(path, path)
 }
 
-/// Returns the first conflict of the paths of `run`, if there is one. It checks in this order:
+/// Returns the first conflict of the paths of `run`, or `None`. The conflicts are checked in this order:
 ///
-/// - an image is saved and the image of unit 4 is also on another unit: `SavedTwice`;
-/// - the images of other units are saved and two of them are the same file: `SavedTwice`;
-/// - the printer's path has a conflict;
-/// - writing a file of the run would remove another of its files: `FileInTheWay`.
+/// - an image is saved, and the image of unit 4 is also on another unit: `SavedTwice`;
+/// - the images of other units are saved, and two of them are the same file: `SavedTwice`;
+/// - the printer's path has a conflict, as `printer_conflict` states;
+/// - writing a file of the run would remove another file of the run: `FileInTheWay`.
 fn conflict<S: Store>(store: &S, program: &Program, choices: &RunChoices) -> Option<Conflict>
     ensures value { IfSome (S.same store.now) (λ same. IfSome (S.beside store.now) (λ beside.
         IfSome (S.folders store.now) (λ folders. result ≡ conflict_of same beside folders program.now choices.now))) }
@@ -489,7 +494,7 @@ fn conflict<S: Store>(store: &S, program: &Program, choices: &RunChoices) -> Opt
     None
 }
 
-/// Returns the conflict of the paths of `asm` or `dis`, if there is one.
+/// Returns the conflict between the input path and the output path of `asm` or `dis`, or `None`.
 fn text_conflict<S: Store>(store: &S, files: &TextFiles) -> Option<Conflict> {
     match &files.input {
         TextInput::Standard => None,
@@ -499,10 +504,10 @@ fn text_conflict<S: Store>(store: &S, files: &TextFiles) -> Option<Conflict> {
     }
 }
 
-/// Returns the conflict of the output path with the path that is read, if there is one:
+/// Returns the conflict between `output` and `input`, the path of a file that is read, or `None`:
 ///
-/// - both name the same file: `OutputIsInput`;
-/// - writing the output would remove the file that is read: `FileInTheWay`.
+/// - both paths name the same file: `OutputIsInput`;
+/// - writing the output would remove the file at `input`: `FileInTheWay`.
 fn output_conflict<S: Store>(store: &S, input: &str, output: &Option<String>) -> Option<Conflict> {
     let output = output.as_ref()?.as_str();
     if store.is_same(output, input) {
@@ -514,10 +519,10 @@ fn output_conflict<S: Store>(store: &S, input: &str, output: &Option<String>) ->
     None
 }
 
-/// Returns the conflict of the path of a trace, if there is one:
+/// Returns the conflict of `output`, the path of a trace, or `None`:
 ///
-/// - it names an image or the system's code file: `OutputIsInput`;
-/// - writing it would remove a file of the run: `FileInTheWay`.
+/// - the path names an image or the system's code file: `OutputIsInput`;
+/// - writing the file at the path would remove a file of the run: `FileInTheWay`.
 fn trace_conflict<S: Store>(
     store: &S,
     program: &Program,
@@ -536,7 +541,7 @@ fn trace_conflict<S: Store>(
     None
 }
 
-/// Returns the first conflict of the paths of a plan, if there is one.
+/// Returns the first conflict of the paths of `plan`, or `None`.
 fn conflict_in<S: Store>(store: &S, plan: &Plan) -> Option<Conflict> {
     match plan {
         Plan::Run(program, choices) => conflict(store, program, choices),
@@ -560,8 +565,8 @@ fn conflict_in<S: Store>(store: &S, plan: &Plan) -> Option<Conflict> {
     }
 }
 
-/// Returns the end of a job, together with the file that its refusal is about. If an image with `--form 2mg` is too
-/// short for a volume, its header may be missing.
+/// Returns the end of a job with the outcome `outcome`, and the file that its refusal is about. If an image with
+/// `--form 2mg` is too short for a volume, the end has a hint that its header can be missing.
 fn end_of_job(alloc: Global, named: &Option<Named>, form: Form, mut outcome: Outcome) -> End {
     if let (Form::Headed, Some(Refusal::Volume(VolumeFault::TooShort))) = (form, outcome.refusal) {
         outcome.line = String::from_str(alloc, HEADLESS).ok();
@@ -602,14 +607,14 @@ fn folder_path(alloc: Global, plan: &Plan) -> Option<String> {
     }
 }
 
-/// Two paths of a plan that name no image.
+/// Two paths of a plan that name no image. `--form` does not apply to the files at these paths.
 ///
-/// The first one is the path of the system's code file; for `asm` and `dis`, the file that is read. The second one is
-/// the path of the printer's file; for `debug`, the file with console input; for the other commands, the file of
-/// `--output`.
+/// - The first is the path of the system's code file. For `asm` and `dis` it is the path of the file that is read.
+/// - The second is the path of the printer's file. For `debug` it is the path of the file with console input. For the
+///   other commands it is the value of `--output`.
 type OwnPaths = (Option<String>, Option<String>);
 
-/// Returns these two paths of a plan.
+/// Returns the two paths of `plan` that name no image.
 fn own_paths(alloc: Global, plan: &Plan) -> Result<OwnPaths, AllocError> {
     match plan {
         Plan::Run(program, choices) => {
@@ -632,7 +637,8 @@ fn own_paths(alloc: Global, plan: &Plan) -> Result<OwnPaths, AllocError> {
     }
 }
 
-/// Returns the files of a plan, with the form of its images. `AllocError` if memory is exhausted.
+/// Returns `store` as a store that converts the images of `plan` from and to `form`. Returns `AllocError` if memory is
+/// exhausted.
 fn in_form<S: Drop>(
     alloc: Global,
     store: S,
@@ -652,8 +658,8 @@ fn in_form<S: Drop>(
     })
 }
 
-/// Executes the job of a plan and returns its end. The end names the file that a refusal is about if `is_told`, that
-/// is, if standard error is a terminal.
+/// Executes the job that `asked` specifies and returns its end. If `is_told`, the end names the file that a refusal is
+/// about. `is_told` states whether standard error is a terminal.
 fn end_of_plan<R: Host + AllocGlobal, I: Source, O: Sink>(
     rt: &R,
     store: HostStore<R>,
@@ -684,7 +690,7 @@ fn end_of_plan<R: Host + AllocGlobal, I: Source, O: Sink>(
     }
 }
 
-/// Executes the job of a plan with the standard streams and the files of the system.
+/// Executes the job that `asked` specifies with the standard streams and the files of the host system.
 pub fn follow<R: Host + Input + Print + Eprint + AllocGlobal>(rt: &R, asked: Asked) -> Done {
     let plan = &asked.plan;
     let is_quiet = asked.is_quiet;
@@ -718,7 +724,7 @@ pub fn follow<R: Host + Input + Print + Eprint + AllocGlobal>(rt: &R, asked: Ask
     };
     Done {
         end,
-        // A line that the output has begun is also unfinished on standard error.
+        // An unfinished line of the output is also an unfinished line of standard error on the same terminal.
         begun: lined.has_begun() && at.output && at.error,
         is_silent: is_quiet || at.error && lined.failed() == Some(Failed::Closed),
         has_system,

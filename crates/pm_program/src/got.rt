@@ -1,4 +1,4 @@
-//! Reading a file of a volume into a file of the host.
+//! The job that reads a file of a volume and writes it to a file of the host.
 ghost use Rattle.std.specs.Prelude.{◌≡◌, false, IfOk, IfSome, OnErr, OnOk, Some};
 ghost use Rattle.pm_filer.specs.Filed.{order_of};
 ghost use Rattle.pm_tool.specs.Said.{IsCutShort, IsSoundExit};
@@ -12,10 +12,10 @@ use pm_jobs::Source;
 use pm_tool::{Job, Outcome};
 use std::alloc::Global;
 
-/// Executes a command on the volume whose image is at `path`. Its output is saved as the file at `output`, which is
+/// Executes `command` on the volume whose image is at `path`. Its output is saved as the file at `output`, which is
 /// locked. `source` must not have failed.
 ///
-/// If the command ends well, the file at `output` contains all its output. No other file changes: the image at `path`
+/// If the command succeeds, the file at `output` contains its whole output. No other file changes: the image at `path`
 /// is unchanged even if the command would change it. If the command is refused or cut short, no file changes.
 ///
 /// On an error, a file could not be read, locked or written, and no file has changed.

@@ -1,4 +1,5 @@
-//! Jobs with files: what they read first, and what they save at the end.
+//! Jobs with files: what they read first, and what they save at the end. In comments, the input is *known* if the model
+//! of `source` states its remaining bytes.
 ghost use Rattle.std.specs.Prelude.{◌≡◌, ◌∷◌, false, IfOk, IfSome, OnErr, OnOk, Some, string_bytes, option_map};
 ghost use Rattle.std.specs.Prelude.{vec_items};
 ghost use Rattle.pm_tool.specs.Said.{IsCutShort, IsSoundExit};
@@ -23,27 +24,27 @@ use pm_tool::{Exit, Job, OtherImages, Outcome};
 use std::alloc::Global;
 use std::io::ErrorKind;
 
-/// Where the printer's output goes.
+/// The destination of the printer's output.
 #[derive(Drop)]
 pub enum Printing {
     /// The output is discarded.
     Nowhere,
-    /// To standard output, after the output of the console.
+    /// The output is written to standard output, after the output of the console.
     Output,
-    /// To a file.
+    /// The output is written to the file at this path.
     File(String),
 }
 
-/// What is saved after a run.
+/// What a run saves at its end.
 #[derive(Drop)]
 pub struct SavedOfRun {
-    /// The images that are saved.
+    /// Which images are saved.
     pub saving: Saving,
-    /// Where the printer's output goes.
+    /// The destination of the printer's output.
     pub printing: Printing,
 }
 
-/// Whether a verb locks its file, because it may write it.
+/// Returns whether `verb` locks its file, because `verb` may write the file.
 fn takes_lock(verb: &Verb) -> bool
     ensures value { result ≡ takes_lock verb.now }
 {
@@ -57,8 +58,8 @@ fn takes_lock(verb: &Verb) -> bool
     )
 }
 
-/// Returns the job of a verb. It locks the file at `path` if the verb may write it. Then it reads the file, except for
-/// `New`. No file changes.
+/// Returns the job of `verb`. It first locks the file at `path` if the verb may write the file. Then it reads the file,
+/// except for `New`. No file changes.
 fn files_job<S: Store>(
     alloc: Global,
     store: &mut S,
@@ -89,12 +90,12 @@ fn files_job<S: Store>(
     }
 }
 
-/// Executes a verb on the image at `path`, and saves the image of the outcome there, if the outcome has one. A verb
-/// that may write the file locks it first. `source` and `sink` must not have failed.
+/// Executes `verb` on the image at `path`, and saves the image of the outcome at `path` if the outcome has an image. If
+/// the verb may write the file, it locks the file first. `source` and `sink` must not have failed.
 ///
 /// No other file changes. If the job is cut short by a stream failure or out of memory, no file changes. Otherwise, if
-/// the input is known, the saved image is the one that the specification of the verb states for the input and the image
-/// read.
+/// the input is known, the saved image is the image that the specification of the verb states. It depends on the input
+/// and the image that was read.
 ///
 /// On an error, the file could not be read, locked or written, and no file has changed.
 pub fn do_files<S: Store, I: Source, O: Sink>(
@@ -120,11 +121,12 @@ pub fn do_files<S: Store, I: Source, O: Sink>(
     Ok(outcome)
 }
 
-/// Saves the files of the image at `plan.path` in a new volume at `plan.target`, which is locked first. `source` and
-/// `sink` must not have failed.
+/// Executes `salvage`: saves the files of the image at `plan.path` in a new volume at `plan.target`. The file at
+/// `plan.target` is locked first. `source` and `sink` must not have failed.
 ///
 /// No other file changes. If the job is cut short by a stream failure or out of memory, no file changes. Otherwise, if
-/// the input is known, the new volume is the one that the specification of `salvage` states for the image read.
+/// the input is known, the new volume is the one that the specification of `salvage` states for the image that was
+/// read.
 ///
 /// On an error, a file could not be read, locked or written, and no file has changed.
 pub fn do_salvage<S: Store, I: Source, O: Sink>(
@@ -156,7 +158,7 @@ pub fn do_salvage<S: Store, I: Source, O: Sink>(
     Ok(outcome)
 }
 
-/// Reads the file at `path`, if there is a path. No file changes.
+/// Returns the bytes of the file at `path`, or `None` if `path` is `None`. No file changes.
 fn image<S: Store>(
     alloc: Global,
     store: &mut S,
@@ -173,10 +175,11 @@ fn image<S: Store>(
     }
 }
 
-/// The images of the disks, in the order of their units. `None` for a unit without a disk.
+/// The images of the disks on the units 4, 5, 9, 10, 11 and 12, in this order. `None` for a unit without a disk.
 type Images = [Option<Vec<u8>>; 6];
 
-/// Reads the images of the disks, in the order of their units. No file changes.
+/// Returns the images of the disks, in the order of their units. `disk` is the path for unit 4, and `others` has the
+/// paths for the other units. No file changes.
 fn images<S: Store>(
     alloc: Global,
     store: &mut S,
@@ -199,8 +202,8 @@ fn images<S: Store>(
     ])
 }
 
-/// Reads the images of the disks, in the order of their units, and then the system's code file, if there is one. No
-/// file changes.
+/// Returns the images of the disks, and the system's code file if `system` is a path. The images are read first, in the
+/// order of their units. No file changes.
 fn inputs<S: Store>(
     alloc: Global,
     store: &mut S,
@@ -220,14 +223,15 @@ fn inputs<S: Store>(
     Ok((images, system))
 }
 
-/// Whether a program was run to its end, to its limit of steps, to the end of its input, or to an execution error.
+/// Returns whether `exit` states that a program has run. It has run if it ended, or stopped at its limit of steps, at
+/// the end of its input, or at an execution error.
 fn has_run(exit: Exit) -> bool
     ensures value { result ≡ has_run exit }
 {
     matches!(exit, Exit::Ended | Exit::ExecutionError | Exit::Stopped)
 }
 
-/// Writes the printer's output after the output of the console. `Write` if `sink` fails or has failed.
+/// Writes `bytes`, the printer's output, to `sink`. Returns `Write` if `sink` fails or has failed before.
 fn print_out<O: Sink>(sink: &mut O, bytes: &[u8]) -> Result<(), DiskFault> {
     if sink.failed() || write_all(sink, bytes).is_err() {
         return Err(DiskFault::Write(ErrorKind::Other));
@@ -235,7 +239,7 @@ fn print_out<O: Sink>(sink: &mut O, bytes: &[u8]) -> Result<(), DiskFault> {
     Ok(())
 }
 
-/// Saves `image` at `path`, if there is an image. On an error, no file has changed.
+/// Saves `image` at `path`. Does nothing if `image` is `None`. On an error, no file has changed.
 fn save_image<S: Store>(store: &mut S, path: &str, image: &Option<Vec<u8>>) -> Result<(), DiskFault>
     ensures saved { OnOk result (
         Saves (S.files store.old) (S.files store.new) path.now (option_map vec_items image.now)) }
@@ -248,7 +252,7 @@ fn save_image<S: Store>(store: &mut S, path: &str, image: &Option<Vec<u8>>) -> R
     }
 }
 
-/// Writes the printer's output to its destination, if the program has run. On an error, no file has changed.
+/// Writes the printer's output to the destination `printing`, if the program has run. On an error, no file has changed.
 fn save_printer<S: Store, O: Sink>(
     store: &mut S,
     sink: &mut O,
@@ -271,8 +275,8 @@ fn save_printer<S: Store, O: Sink>(
     }
 }
 
-/// Replaces the content of the file at `path` with `bytes`. The file is not written if it contains them already. If
-/// there is not enough memory to compare, it is written. On an error, no file has changed.
+/// Replaces the contents of the file at `path` with `bytes`. The file is not written if it contains `bytes` already. If
+/// memory is too small to compare, the file is written. On an error, no file has changed.
 fn put_changed<S: Store>(
     alloc: Global,
     store: &mut S,
@@ -290,8 +294,8 @@ fn put_changed<S: Store>(
     }
 }
 
-/// Saves `image` at `path`, if there are both. The file is not written if it contains the image already. On an error,
-/// no file has changed.
+/// Saves `image` at `path`. Does nothing if `image` or `path` is `None`. The file is not written if it contains the
+/// image already. On an error, no file has changed.
 fn save_at<S: Store>(
     alloc: Global,
     store: &mut S,
@@ -309,8 +313,8 @@ fn save_at<S: Store>(
     }
 }
 
-/// Saves the images of the units other than 4 at their paths, in the order of the units. On an error, the images of the
-/// first units may be saved, and no other file has changed.
+/// Saves `images`, those of the units other than 4, at `paths`, in the order of the units. On an error, the images of
+/// the first units may be saved, and no other file has changed.
 fn save_others<S: Store>(
     alloc: Global,
     store: &mut S,
@@ -338,8 +342,8 @@ fn save_others<S: Store>(
     save_at(alloc, store, twelfth, twelfth_image)
 }
 
-/// Saves the images of all units at their paths, in the order of the units: unit 4 is first. On an error, the images of
-/// the first units may be saved, and no other file has changed.
+/// Saves the images in `outcome` at the paths `disk` and `others`, in the order of the units. On an error, the images
+/// of the first units may be saved, and no other file has changed.
 fn save_all<S: Store>(
     alloc: Global,
     store: &mut S,
@@ -359,8 +363,8 @@ fn save_all<S: Store>(
     save_others(alloc, store, others, &outcome.others)
 }
 
-/// Saves those images of a run that `saving` selects, in the order of the units. On an error, the images of the first
-/// units may be saved, and no other file has changed.
+/// Saves the images that `saving` selects, in the order of the units. On an error, the images of the first units may be
+/// saved, and no other file has changed.
 fn save_images<S: Store>(
     alloc: Global,
     store: &mut S,
@@ -385,7 +389,7 @@ fn save_images<S: Store>(
     }
 }
 
-/// Locks the file at `path`, if there is a path. No file changes.
+/// Locks the file at `path`. Does nothing if `path` is `None`. No file changes.
 fn hold_at<S: Store>(store: &mut S, path: &Option<String>) -> Result<(), DiskFault>
     ensures stays { S.files store.new ≡ S.files store.old }
     ensures held { OnOk result (
@@ -397,7 +401,7 @@ fn hold_at<S: Store>(store: &mut S, path: &Option<String>) -> Result<(), DiskFau
     }
 }
 
-/// Locks the files of the images on the units other than 4. No file changes.
+/// Locks the files at the paths `others`, which are the images on the units other than 4. No file changes.
 fn hold_others<S: Store>(store: &mut S, others: &Others) -> Result<(), DiskFault>
     ensures stays { S.files store.new ≡ S.files store.old }
     ensures held { OnOk result (S.held store.new ≡ held_each (paths_in others.now) (S.held store.old)) }
@@ -432,7 +436,8 @@ fn hold_images<S: Store>(
     }
 }
 
-/// Locks the files of the images that will be saved, and prepares the printer's file for writing. No file changes.
+/// Locks the files of the images that are saved at the end, and prepares the printer's file for writing. No file
+/// changes.
 fn make_ready<S: Store>(
     store: &mut S,
     disk: &str,
@@ -450,8 +455,7 @@ fn make_ready<S: Store>(
     Ok(())
 }
 
-/// Locks and prepares the files that a run saves, and then reads its images and the system's code file. No file
-/// changes.
+/// Locks and prepares the files that the run saves. Then reads its images and the system's code file. No file changes.
 fn run_inputs<S: Store>(
     alloc: Global,
     store: &mut S,
@@ -472,8 +476,8 @@ fn run_inputs<S: Store>(
     inputs(alloc, store, disk, &program.others, &program.system)
 }
 
-/// Saves the selected images of a run, and then the printer's output. On an error, the images of the first units may be
-/// saved, and no other file has changed.
+/// Saves the images that `saved` selects, and then the printer's output. On an error, the images of the first units may
+/// be saved, and no other file has changed.
 fn save_run<S: Store, O: Sink>(
     alloc: Global,
     store: &mut S,
@@ -497,15 +501,15 @@ fn save_run<S: Store, O: Sink>(
 /// Runs a program, and then saves its results. `source` and `sink` must not have failed.
 ///
 /// - It locks each image file that it may write, before it reads the files.
-/// - It saves the images that `saved.saving` selects, as far as the outcome has them.
-/// - It writes the printer's output as `saved.printing` states, if the program has run.
+/// - It saves each image that `saved.saving` selects and that the outcome has.
+/// - It writes the printer's output to `saved.printing`, if the program has run.
 ///
 /// No other file changes. If the job is cut short by a stream failure or out of memory, no file changes. Otherwise, if
-/// the input is known, the saved images and the printer's output are the specified ones. They depend on the input and
-/// the images read.
+/// the input is known, the saved images and the printer's output are those that the specification of the run states.
+/// They depend on the input and the images that were read.
 ///
 /// On an error, a file could not be read, locked or written. The images of the first units may be saved, and no other
-/// file has changed. If the input is known, these images are the specified ones.
+/// file has changed. If the input is known, these images are those that the specification states.
 pub fn do_run<S: Store, I: Source, O: Sink>(
     alloc: Global,
     store: &mut S,
@@ -549,12 +553,13 @@ pub fn do_run<S: Store, I: Source, O: Sink>(
 
 /// Runs a program and writes the selected lines of its trace. `source` and `sink` must not have failed.
 ///
-/// The trace goes to `sink`, and no file changes. If there is an `output` path, its file is locked and gets the whole
-/// trace, if the program has run. Then nothing is written to `sink`.
+/// - Without an `output` path, the trace is written to `sink`, and no file changes.
+/// - With an `output` path, the file at this path is locked, and nothing is written to `sink`. If the program has run,
+///   the file gets the whole trace.
 ///
 /// If the job is cut short by a stream failure or out of memory, no file changes. Otherwise, if the input is known, the
-/// output is the one that the specification of the trace states for the input and the images read. Without an `output`
-/// path, this also covers the bytes that are left unread.
+/// trace is the one that the specification states for the input and the images that were read. Without an `output`
+/// path, the same holds for the bytes that remain unread.
 ///
 /// On an error, no file has changed, and nothing was written to `sink`.
 pub fn do_trace<S: Store, I: Source, O: Sink>(
@@ -595,8 +600,8 @@ pub fn do_trace<S: Store, I: Source, O: Sink>(
     }
 }
 
-/// Returns the bytes that are in the console's input queue at the start: those of the file at `path`, or none if there
-/// is no path. No file changes.
+/// Returns the bytes with which the console's input queue begins: the bytes of the file at `path`, or an empty list if
+/// `path` is `None`. No file changes.
 fn typed_of<S: Store>(
     alloc: Global,
     store: &mut S,
@@ -613,11 +618,12 @@ fn typed_of<S: Store>(
     }
 }
 
-/// Debugs a program by the commands that it reads from `source`. If there is a `typed` path, the bytes of its file are
-/// in the console's input queue at the start. No file changes. `source` and `sink` must not have failed.
+/// Debugs a program with the commands that are read from `source`. If `typed` is a path, the console's input queue
+/// contains the bytes of the file at this path at the start. No file changes. `source` and `sink` must not have failed.
 ///
-/// If the input is known and the job is not cut short by a stream failure or out of memory, the output and the bytes
-/// left unread are the specified ones. They depend on the input, the typed bytes and the images read.
+/// If the input is known and the job is not cut short by a stream failure or out of memory, the output and the unread
+/// bytes are those that the specification states. They depend on the input, the bytes of the `typed` file and the
+/// images that were read.
 pub fn do_debug<S: Store, I: Source, O: Sink>(
     alloc: Global,
     store: &mut S,

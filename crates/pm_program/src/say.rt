@@ -1,4 +1,4 @@
-//! The messages of the program on standard error at its end.
+//! The messages that the program prints on standard error at its end.
 ghost use Rattle.std.specs.Prelude.{◌≡◌, true, []};
 
 use crate::end::{End, first_unread};
@@ -8,7 +8,7 @@ use pm_textfile::TextFault;
 use pm_tool::{Ending, Outcome, Reason, Refusal, RunReason, Whereabouts};
 use std::fmt;
 
-/// A text on one line of a terminal: a question mark replaces each character that would move the cursor or change
+/// A text for one line of a terminal. A question mark replaces each character that would move the cursor or change
 /// colours.
 #[derive(Clone, Copy)]
 pub struct Plain<'a>(pub &'a str);
@@ -23,7 +23,7 @@ impl fmt::Display for Plain<'_> {
     }
 }
 
-/// A text of several lines, each with its line feed, with the same replacements.
+/// A text of several lines for a terminal, with their line feeds. Other characters are replaced as by `Plain`.
 #[derive(Clone, Copy)]
 pub struct PlainLines<'a>(pub &'a str);
 
@@ -37,13 +37,13 @@ impl fmt::Display for PlainLines<'_> {
     }
 }
 
-/// The maximal number of characters of a quoted line that a message prints.
+/// The maximum number of characters of a quoted line in a message.
 const MOST: usize = 120;
 
-/// The space before a quoted line and before its mark.
+/// The indentation of a quoted line and of its mark.
 const INDENT: &str = "    ";
 
-/// At most 120 characters of a line, from a position on.
+/// A prefix of at most 120 characters of `line` after the first `from` characters.
 #[derive(Clone, Copy)]
 struct Part<'a> {
     line: &'a str,
@@ -63,14 +63,15 @@ impl fmt::Display for Part<'_> {
     }
 }
 
-/// Returns the first position of a quoted line that is printed: 0, or 60 characters before a mark that is far right.
+/// Returns the position of the first printed character of a quoted line. `mark` is the line with the mark below the
+/// quoted line. The position is 0, or 60 characters before the mark if the mark is far to the right.
 fn start_of(mark: &str) -> usize {
     let count = mark.len();
     if count > MOST { count - MOST / 2 } else { 0 }
 }
 
-/// The message for a refused assembler text. Each line that it quotes, with the mark below it, is cut to the part
-/// around the mark.
+/// The message for a refused assembler text. Each quoted line, and the mark below it, is cut to the characters around
+/// the mark.
 #[derive(Clone, Copy)]
 struct Excerpt<'a>(&'a str);
 
@@ -100,8 +101,8 @@ impl fmt::Display for Excerpt<'_> {
     }
 }
 
-/// Why an input was refused: the file that it is about, the reason, and what helps. For an assembler text, the wrong
-/// lines and what helps there.
+/// The explanation of a refusal: the file that it is about, the reason, and what helps. For an assembler text, it
+/// quotes the invalid lines.
 #[derive(Clone, Copy)]
 struct Refused<'a> {
     refusal: Refusal,
@@ -126,7 +127,7 @@ impl fmt::Display for Refused<'_> {
     }
 }
 
-/// Returns the message of an end. It can be empty. It is empty if `is_silent`.
+/// Returns the message of `end`, which can be empty. Returns an empty message if `is_silent`.
 fn message(end: &End, is_silent: bool) -> &str
     ensures silent { is_silent ≡ true → result.now ≡ [] }
 {
@@ -147,7 +148,7 @@ fn message(end: &End, is_silent: bool) -> &str
     }
 }
 
-/// Prints why a run ended before the end of the program, and where an error stopped it.
+/// Prints why a run ended before the end of the program, and the position at which an error stopped it.
 fn explain_run<R: Eprint>(rt: &R, outcome: &Outcome, has_system: bool) {
     let Some(ending) = outcome.ending else {
         return;
@@ -179,7 +180,7 @@ fn explain_refusal<R: Eprint>(rt: &R, outcome: &Outcome, about: &Option<String>)
     let _ = eprintln!(rt; "pmach: {refused}");
 }
 
-/// Prints more about an end: the file and the reason, why the input was refused, or why a run ended.
+/// Prints the explanation of `end`: the file and the reason, why the input was refused, or why a run ended.
 fn explain<R: Eprint>(rt: &R, end: &End, has_system: bool) {
     let _ = match end {
         End::File(fault, Some(path)) => eprintln!(rt;
@@ -197,7 +198,7 @@ fn explain<R: Eprint>(rt: &R, end: &End, has_system: bool) {
     };
 }
 
-/// Prints a line for each file of a folder that could not be written.
+/// Prints a line for each file of a folder that could not be written, if `end` has such files.
 fn name_unwritten<R: Eprint>(rt: &R, end: &End) {
     if let End::Folder(folder, unwritten) = end {
         let folder = folder.trim_end_matches('/');
@@ -253,9 +254,9 @@ fn name_left<R: Eprint + AllocGlobal>(rt: &R, end: &End) {
 /// How messages are written to standard error.
 #[derive(Clone, Copy)]
 pub struct Manner {
-    /// Whether standard error is a terminal. Then a second line explains the message.
+    /// Whether standard error is a terminal. If so, a second line explains the message.
     pub explains: bool,
-    /// Whether an unfinished line is on the same terminal. It must be ended first.
+    /// Whether the last line on the same terminal is unfinished. If so, a line feed is printed before the message.
     pub begun: bool,
     /// Whether the system's segment was put into the program.
     pub has_system: bool,
@@ -263,7 +264,7 @@ pub struct Manner {
     pub is_silent: bool,
 }
 
-/// Prints the message of an end on standard error, if there is one.
+/// Prints the message of `end` on standard error, as `manner` states. Prints nothing if the message is empty.
 pub fn say<R: Eprint + AllocGlobal>(rt: &R, end: &End, manner: Manner) {
     let message = message(end, manner.is_silent);
     if message.is_empty() {

@@ -1,4 +1,5 @@
-//! Jobs on assembler texts and code files: what they read, and where they write.
+//! Jobs on assembler texts and code files: what they read, and where they write. In comments, the input is *known* if
+//! the model of `source` states its remaining bytes.
 ghost use Rattle.std.specs.Prelude.{◌≡◌, false, IfOk, IfSome, None, OnErr, OnOk, Some, option_map, string_bytes};
 ghost use Rattle.pm_jobs.specs.Streams.{AreWell, both};
 ghost use Rattle.pm_tool.specs.Said.{IsCutShort, IsSoundExit, job_said};
@@ -15,7 +16,7 @@ use pm_plan::{TextFiles, TextInput};
 use pm_tool::{Exit, Job, Kept, Outcome};
 use std::alloc::Global;
 
-/// Executes `job` and returns its outcome and its output. The output is stored in memory. `source` must not have
+/// Executes `job`, and returns its outcome and its output. The output is collected in memory. `source` must not have
 /// failed.
 fn into_memory<I: Source>(alloc: Global, source: &mut I, job: Job) -> (Outcome, Vec<u8>)
     requires well { (I.seen source.old).failed ≡ false }
@@ -28,13 +29,13 @@ fn into_memory<I: Source>(alloc: Global, source: &mut I, job: Job) -> (Outcome, 
     (outcome, bytes)
 }
 
-/// Saves the output of a job as the file at `path`, if the job ran to an end: `Ended`, `ExecutionError` or `Stopped`.
+/// Saves `bytes`, the output of a job, as the file at `path` if `exit` is `Ended`, `ExecutionError` or `Stopped`.
 /// Otherwise no file changes. On an error, no file has changed.
 ///
 /// # Errors
 ///
-/// - The output did not fit into memory: `NoMemory`.
-/// - The file cannot be written: as `Store::put` states.
+/// - The output did not fit into memory (`exit` is `WriteFault`): `NoMemory`.
+/// - The file cannot be written: the error of `Store::put`.
 fn keep<S: Store>(store: &mut S, path: &str, exit: Exit, bytes: &[u8]) -> Result<(), DiskFault>
     ensures kept { OnOk result (Saves (S.files store.old) (S.files store.new) path.now (written_by exit bytes.now)) }
     ensures held { S.held store.new ≡ S.held store.old }
@@ -42,14 +43,14 @@ fn keep<S: Store>(store: &mut S, path: &str, exit: Exit, bytes: &[u8]) -> Result
 {
     match exit {
         Exit::Ended | Exit::ExecutionError | Exit::Stopped => store.put(path, bytes),
-        // A list fails to grow only if memory is exhausted.
+        // The output is written to a list, which fails to grow only if memory is exhausted.
         Exit::WriteFault => Err(DiskFault::NoMemory),
         _ => Ok(()),
     }
 }
 
-/// Locks the file at `path`, executes `job`, and saves its output as that file. The file changes only if the job ran to
-/// an end. No other file changes. `source` must not have failed.
+/// Locks the file at `path`, executes `job`, and saves its output as that file. The file changes only if the job ends,
+/// or its program has run. No other file changes. `source` must not have failed.
 ///
 /// On an error, no file has changed.
 #[tactic(auto, using(crate::proofs::TextLaws::cut_keeps_none))]
@@ -73,8 +74,8 @@ pub(crate) fn into_file<S: Store, I: Source>(
     Ok(outcome)
 }
 
-/// Executes `job`. Its output goes to the file at `path` if there is one, which is locked first, and to `sink`
-/// otherwise. `source` and `sink` must not have failed.
+/// Executes `job`. If `path` is a path, the file at `path` is locked first and gets the output. Otherwise the output is
+/// written to `sink`. `source` and `sink` must not have failed.
 ///
 /// On an error, no file has changed, and nothing was written to `sink`.
 fn deliver<S: Store, I: Source, O: Sink>(
@@ -106,18 +107,18 @@ fn deliver<S: Store, I: Source, O: Sink>(
 pub(crate) enum Got {
     /// The bytes of a file, or its text.
     Bytes(Vec<u8>),
-    /// No bytes, because the image or the file was refused. The outcome says why.
+    /// The image or the file was refused. The outcome states the reason.
     Nothing(Outcome),
 }
 
-/// Whether a job reads an assembler text. Otherwise it reads a code file.
+/// Returns whether `job` reads an assembler text. Any other job on texts reads a code file.
 fn reads_text(job: &Job) -> bool
     ensures text { result ≡ reads_text job.now }
 {
     matches!(job, Job::Asm(_))
 }
 
-/// Returns the command that reads the file `name`: as text if `is_text`, and as bytes otherwise.
+/// Returns the command that reads the file `name`, as a text if `is_text`, and as bytes otherwise.
 fn getting(is_text: bool, name: String) -> FileCommand
     ensures order { order_of result ≡ getting is_text (string_bytes name) }
 {
@@ -128,8 +129,8 @@ fn getting(is_text: bool, name: String) -> FileCommand
     }
 }
 
-/// Reads the file `name` of the volume whose image is at `path`: as text if `is_text`, and as bytes otherwise. No file
-/// changes.
+/// Reads the file `name` of the volume whose image is at `path`, as a text if `is_text`, and as bytes otherwise. No
+/// file changes.
 fn get_file<S: Store>(
     alloc: Global,
     store: &mut S,
@@ -148,13 +149,13 @@ fn get_file<S: Store>(
     match outcome.exit {
         Exit::Ended => Ok(Got::Bytes(page)),
         Exit::Refused => Ok(Got::Nothing(outcome)),
-        // Only out of memory stops this job early.
+        // This job ends early only if memory is exhausted.
         _ => Err(DiskFault::NoMemory),
     }
 }
 
-/// Executes `job` on `bytes`. Its output goes to the file at `path` if there is one, which is locked first, and to
-/// `sink` otherwise. `sink` must not have failed.
+/// Executes `job` on the input `bytes`. If `path` is a path, the file at `path` is locked first and gets the output.
+/// Otherwise the output is written to `sink`. `sink` must not have failed.
 ///
 /// On an error, no file has changed, and nothing was written to `sink`.
 fn deliver_bytes<S: Store, O: Sink>(
@@ -179,19 +180,20 @@ fn deliver_bytes<S: Store, O: Sink>(
     deliver(alloc, store, &mut source, sink, path, job)
 }
 
-/// Executes a job on an assembler text or a code file. `source` and `sink` must not have failed.
+/// Executes `job` on an assembler text or a code file. `source` and `sink` must not have failed.
 ///
-/// The input is one of three, as `files.input` states:
+/// `files.input` selects one of three inputs:
 ///
-/// - `source`;
-/// - a file, and `source` is not read;
-/// - a file of a volume, and `source` is not read. The job determines whether it is read as text or as bytes.
+/// - the stream `source`;
+/// - a file. `source` is not read;
+/// - a file of a volume. `source` is not read. The job determines whether the file is read as a text or as bytes.
 ///
-/// The output goes to `sink`, or to the file `files.output` if there is one. That file is locked, and nothing is
-/// written to `sink`. It contains the whole output if the job ends well. No other file changes. If the job is cut short
-/// by a stream failure or out of memory, no file changes.
+/// Without `files.output`, the output is written to `sink`, and no file changes. With `files.output`, the file at this
+/// path is locked, and nothing is written to `sink`. If the job succeeds, this file contains the whole output. No other
+/// file changes. If the job is cut short by a stream failure or out of memory, no file changes.
 ///
-/// If the file of a volume is refused, the outcome of that refusal is returned, and nothing is locked or written.
+/// If the file of a volume is refused, the outcome of that refusal is returned. Then no file is locked, and nothing is
+/// written.
 ///
 /// On an error, a file could not be read, locked or written. No file has changed, and nothing was written to `sink`.
 pub fn do_text<S: Store, I: Source, O: Sink>(

@@ -1,4 +1,4 @@
-//! Cases of raw p-code: the trace that the job writes, and the registers and the stack of the machine at its end.
+//! Cases of raw p-code: the trace of the job, and the registers and the stack of the machine at its end.
 use crate::case::{Came, Case};
 use crate::jobs::do_job;
 use pm_machine::Machine;
@@ -16,7 +16,7 @@ const STACK_END: u16 = 65_504;
 /// The maximum number of stack words that a case shows.
 const WORDS: u16 = 8;
 
-/// Adds the answers with the last line of the trace and with its digest.
+/// Adds the last line of the trace and the digest of the trace as answers to `came`.
 pub fn add_trace(alloc: Global, code: &[u8], limit: u32, came: &mut Came) -> io::Result<()> {
     let digits = hex::encode(alloc, code)?;
     let ran = do_job(
@@ -38,7 +38,7 @@ pub fn add_trace(alloc: Global, code: &[u8], limit: u32, came: &mut Came) -> io:
     Ok(())
 }
 
-/// Runs the machine itself and adds the answers with its final state.
+/// Runs a machine on `code` directly, and adds its final state as answers to `came`.
 fn add_end(alloc: Global, code: &[u8], limit: u32, came: &mut Came) -> io::Result<()> {
     let Ok(mut machine) = Machine::raw(alloc, code) else {
         return Ok(());
@@ -47,7 +47,7 @@ fn add_end(alloc: Global, code: &[u8], limit: u32, came: &mut Came) -> io::Resul
     add_state(alloc, &machine, came)
 }
 
-/// Adds the answers with the registers and with the words from SP up.
+/// Adds the registers and the words from SP on as answers to `came`.
 fn add_state(alloc: Global, machine: &Machine, came: &mut Came) -> io::Result<()> {
     let r = machine.registers();
     let (ipc, sp, mp, base, np, ioresult) = (r.ipc, r.sp, r.mp, r.base, r.np, r.ioresult);

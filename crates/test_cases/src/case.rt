@@ -1,4 +1,4 @@
-//! One case. Each of its lines is `WORD REST`. Some lines are input, the others are the expected answers.
+//! One case. Each of its lines is `WORD REST`. Some lines are input, and the other lines are the expected answers.
 use std::alloc::{AllocError, Global};
 
 /// The maximum number of bytes that a case shows unabridged.
@@ -9,7 +9,7 @@ pub const MOST_SHOWN: usize = 64;
 pub struct Line<'a> {
     /// The whole line.
     pub text: &'a str,
-    /// Its first word.
+    /// The first word of the line.
     pub word: &'a str,
     /// The text after the space that follows the first word.
     pub rest: &'a str,
@@ -42,7 +42,7 @@ impl<'a> Case<'a> {
         }
     }
 
-    /// Returns the rest of the first line that begins with `word`, if there is one.
+    /// Returns the rest of the first line of the case that begins with `word`, or `None`.
     pub fn value(&self, word: &str) -> Option<&'a str> {
         for line in self.lines.iter() {
             if line.word == word {
@@ -52,7 +52,7 @@ impl<'a> Case<'a> {
         None
     }
 
-    /// Whether a line begins with `word`.
+    /// Returns whether a line of the case begins with `word`.
     pub fn has(&self, word: &str) -> bool {
         self.value(word).is_some()
     }
@@ -63,7 +63,7 @@ impl<'a> Case<'a> {
 pub struct Came {
     /// The lines of the answers, each with its line feed.
     pub answers: String,
-    /// The trace, the session or the text whose digest is an answer.
+    /// The trace, the session or the text of which an answer has the digest.
     pub shown: String,
 }
 

@@ -1,4 +1,4 @@
-//! The commands on volumes, as the lines of a case contain them.
+//! The commands on volumes, as lines of a case spell them.
 use crate::case::Line;
 use pm_filer::FileCommand;
 use std::alloc::Global;
@@ -10,7 +10,7 @@ pub fn two(text: &str) -> io::Result<(&str, &str)> {
     text.split_once(' ').ok_or_else(unreadable)
 }
 
-/// Returns bytes of which each is one more than the one before, modulo 251: `COUNT FIRST`.
+/// Returns bytes of which each is one more than the byte before, modulo 251. `rest` is `COUNT FIRST`.
 fn ramp(alloc: Global, rest: &str) -> io::Result<Vec<u8>> {
     let (count, first) = two(rest)?;
     let first = number(first)?;
@@ -21,8 +21,8 @@ fn ramp(alloc: Global, rest: &str) -> io::Result<Vec<u8>> {
     Ok(bytes)
 }
 
-/// Returns the text of pieces that are separated by spaces. A piece is escaped text, or `N*PIECE` for N times the
-/// piece.
+/// Returns the text of the pieces in `rest`, which are separated by spaces. A piece is escaped text, or `N*PIECE` for N
+/// times this piece.
 fn text(alloc: Global, rest: &str) -> io::Result<Vec<u8>> {
     let mut bytes = Vec::new(alloc);
     for piece in rest.split(' ') {
@@ -38,7 +38,7 @@ fn text(alloc: Global, rest: &str) -> io::Result<Vec<u8>> {
     Ok(bytes)
 }
 
-/// Returns the bytes of a content.
+/// Returns the bytes that `spelled` describes. The content `program` is the bytes `program`.
 fn content(alloc: Global, spelled: &str, program: &[u8]) -> io::Result<Vec<u8>> {
     let line = Line::of(spelled);
     match line.word {
@@ -50,12 +50,12 @@ fn content(alloc: Global, spelled: &str, program: &[u8]) -> io::Result<Vec<u8>> 
     }
 }
 
-/// The keywords of the kinds 0 to 8.
+/// The names of the kinds 0 to 8.
 const KINDS: [&str; 9] = [
     "none", "badb", "code", "text", "info", "data", "graf", "foto", "secd",
 ];
 
-/// Returns the kind of a keyword or a number.
+/// Returns the kind of file that `spelled` gives by its name or its number.
 fn kind(spelled: &str) -> io::Result<u8> {
     for (word, kind) in KINDS.iter().zip(0..9) {
         if *word == spelled {
@@ -65,20 +65,20 @@ fn kind(spelled: &str) -> io::Result<u8> {
     byte(spelled)
 }
 
-/// Returns the command that sets a date: `YEAR MONTH DAY`.
+/// Returns the command that sets a date. `rest` is `YEAR MONTH DAY`.
 fn date(rest: &str) -> io::Result<FileCommand> {
     let (year, day) = two(rest)?;
     let (month, day) = two(day)?;
     Ok(FileCommand::Date(byte(year)?, byte(month)?, byte(day)?))
 }
 
-/// Returns the command that changes the kind of a file: `NAME KIND`.
+/// Returns the command that changes the kind of a file. `rest` is `NAME KIND`.
 fn kinded(alloc: Global, rest: &str) -> io::Result<FileCommand> {
     let (file, spelled) = two(rest)?;
     Ok(FileCommand::Kind(name(alloc, file)?, kind(spelled)?))
 }
 
-/// Returns the command `word` on the file with this name. For `zero`, the name is that of the volume.
+/// Returns the command `word` on the file `name`. For `zero`, `name` is the name of the volume.
 fn named(word: &str, name: String) -> io::Result<FileCommand> {
     match word {
         "get" => Ok(FileCommand::Get(name)),
@@ -89,7 +89,7 @@ fn named(word: &str, name: String) -> io::Result<FileCommand> {
     }
 }
 
-/// Returns the command that renames a file: `OLD NEW`.
+/// Returns the command that renames a file. `rest` is `OLD NEW`.
 fn change(alloc: Global, rest: &str) -> io::Result<FileCommand> {
     let (old, new) = two(rest)?;
     let old = name(alloc, old)?;
@@ -97,7 +97,7 @@ fn change(alloc: Global, rest: &str) -> io::Result<FileCommand> {
     Ok(FileCommand::Change(old, new))
 }
 
-/// Returns the command of a line without content.
+/// Returns the command of a line that has no content for a file.
 fn plain(alloc: Global, line: Line<'_>) -> io::Result<FileCommand> {
     match line.word {
         "list" => Ok(FileCommand::List),
@@ -111,7 +111,7 @@ fn plain(alloc: Global, line: Line<'_>) -> io::Result<FileCommand> {
     }
 }
 
-/// Returns the command that puts a file, `NAME KIND CONTENT`, and the bytes of the file.
+/// Returns the command that puts a file, and the bytes of the file. `rest` is `NAME KIND CONTENT`.
 fn put(alloc: Global, rest: &str, program: &[u8]) -> io::Result<(FileCommand, Vec<u8>)> {
     let (file, rest) = two(rest)?;
     let (spelled, rest) = two(rest)?;
@@ -121,7 +121,7 @@ fn put(alloc: Global, rest: &str, program: &[u8]) -> io::Result<(FileCommand, Ve
     Ok((FileCommand::Put(name, kind, Vec::new(alloc)), bytes))
 }
 
-/// Returns the command that puts a text, `NAME CONTENT`, and the bytes of the text.
+/// Returns the command that puts a text, and the bytes of the text. `rest` is `NAME CONTENT`.
 fn put_text(alloc: Global, rest: &str, program: &[u8]) -> io::Result<(FileCommand, Vec<u8>)> {
     let (file, rest) = two(rest)?;
     let name = name(alloc, file)?;
@@ -129,7 +129,7 @@ fn put_text(alloc: Global, rest: &str, program: &[u8]) -> io::Result<(FileComman
     Ok((FileCommand::PutText(name, Vec::new(alloc)), bytes))
 }
 
-/// Returns the command of a line, and the input that replaces its file. The content `program` is the bytes `program`.
+/// Returns the command of a line, and the input of the command. The content `program` is the bytes `program`.
 pub fn command(
     alloc: Global,
     line: Line<'_>,
@@ -144,7 +144,7 @@ pub fn command(
     Ok((command, Vec::new(alloc)))
 }
 
-/// Returns the command `word` on the file of a slot: `N` or `N NEW`.
+/// Returns the command `word` on the file of a slot. `rest` is `N` or `N NEW`.
 fn on_slot(alloc: Global, word: &str, rest: &str) -> io::Result<FileCommand> {
     let (slot, new) = rest.split_once(' ').unwrap_or((rest, ""));
     let slot = test_parts::word(slot)?;

@@ -32,7 +32,7 @@ impl Ran {
         Ok(String::from_utf8_lossy(alloc, &self.written)?)
     }
 
-    /// Returns the image of the outcome, or an error if there is none.
+    /// Returns the image of the outcome. Returns an error if the outcome has no image.
     pub fn into_image(self) -> io::Result<Vec<u8>> {
         let Ran { outcome, .. } = self;
         let Outcome { image, .. } = outcome;

@@ -1,6 +1,6 @@
-//! A test program of CI. It replays cases whose answers were made without any part of this program. It prints for each
-//! file of data/ how many cases agree. For the first case that does not agree it prints the name, the expected answers
-//! and the actual ones.
+//! A test program of CI. It executes cases whose answers were computed without any part of this program. For each file
+//! of data/, it prints how many cases agree. For the first case that does not agree, it prints the name, the expected
+//! answers and the actual answers.
 #![tactic(auto)]
 
 mod bare;
@@ -22,7 +22,8 @@ use report::{Kind, replay};
 use std::{fs, io};
 use unseen::rows;
 
-/// The files and the kinds of their cases. The planted cases are wrong on purpose, except the first one of each file.
+/// The files and the kinds of their cases. The planted cases have wrong answers on purpose, except the first case of
+/// each file.
 const FILES: [(&str, Kind); 15] = [
     ("bare.cases", Kind::Bare),
     ("boots.cases", Kind::Boots),

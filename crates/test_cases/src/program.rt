@@ -1,4 +1,4 @@
-//! Programs on the volumes of a case: how they are started, and the jobs that run them.
+//! Programs on the volumes of a case: the arguments that start them, and the jobs that run them.
 use crate::case::{Came, Case, MOST_SHOWN};
 use crate::code_file::code_file;
 use crate::jobs::{Ran, do_job};
@@ -10,7 +10,7 @@ use test_parts::{
     add_escaped, byte, bytes_text, digest_text, hex_bytes, name, steps, unreadable, word,
 };
 
-/// The values if the case has none: the maximum number of steps, the blocks of the volume, and the kind of the file,
+/// The defaults of a case: the maximum number of steps, the number of blocks of the volume, and the kind of the file,
 /// which is code.
 const STEPS: u64 = 200;
 
@@ -18,20 +18,20 @@ const BLOCKS: u16 = 83;
 
 const CODE: u8 = 2;
 
-/// The units of the disks, in order.
+/// The numbers of the disk units, in order.
 pub const UNITS: [&str; 6] = ["4", "5", "9", "10", "11", "12"];
 
 /// The images of the disks in the order of `UNITS`.
 pub type Images = [Option<Vec<u8>>; 6];
 
-/// A program to start. The name of its file is that of the case, or `P`.
+/// A program that a job starts. The name of its file is the name that the case states, or `P`.
 #[derive(Drop)]
 pub struct Program {
     /// The image of unit 4, which contains the file.
     pub work: Vec<u8>,
     /// The maximum number of steps.
     pub limit: u64,
-    /// The file whose slot 0 is the system segment, if there is one.
+    /// The code file whose slot 0 is the system segment, or `None`.
     pub system: Option<Vec<u8>>,
 }
 
@@ -66,7 +66,7 @@ pub fn limit(case: &Case<'_>) -> io::Result<u64> {
     }
 }
 
-/// Returns the index in `UNITS` of a blank disk, and its image: `UNIT BLOCKS`.
+/// Returns the index in `UNITS` of a disk without files, and its image. `rest` is `UNIT BLOCKS`.
 fn blank_disk(alloc: Global, rest: &str) -> io::Result<(usize, Vec<u8>)> {
     let (unit, blocks) = rest.split_once(' ').ok_or_else(unreadable)?;
     let place = UNITS.iter().position(|known| *known == unit);
@@ -74,7 +74,7 @@ fn blank_disk(alloc: Global, rest: &str) -> io::Result<(usize, Vec<u8>)> {
     Ok((place, volume(alloc, "V", word(blocks)?)?))
 }
 
-/// Returns the disks of a case: a copy of the volume with the program on unit 4, and the blank disks.
+/// Returns the disks of a case: a copy of the volume with the program on unit 4, and the disks without files.
 pub fn disks(alloc: Global, case: &Case<'_>, work: &[u8]) -> io::Result<Images> {
     let mut disks = [Some(work.to_vec(alloc)?), None, None, None, None, None];
     for line in case.lines.iter() {
@@ -94,7 +94,7 @@ struct Start {
     system: Option<Vec<u8>>,
 }
 
-/// Returns the keys of a case.
+/// Returns the bytes that the case types on the console.
 fn keys(alloc: Global, case: &Case<'_>) -> io::Result<Vec<u8>> {
     hex_bytes(alloc, case.value("keys").unwrap_or(""))
 }
@@ -185,7 +185,7 @@ impl Program {
         Ok(do_job(alloc, job, &lines))
     }
 
-    /// Adds the digest of the trace and the answers of the debugger, each if the case contains it.
+    /// Adds the digest of the trace and the answers of the debugger to `came`, each only if the case contains it.
     pub fn add_shown(&self, alloc: Global, case: &Case<'_>, came: &mut Came) -> io::Result<()> {
         if case.has("trace") {
             let ran = self.trace(alloc, case, Selection::ALL)?;
@@ -207,7 +207,7 @@ impl Program {
     }
 }
 
-/// Adds an answer with bytes, if there are any.
+/// Adds an answer with `bytes`, if `bytes` is not empty.
 fn add_bytes(alloc: Global, word: &str, bytes: &[u8], came: &mut Came) -> io::Result<()> {
     if !bytes.is_empty() {
         let text = bytes_text(alloc, bytes, MOST_SHOWN)?;
@@ -216,14 +216,14 @@ fn add_bytes(alloc: Global, word: &str, bytes: &[u8], came: &mut Came) -> io::Re
     Ok(())
 }
 
-/// Adds the answers with the outcome of a run and with its output on the console and the printer.
+/// Adds the outcome of a run, and its output on the console and the printer, as answers to `came`.
 pub fn add_run(alloc: Global, ran: &Ran, came: &mut Came) -> io::Result<()> {
     came.answer("run", ran.outcome.text())?;
     add_bytes(alloc, "console", &ran.written, came)?;
     add_bytes(alloc, "printer", &ran.outcome.printer, came)
 }
 
-/// Adds an answer with an image that is to be saved, if it differs from the image before.
+/// Adds an answer with a saved image, if the image `behind` differs from the image `before`.
 pub fn add_image(
     alloc: Global,
     word: &str,

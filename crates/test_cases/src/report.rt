@@ -1,4 +1,4 @@
-//! The replay of a file: each case with its answers, and the report on a case that differs.
+//! The execution of the cases of a file, and the report on a case that differs.
 use crate::case::{Came, Case, Line};
 use crate::texts::{has_text, is_text};
 use crate::{bare, boots, conformance, session, shows, systems, texts};
@@ -29,8 +29,8 @@ impl Kind {
         }
     }
 
-    /// Whether a line of a case is input rather than an answer. Segments are answers for a text, and input for a code
-    /// file.
+    /// Returns whether a line of a case is input. Any other line is an answer. Segments are answers for a text, and
+    /// input for a code file.
     fn is_given(self, case: &Case<'_>, word: &str) -> bool {
         match self {
             Kind::Bare => matches!(word, "code" | "limit"),
@@ -94,7 +94,7 @@ fn expected(alloc: Global, kind: Kind, case: &Case<'_>) -> Result<String, AllocE
     Ok(text)
 }
 
-/// Returns the number of leading lines that are equal in two texts.
+/// Returns the number of lines at the beginning of both texts that are equal.
 fn alike(one: &str, other: &str) -> usize {
     let mut count: usize = 0;
     for (line, beside) in one.lines().zip(other.lines()) {
@@ -123,7 +123,7 @@ fn given_before<'a>(kind: Kind, case: &Case<'a>, answer: usize) -> &'a str {
     given
 }
 
-/// Adds up to `most` lines of a text, each after the label `what`.
+/// Appends up to `most` lines of `lines` to `text`, each after the label `what`.
 fn add_lines(
     text: &mut String,
     what: &str,
@@ -139,7 +139,7 @@ fn add_lines(
     Ok(())
 }
 
-/// Returns the report on a case that does not agree.
+/// Returns the report on a case that does not agree with its expected answers.
 fn told(
     alloc: Global,
     kind: Kind,
@@ -162,7 +162,7 @@ fn told(
     Ok(text)
 }
 
-/// Replays a case and counts it.
+/// Executes a case, and counts whether it agrees.
 fn add(report: &mut Report, alloc: Global, kind: Kind, case: &Case<'_>) -> io::Result<()> {
     let wanted = expected(alloc, kind, case)?;
     let came = match kind.answers(alloc, case) {
@@ -184,7 +184,7 @@ fn add(report: &mut Report, alloc: Global, kind: Kind, case: &Case<'_>) -> io::R
     Ok(())
 }
 
-/// Replays the cases of a file.
+/// Executes the cases of a file.
 pub fn replay(alloc: Global, text: &str, kind: Kind) -> io::Result<Report> {
     let mut report = Report::new(alloc);
     let mut case = Case::new(alloc, "", 0);

@@ -1,4 +1,4 @@
-//! Cases of images: a session of commands and changes on one image, which may contain any bytes.
+//! Cases of images: a session of commands and changes on one image, which can contain any bytes.
 use crate::case::{Came, Case, Line, MOST_SHOWN};
 use crate::code_file::damage;
 use crate::files::{command, two};
@@ -36,7 +36,7 @@ impl Session {
         }
     }
 
-    /// Adds the result of a command that changes the image.
+    /// Stores the image of `ran`, the result of a command that changes the image, and adds its answers.
     fn add(&mut self, ran: Ran) -> io::Result<()> {
         if ran.is_refused() {
             self.came.answer("<", ran.outcome.text())?;
@@ -54,7 +54,7 @@ impl Session {
         Ok(image)
     }
 
-    /// Adds the bytes of a file.
+    /// Adds the bytes of the file that `ran` wrote as an answer.
     fn add_file(&mut self, ran: &Ran) -> io::Result<()> {
         let bytes = ran.written.as_slice();
         let line = if ran.is_refused() {
@@ -72,8 +72,8 @@ impl Session {
         Ok(())
     }
 
-    /// Adds the output about the image, and the refusal if there is one. If there are more lines than `most`, it adds
-    /// their number and digest instead.
+    /// Adds the output about the image, and the refusal if the job was refused. If the output has more than `most`
+    /// lines, adds their number and digest instead.
     fn add_told(&mut self, ran: &Ran) -> io::Result<()> {
         let text = ran.text(self.alloc)?;
         let count = text.as_str().lines().count();
@@ -103,7 +103,7 @@ impl Session {
         }
     }
 
-    /// Makes a new volume.
+    /// Creates a new volume.
     fn make(&mut self, rest: &str) -> io::Result<()> {
         let (volume, blocks) = two(rest)?;
         let name = name(self.alloc, volume)?;
@@ -111,7 +111,7 @@ impl Session {
         self.add(do_job(self.alloc, Job::New { name, blocks }, b""))
     }
 
-    /// Adds the output of a salvage, and stores the salvaged volume.
+    /// Adds the output of `salvage`, and stores the salvaged volume.
     fn salvage(&mut self, image: Vec<u8>, second: bool) -> io::Result<()> {
         let ran = do_job(self.alloc, Job::Salvage { image, second }, b"");
         self.add_told(&ran)?;
@@ -122,7 +122,7 @@ impl Session {
         Ok(())
     }
 
-    /// Adds the bytes from an offset of the image on, as many as the line contains.
+    /// Adds bytes of the image from an offset on, as many as the line contains.
     fn add_place(&mut self, rest: &str) -> io::Result<()> {
         let (place, bytes) = two(rest)?;
         let count = match bytes.split_once(' ') {
@@ -149,7 +149,7 @@ impl Session {
         Ok(())
     }
 
-    /// Copies bytes of the image to another offset: `FROM N TO`.
+    /// Copies bytes of the image to another offset. `rest` is `FROM N TO`.
     fn copy(&mut self, rest: &str) -> io::Result<()> {
         let (from, rest) = two(rest)?;
         let (count, to) = two(rest)?;
@@ -160,7 +160,7 @@ impl Session {
         self.write(number(to)?, &part)
     }
 
-    /// Writes bytes: `PLACE BYTES`. The place is an offset.
+    /// Writes bytes to the image. `rest` is `PLACE BYTES`, where `PLACE` is an offset.
     fn put(&mut self, rest: &str) -> io::Result<()> {
         let (place, spelled) = two(rest)?;
         let place = number(place)?;
@@ -174,7 +174,7 @@ impl Session {
         Ok(())
     }
 
-    /// Executes one line. Lines that change the image without an answer come first.
+    /// Executes one line of the session. The function first handles lines that change the image without an answer.
     pub fn line(&mut self, line: Line<'_>) -> io::Result<()> {
         let rest = line.rest;
         match line.word {

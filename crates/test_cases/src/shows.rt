@@ -1,5 +1,5 @@
-//! Cases of the jobs that print: traces and the selection of their lines, texts and listings of code files and of
-//! source texts, and sessions of the debugger.
+//! Cases of jobs that print: traces and their selected lines, texts and listings of code files and of source texts, and
+//! sessions of the debugger.
 use crate::case::{Came, Case, Line};
 use crate::code_file::code_file;
 use crate::jobs::{Ran, do_job};
@@ -45,7 +45,7 @@ struct Words {
 }
 
 impl Words {
-    /// Reads an option without a value. Returns false if the option has a value.
+    /// Reads the option `word` if it has no value. Returns `false` if it has a value.
     fn takes(&mut self, word: &str) -> bool {
         match word {
             "--calls" => self.selection.calls = true,

@@ -1,5 +1,5 @@
-//! Cases of texts: the code file that the assembler makes of a text, and the text that the disassembler makes of a code
-//! file.
+//! Cases of texts: the code file that the assembler returns for a text, and the text that the disassembler returns for
+//! a code file.
 use crate::case::{Came, Case, Line};
 use crate::code_file::code_file;
 use crate::jobs::do_job;
@@ -8,12 +8,12 @@ use std::alloc::Global;
 use std::io;
 use test_parts::{add_escaped, measured, number};
 
-/// Whether a word begins a line of a text: `|`, `N*|` or `/`.
+/// Returns whether `word` begins a line of a text: `|`, `N*|` or `/`.
 pub fn is_text(word: &str) -> bool {
     word == "/" || word == "|" || word.ends_with("*|")
 }
 
-/// Whether a case is a text.
+/// Returns whether the case contains a text.
 pub fn has_text(case: &Case<'_>) -> bool {
     case.lines.first().is_some_and(|line| is_text(line.word))
 }
@@ -47,7 +47,7 @@ pub fn text(alloc: Global, case: &Case<'_>) -> io::Result<Vec<u8>> {
     Ok(text)
 }
 
-/// Returns the word at an offset in bytes, or 0 after the end.
+/// Returns the word at the offset `place` in bytes, or 0 after the end.
 fn word_at(bytes: &[u8], place: usize) -> u16 {
     match bytes.get(place..) {
         Some([low, high, ..]) => u16::from(*low) + 256 * u16::from(*high),
@@ -55,7 +55,7 @@ fn word_at(bytes: &[u8], place: usize) -> u16 {
     }
 }
 
-/// Adds the short segments of a code file.
+/// Adds the segments of a code file that are short enough to be shown, as answers to `came`.
 fn add_segments(alloc: Global, file: &[u8], came: &mut Came) -> io::Result<()> {
     for slot in 0..16 {
         let first = 512 * usize::from(word_at(file, 4 * slot));
@@ -79,7 +79,7 @@ fn add_measured(alloc: Global, word: &str, bytes: &[u8], came: &mut Came) -> io:
     Ok(())
 }
 
-/// Adds the output of the disassembler for a code file. It adds the lines if the case contains lines.
+/// Adds the output of the disassembler for a code file. The lines are added if the case contains lines.
 fn add_shown(alloc: Global, case: &Case<'_>, file: &[u8], came: &mut Came) -> io::Result<()> {
     let ran = do_job(alloc, Job::Dis(DisOutput::Text), file);
     if ran.is_refused() {

@@ -1,4 +1,4 @@
-//! Behavior that no job shows, so that no case can check it.
+//! Behavior that no job shows, so that no case can test it.
 ghost use Rattle.std.specs.Prelude.{◌≡◌, ◌++◌, ◌∷◌, [], OnOk};
 
 use pm_codefile::CodeFile;
@@ -7,12 +7,13 @@ use pm_words::ExecError;
 use std::alloc::{AllocError, Global};
 use std::io;
 
-/// XIT, which ends the program, and a division by 0, which halts the machine.
+/// Raw p-code: XIT, which ends the program, and a division by 0, which halts the machine.
 const ENDS: &[u8] = &[0xd6];
 
 const HALTS: &[u8] = &[0x00, 0x86];
 
-/// Presses a key. It is added to the end of the console input in any status, and nothing else of the state changes.
+/// Appends `byte` to the console input queue of `machine`, which can have any status. Nothing else of the state
+/// changes.
 fn key_waits(machine: &mut Machine, byte: u8) -> Result<(), AllocError>
     ensures waits { OnOk result (machine.new.state ≡ record machine.old.state {
       devices =
@@ -22,7 +23,7 @@ fn key_waits(machine: &mut Machine, byte: u8) -> Result<(), AllocError>
     machine.key(byte)
 }
 
-/// Returns the status of a machine with this code after at most two steps and a key.
+/// Returns the status of a machine with the raw p-code `code` after at most two steps and a key.
 fn status_with_key(alloc: Global, code: &[u8]) -> io::Result<Option<Status>> {
     let Ok(mut machine) = Machine::raw(alloc, code) else {
         return Ok(None);
@@ -32,7 +33,8 @@ fn status_with_key(alloc: Global, code: &[u8]) -> io::Result<Option<Status>> {
     Ok(Some(machine.status()))
 }
 
-/// Returns the kind of slot 1 of a file of empty slots whose byte 194 is 5. The kinds are words from offset 192 on.
+/// Returns the kind of slot 1 of a code file with empty slots, whose byte 194 is 5. The kinds are words from offset 192
+/// on.
 fn kind_of_slot(alloc: Global) -> io::Result<Option<u16>> {
     let mut file = vec![in alloc; 0; 512]?;
     file[194] = 5;

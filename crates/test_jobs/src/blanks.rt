@@ -1,4 +1,4 @@
-//! A reader of space characters.
+//! A reader that returns space characters.
 use std::io;
 use std::io::Read;
 

@@ -1,11 +1,11 @@
-//! The largest input of a job.
+//! Tests of the largest input of a job.
 use crate::blanks::Blanks;
 use crate::streams::raw;
 use pm_tool::{Reader, Writer, run};
 use std::alloc::Global;
 use std::process::Abort;
 
-/// Runs raw p-code whose source text is `count` space characters, with a limit of 0 steps.
+/// Asserts the result of a job with raw p-code whose text is `count` space characters, with a limit of 0 steps.
 fn reads_blanks(rt: &impl Abort, alloc: Global, count: usize, told: (u8, &str, &str)) {
     let (status, message, text) = told;
     let mut written = Vec::new(alloc);
@@ -17,7 +17,7 @@ fn reads_blanks(rt: &impl Abort, alloc: Global, count: usize, told: (u8, &str, &
     assert_eq!(rt; written.as_slice(), text.as_bytes());
 }
 
-/// An input of 16,777,216 bytes is read. One byte more is a read fault.
+/// Tests that an input of 16,777,216 bytes is read, and that one byte more is a read fault.
 #[test]
 fn input(rt: HostRuntime) {
     reads_blanks(&rt, rt.alloc(), 16_777_216, (6, "", "limit 0\n"));

@@ -1,5 +1,5 @@
-//! Each call of a stream fails in turn, once. The job then stops, has written exactly what it wrote before that call,
-//! and calls no stream again. A helper that runs out of memory ends the test.
+//! Tests in which each call of a stream fails in turn, once. The job must then stop and call no stream again. Its
+//! output must be exactly the output before the failing call. If a helper runs out of memory, it ends the test.
 ghost use Rattle.std.specs.Prelude.{◌≡◌, length, sum};
 
 use crate::recorder::{Call, Kind, Manner, Recorded, recorded_run};
@@ -10,7 +10,7 @@ use std::alloc::Global;
 use std::process::Abort;
 use test_parts::programs::{ADDITION, ADDITION_TRACE, ECHO, EXITS, LETTERS};
 
-/// The trace of the program that leaves a segment by EXIT from another one.
+/// The trace of the program in which a segment is left by EXIT from another segment.
 const EXITS_TRACE: &str = "\
 00000000 65456 65442 65444 65444 01024 65492 CLP 2
 00000001 65470 65430 65430 65444 01024 65444 CXP 2, 1
@@ -51,7 +51,7 @@ ok
 refused 2
 ";
 
-/// A job under test.
+/// A job that the tests execute.
 #[derive(Clone, Copy)]
 pub(crate) enum Tried {
     Addition,
@@ -62,7 +62,7 @@ pub(crate) enum Tried {
     Session,
 }
 
-/// Returns the image of a volume whose code file `P` has segments 1 and 2 of these lengths in bytes.
+/// Returns the image of a volume with a code file `P`, whose segments 1 and 2 have the lengths `lengths` in bytes.
 pub(crate) fn image(rt: &impl Abort, alloc: Global, lengths: [u16; 2], segments: &[u8]) -> Vec<u8>
     requires joined { sum lengths ≡ length segments.now }
 {
@@ -127,7 +127,7 @@ impl Tried {
         }
     }
 
-    /// Returns the message and the output of the job if no call fails. Its status is then 0.
+    /// Returns the message and the output that the job has if no call fails. Its status is then 0.
     fn told(self) -> (&'static str, &'static str) {
         match self {
             Tried::Addition => ("", ADDITION_TRACE),
@@ -170,7 +170,7 @@ impl Recorded {
         assert!(rt; self.outcome.printer.is_empty());
     }
 
-    /// Asserts that call `number` failed and that no stream was called after it.
+    /// Asserts that the call `number` failed and that no stream was called after it.
     fn is_broken_off(&self, rt: &impl Abort, good: &Recorded, number: usize, call: Call) {
         match call.kind {
             Kind::Read => self.is(rt, 4, "read fault", (true, false)),
@@ -182,7 +182,7 @@ impl Recorded {
     }
 }
 
-/// Asserts that the job makes `calls` calls if none fails, and that it stops at each of them that fails.
+/// Asserts that the job executes `calls` calls if none fails, and that it stops at each call that fails.
 fn each_fails(
     rt: &impl Abort,
     alloc: Global,
@@ -208,28 +208,29 @@ fn each_fails(
     }
 }
 
-/// The input is read to its end before the trace is written.
+/// Tests that the input is read to its end before the trace is written.
 #[test]
 fn addition(rt: HostRuntime) {
     each_fails(&rt, rt.alloc(), Tried::Addition, (1, true), 13 + 210);
     each_fails(&rt, rt.alloc(), Tried::Addition, (usize::MAX, false), 2 + 1);
 }
 
-/// No input is read.
+/// Tests a program that reads no input.
 #[test]
 fn letters(rt: HostRuntime) {
     each_fails(&rt, rt.alloc(), Tried::Letters, (1, false), 2);
     each_fails(&rt, rt.alloc(), Tried::Letters, (usize::MAX, true), 1);
 }
 
-/// Three bytes are read, and each is written to the console.
+/// Tests a program that reads three bytes, each of which is written to the console.
 #[test]
 fn echo(rt: HostRuntime) {
     each_fails(&rt, rt.alloc(), Tried::Echo, (1, false), 3 + 3);
     each_fails(&rt, rt.alloc(), Tried::Echo, (usize::MAX, true), 3 + 3);
 }
 
-/// A run without output calls no stream. Its trace is one page, and one write moves at most 16 bytes or the whole page.
+/// Tests a run without output, which calls no stream. Its trace is one page, and one write moves at most 16 bytes or
+/// the whole page.
 #[test]
 fn exits(rt: HostRuntime) {
     each_fails(&rt, rt.alloc(), Tried::Exits, (usize::MAX, false), 0);
@@ -237,7 +238,7 @@ fn exits(rt: HostRuntime) {
     each_fails(&rt, rt.alloc(), Tried::ExitsTraced, (usize::MAX, false), 1);
 }
 
-/// Each byte of the commands is read by a call of its own. Each answer is written by one call, or in parts of 16 bytes.
+/// Tests a session. One call reads one byte of the commands. One call writes a whole answer, or 16 bytes of it.
 #[test]
 fn session(rt: HostRuntime) {
     each_fails(&rt, rt.alloc(), Tried::Session, (16, true), 98 + 11);

@@ -1,11 +1,12 @@
-//! Streams that fail at each of their calls in turn.
+//! Tests of streams that fail at each of their calls in turn.
 use crate::streams::{Full, ShortReader, ShortWriter, raw};
 use pm_tool::{Outcome, Reader, Sink, Source, Writer, run};
 use std::alloc::Global;
 use std::process::Abort;
 use test_parts::programs::{ADDITION, ADDITION_TRACE};
 
-/// The result of a run of the addition: its outcome, whether its input and its output failed, and what it wrote.
+/// The result of a run of the addition: its outcome, whether its input and its output failed, and the bytes that it
+/// wrote.
 #[derive(Drop)]
 struct Ran {
     outcome: Outcome,
@@ -63,7 +64,7 @@ fn fails_to_read(rt: &impl Abort, alloc: Global, good: usize) {
     ran.has_written(rt, b"");
 }
 
-/// One read is made for each byte of the input, and one finds its end.
+/// Tests a failure at each read: one read for each byte of the input, and one read that finds the end.
 #[test]
 fn each_read_fails(rt: HostRuntime) {
     for good in 0..=ADDITION.len() {
@@ -84,7 +85,7 @@ fn fails_to_write(rt: &impl Abort, alloc: Global, good: usize, full: Full) {
     ran.has_written(rt, ADDITION_TRACE.as_bytes().get(..good).unwrap_or(&[]));
 }
 
-/// One write is made for each byte of the trace.
+/// Tests a failure at each write: one write for each byte of the trace.
 #[test]
 fn each_write_fails(rt: HostRuntime) {
     for good in 0..ADDITION_TRACE.len() {

@@ -1,4 +1,4 @@
-//! Runs jobs over streams in memory, and asserts their results.
+//! Functions that run jobs with streams in memory, and assert their results.
 use pm_tool::{Job, Outcome, Reader, Writer, run};
 use std::alloc::Global;
 use std::process::Abort;
@@ -11,7 +11,7 @@ pub(crate) struct Ran {
     pub(crate) left: usize,
 }
 
-/// Runs a job on these input bytes.
+/// Runs `job` with the input bytes `input`.
 pub(crate) fn job_run(alloc: Global, job: Job, input: &[u8]) -> Ran {
     let mut written = Vec::new(alloc);
     let mut rest = input;
@@ -60,7 +60,7 @@ impl Ran {
     }
 }
 
-/// Asserts that the job has this result.
+/// Asserts that `job` with the input `input` has the result `told`.
 pub(crate) fn tells(rt: &impl Abort, alloc: Global, job: Job, input: &[u8], told: Told<'_>) {
     job_run(alloc, job, input).is(rt, told);
 }

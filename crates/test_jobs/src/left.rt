@@ -1,5 +1,5 @@
-//! How much of its input each kind of job leaves unread. A helper that runs out of memory ends the test, so that no
-//! body returns early with `?`: proofs of such returns are expensive while images are dropped.
+//! Tests of how much of its input each kind of job leaves unread. If a helper runs out of memory, it ends the test. No
+//! test returns early with `?`, because proofs of such returns are expensive while images are dropped.
 ghost use Rattle.std.specs.Prelude.{◌≡◌, length, sum};
 
 use crate::jobs::{Told, job_run, tells};
@@ -14,7 +14,7 @@ fn text(rt: &impl Abort, alloc: Global, text: &str) -> String {
     String::from_str(alloc, text).expect(rt, "memory")
 }
 
-/// Digits, source texts and code files are read to their end, even if they are refused.
+/// Tests that digits, source texts and code files are read to their end, even if they are refused.
 #[test]
 fn of_bytes_and_texts(rt: HostRuntime) {
     let alloc = rt.alloc();
@@ -52,7 +52,7 @@ fn new_image(rt: &impl Abort, alloc: Global) -> Vec<u8> {
     ran.into_image().expect(rt, "an image")
 }
 
-/// Asserts the result of a command on a new volume.
+/// Asserts the result of `command` on a new volume.
 fn answers(rt: &impl Abort, alloc: Global, command: FileCommand, told: Told<'_>) {
     let image = new_image(rt, alloc);
     tells(rt, alloc, Job::Files { image, command }, b"xyz", told);
@@ -62,8 +62,8 @@ fn put(rt: &impl Abort, alloc: Global, name: &str) -> FileCommand {
     FileCommand::Put(text(rt, alloc, name), 5, Vec::new(alloc))
 }
 
-/// A command without input reads none of it, and a command with input reads all of it. If the image is not a volume, it
-/// is refused before any input is read.
+/// Tests that a command without input reads none of it, and that a command with input reads all of it. If the image is
+/// not a volume, the command is refused before any input is read.
 #[test]
 fn of_commands_on_volumes(rt: HostRuntime) {
     let alloc = rt.alloc();
@@ -98,7 +98,8 @@ fn of_commands_on_volumes(rt: HostRuntime) {
     tells(&rt, alloc, job, b"xyz", (2, "refused volume 10", "", 3));
 }
 
-/// Returns the disks of a job. Unit 4 is a volume with a code file `P` of this kind and one segment.
+/// Returns the disks of a job. Unit 4 has a volume with a code file `P` of the kind `kind` and one segment of `bytes`
+/// bytes.
 fn disks(
     rt: &impl Abort,
     alloc: Global,
@@ -116,7 +117,7 @@ fn disks(
     [image, None, None, None, None, None]
 }
 
-/// Returns the job that runs the program `P` on these disks.
+/// Returns the job that runs the program `P` on `disks`.
 fn run_job(rt: &impl Abort, alloc: Global, disks: [Option<Vec<u8>>; 6], saving: Saving) -> Job {
     let name = text(rt, alloc, "P");
     Job::Run {
@@ -128,7 +129,7 @@ fn run_job(rt: &impl Abort, alloc: Global, disks: [Option<Vec<u8>>; 6], saving: 
     }
 }
 
-/// Asserts the result of a program of one segment.
+/// Asserts the result of a program that has the one segment `segment`.
 fn runs(rt: &impl Abort, alloc: Global, bytes: u16, segment: &[u8], input: &[u8], told: Told<'_>)
     requires joined { bytes ≡ length segment.now }
 {
@@ -142,7 +143,7 @@ fn runs(rt: &impl Abort, alloc: Global, bytes: u16, segment: &[u8], input: &[u8]
     );
 }
 
-/// A job reads exactly the input bytes that its program reads.
+/// Tests that a job reads exactly the input bytes that its program reads.
 #[test]
 fn of_programs(rt: HostRuntime) {
     let alloc = rt.alloc();
@@ -151,7 +152,8 @@ fn of_programs(rt: HostRuntime) {
     runs(&rt, alloc, 38, &ECHO, b"ab", (6, "waiting 32", "ab", 0));
 }
 
-/// If the program does not start, no byte is read and no image is saved. Here the file has kind 5, or no disk exists.
+/// Tests that a job reads no byte and saves no image if its program does not start. Here the file has kind 5, or no
+/// disk exists.
 #[test]
 fn of_no_program(rt: HostRuntime) {
     let alloc = rt.alloc();
@@ -163,7 +165,7 @@ fn of_no_program(rt: HostRuntime) {
     tells(&rt, alloc, job, b"xyz", (2, "refused boot 1", "", 3));
 }
 
-/// A session reads no byte after the line feed of `quit`.
+/// Tests that a session reads no byte after the line feed of `quit`.
 #[test]
 fn of_sessions(rt: HostRuntime) {
     let alloc = rt.alloc();

@@ -1,6 +1,6 @@
-//! Tests of jobs, for facts that no command line and no clause shows:
+//! Tests of jobs, for facts that no command line and no contract shows:
 //!
-//! - streams of which one call fails;
+//! - the result if one call of a stream fails;
 //! - when output is written;
 //! - how much of its input a job reads;
 //! - the largest input.

@@ -1,13 +1,13 @@
-//! Runs and traces use the fast execution path.
+//! Tests that runs and traces use the fast execution path.
 use pm_machine::{BootFault, Machine};
 use pm_tool::{Ending, Pace, Quick, Reader, Saving, Selection, Show, Writer, drive};
 use std::alloc::Global;
 use std::process::Abort;
 
-/// An endless loop without output.
+/// Raw p-code of an endless loop without output.
 const WHILE: [u8; 10] = [0x01, 0x02, 0x82, 0xAB, 0x01, 0x00, 0xA1, 0xFE, 0x08, 0x00];
 
-/// The machine's fast execution path, which counts its calls (`asked`) and its steps (`made`).
+/// The machine's fast execution path, with counts of its calls (`asked`) and of its steps (`made`).
 #[derive(Drop)]
 struct Counting {
     asked: u64,
@@ -51,21 +51,21 @@ fn makes(
     Ok(())
 }
 
-/// A run executes its first step by itself, to see what it adds to the console output. It executes all others by one
-/// call of the fast path.
+/// Tests that a run executes its first step separately, to see the console output that the step adds. One call of the
+/// fast path executes all other steps.
 #[test]
 fn runs_go_quickly(rt: HostRuntime) -> Result<(), BootFault> {
     let saving = Saving::Nothing;
     makes(&rt, rt.alloc(), Show::Console { saving }, 1, 999)
 }
 
-/// A trace calls the fast path once for each step.
+/// Tests that a trace calls the fast path once for each step.
 #[test]
 fn traces_go_quickly(rt: HostRuntime) -> Result<(), BootFault> {
     makes(&rt, rt.alloc(), Show::Trace(Selection::ALL), 1000, 1000)
 }
 
-/// `Quick` uses the machine's fast path.
+/// Tests that `Quick` uses the machine's fast path.
 #[test]
 fn quick_is_quick(rt: HostRuntime) -> Result<(), BootFault> {
     let mut machine = Machine::raw(rt.alloc(), &WHILE)?;

@@ -1,4 +1,4 @@
-//! A source and a sink that record each call. At most one of these calls fails.
+//! A source and a sink that record their calls. At most one of the calls fails.
 ghost use Rattle.std.specs.Io.{ReadsAtMost, WritesAtMost};
 
 use pm_tool::{Job, Outcome, Reader, Sink, Source, Writer, run};
@@ -12,7 +12,7 @@ use std::io::{ErrorKind, Read, Write};
 pub enum Kind {
     /// A read.
     Read,
-    /// A write that was offered this number of bytes.
+    /// A write that was passed this number of bytes.
     Write(usize),
 }
 
@@ -25,12 +25,12 @@ pub struct Call {
     pub before: usize,
 }
 
-/// How the streams respond to calls.
+/// How the streams respond to calls. A stream *moves* the bytes that one call reads or writes.
 #[derive(Clone, Copy)]
 pub struct Manner {
-    /// The most bytes that one call moves.
+    /// The maximum number of bytes that one call moves.
     pub most: usize,
-    /// The number of the call that fails, counted from 0 over source and sink. Calls after it succeed.
+    /// The number of the call that fails, counted from 0 over the calls of source and sink. Calls after it succeed.
     pub fails_at: Option<usize>,
     /// Whether the failing write accepts no byte. Otherwise it returns an error, as a failing read does.
     pub takes_nothing: bool,
@@ -49,7 +49,7 @@ fn failure() -> io::Error {
 }
 
 impl Record {
-    /// Records a call. Returns whether it is the one that fails.
+    /// Records a call. Returns whether this call fails.
     fn fails(&mut self, kind: Kind) -> io::Result<bool> {
         let number = self.calls.len();
         let before = self.written.len();
@@ -57,7 +57,7 @@ impl Record {
         Ok(self.manner.fails_at == Some(number))
     }
 
-    /// Copies bytes from the start of `rest` to the start of `buf`. Returns their number.
+    /// Reads: copies bytes from the start of `rest` to the start of `buf`, and returns their number.
     fn give(&mut self, rest: &[u8], buf: &mut [u8]) -> io::Result<usize>
         ensures bound { ReadsAtMost result buf.new }
     {
@@ -69,7 +69,7 @@ impl Record {
         Ok(count)
     }
 
-    /// Writes bytes from the start of `buf`. Returns their number.
+    /// Writes bytes from the start of `buf`, and returns their number.
     fn take(&mut self, buf: &[u8]) -> io::Result<usize>
         ensures bound { WritesAtMost result buf.now }
     {
@@ -136,7 +136,7 @@ pub struct Recorded {
     pub written: Vec<u8>,
 }
 
-/// Runs a job on these input bytes, and records the calls of its streams.
+/// Runs `job` with the input bytes `input`, and records the calls of its streams.
 pub fn recorded_run(alloc: Global, job: Job, input: &[u8], manner: Manner) -> Recorded {
     let kept = RefCell::new(Record {
         manner,

@@ -1,11 +1,11 @@
-//! Debugger sessions over streams that fail at each of their calls in turn.
+//! Tests of debugger sessions with streams that fail at each of their calls in turn.
 use crate::broken::{ANSWERS, COMMANDS, Tried};
 use crate::streams::{Full, ShortReader, ShortWriter};
 use pm_tool::{Reader, Writer, run};
 use std::alloc::Global;
 use std::process::Abort;
 
-/// Asserts the result of a session whose read fails after `good` reads.
+/// Asserts the result of a session in which the read after `good` reads fails.
 fn read_fails(rt: &impl Abort, alloc: Global, good: usize) {
     let job = Tried::Session.job(rt, alloc, &Tried::Session.image(rt, alloc));
     let mut written = Vec::new(alloc);
@@ -20,7 +20,7 @@ fn read_fails(rt: &impl Abort, alloc: Global, good: usize) {
     assert!(rt; ANSWERS.as_bytes().starts_with(&written));
 }
 
-/// One read is made for each byte up to the line feed of `quit`, and no other.
+/// Tests a failure at each read. A session reads one byte at a time, up to the line feed of `quit`.
 #[test]
 fn each_read_fails(rt: HostRuntime) {
     for good in 0..COMMANDS.len() {
@@ -28,7 +28,7 @@ fn each_read_fails(rt: HostRuntime) {
     }
 }
 
-/// Asserts the result of a session whose write fails after `good` bytes.
+/// Asserts the result of a session in which the write after `good` bytes fails.
 fn write_fails(rt: &impl Abort, alloc: Global, good: usize, full: Full) {
     let job = Tried::Session.job(rt, alloc, &Tried::Session.image(rt, alloc));
     let mut written = ShortWriter {

@@ -3,7 +3,8 @@ use pm_tool::{Job, Selection};
 use std::io;
 use std::io::{ErrorKind, Read, Write};
 
-/// Returns its bytes one at a time. The read after the first `good` reads fails, and later reads succeed.
+/// A reader of `bytes` that returns one byte at a time. The read after the first `good` reads fails, and later reads
+/// succeed.
 #[derive(Drop)]
 pub(crate) struct ShortReader<'a> {
     pub(crate) bytes: &'a [u8],
@@ -29,14 +30,15 @@ impl Read for ShortReader<'_> {
     }
 }
 
-/// How the failing write of a writer fails.
+/// How the failing write of a writer fails: with an error, or by accepting no byte.
 #[derive(Clone, Copy)]
 pub(crate) enum Full {
     Errs,
     TakesNothing,
 }
 
-/// Accepts one byte at each write. The write after the first `good` writes accepts none, and later writes succeed.
+/// A writer that accepts one byte at each write. The write after the first `good` writes fails, and later writes
+/// succeed.
 #[derive(Drop)]
 pub(crate) struct ShortWriter {
     pub(crate) bytes: Vec<u8>,

@@ -1,4 +1,4 @@
-//! When output is written. No clause can state it, because a sink has no information about steps.
+//! Tests of when output is written. No contract can state this, because a sink has no information about steps.
 use crate::broken::{COMMANDS, Tried, image};
 use crate::recorder::{Call, Kind, Manner, Recorded, recorded_run};
 use crate::streams::raw;
@@ -6,21 +6,21 @@ use pm_tool::{Job, Saving};
 use std::alloc::Global;
 use std::process::Abort;
 
-/// Each call moves all bytes that it can, and none fails.
+/// Streams on which no call fails, and each call moves as many bytes as possible.
 const WELL: Manner = Manner {
     most: usize::MAX,
     fails_at: None,
     takes_nothing: false,
 };
 
-/// Writes A to the console and then B, in seven steps each.
+/// Code that writes A to the console and then B, in seven steps each.
 const FIRST: [u8; 20] = [
     0x01, 0xD0, 0x01, 0x41, 0x00, 0x01, 0x00, 0x00, 0x9E, 0x06, // B
     0x01, 0xD0, 0x01, 0x42, 0x00, 0x01, 0x00, 0x00, 0x9E, 0x06,
 ];
 
-/// Writes C, reads a byte of unit 2, which does not echo it, and ends. The attribute table and the dictionary of a
-/// segment of 556 bytes follow the code.
+/// Code that writes C, reads a byte of unit 2, which does not echo the byte, and ends. The attribute table and the
+/// dictionary of a segment of 556 bytes follow the code.
 const LAST: [u8; 36] = [
     0x01, 0xD0, 0x01, 0x43, 0x00, 0x01, 0x00, 0x00, 0x9E, 0x06, // the read
     0x02, 0xC7, 0xD0, 0x07, 0x00, 0x01, 0x00, 0x00, 0x9E, 0x05, 0xC1, 0x00, 0x00, 0x00, 0x00, 0x00,
@@ -43,7 +43,7 @@ fn three_letters(rt: &impl Abort, alloc: Global) -> Job {
     }
 }
 
-/// A letter is written during the step that outputs it, before the next letter and before any read.
+/// Tests that a letter is written during the step that outputs it, before the next letter and before any read.
 #[test]
 fn letters_are_written_at_once(rt: HostRuntime) {
     let ran = recorded_run(rt.alloc(), three_letters(&rt, rt.alloc()), b"x", WELL);
@@ -68,7 +68,7 @@ const LINE: usize = 52;
 /// The number of bytes at which a page is full.
 const PAGE: usize = 65_536;
 
-/// Asserts that a write has at least a page and less than a page and a line.
+/// Asserts that a write has at least a page, and less than a page and a line.
 fn is_page(rt: &impl Abort, call: &Call) {
     let Kind::Write(offered) = call.kind else {
         assert!(rt; call.before == 0, "a read behind a write");
@@ -80,7 +80,7 @@ fn is_page(rt: &impl Abort, call: &Call) {
     );
 }
 
-/// 3,000 steps are two pages of 1,261 lines, and a rest that includes the last line.
+/// Tests that the trace of 3,000 steps is written as two pages of 1,261 lines, and a rest that includes the last line.
 #[test]
 fn traces_are_written_in_pages(rt: HostRuntime) {
     let ran = recorded_run(rt.alloc(), raw(3000), b"B9 FE 02 00", WELL);
@@ -98,7 +98,7 @@ fn traces_are_written_in_pages(rt: HostRuntime) {
     }
 }
 
-/// Returns the number of line feeds in these bytes.
+/// Returns the number of line feeds in `bytes`.
 fn lines(bytes: Option<&[u8]>) -> Option<usize> {
     Some(bytes?.iter().filter(|byte| **byte == b'\n').count())
 }

@@ -1,4 +1,4 @@
-//! Pseudo-random code.
+//! Pseudo-random bytes that tests execute as code.
 ghost use Rattle.std.specs.Prelude.{◌≡◌, ◌%◌, ◌*◌, ◌+◌};
 
 /// Returns the pseudo-random number that follows `number`.
@@ -8,7 +8,7 @@ fn next(number: u16) -> u16
     number.wrapping_mul(25173).wrapping_add(13849)
 }
 
-/// Returns 64 pseudo-random bytes, the high bytes of the numbers that follow `seed`.
+/// Returns 64 pseudo-random bytes: the high bytes of the 64 pseudo-random numbers that follow `seed`.
 pub fn generated(seed: u16) -> [u8; 64] {
     let mut number = seed;
     let mut bytes = [0; 64];

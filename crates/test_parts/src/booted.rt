@@ -6,8 +6,8 @@ use pm_volume::Volume;
 use std::alloc::Global;
 use std::test::Fail;
 
-/// Returns a volume with a code file `P` of this kind. Its slots 1, 2 and 3 have these lengths in bytes, and `segments`
-/// has their code.
+/// Returns a volume with a code file `P` of the kind `kind`. Its slots 1, 2 and 3 have the lengths `lengths` in bytes,
+/// and `segments` is their code, joined.
 pub fn volume(alloc: Global, kind: u8, lengths: [u16; 3], segments: &[u8]) -> Result<Volume, Fail>
     requires joined { sum lengths ≡ length segments.now }
 {

@@ -1,4 +1,4 @@
-//! Writes and reads a code file, and disassembles one procedure of a segment.
+//! Tests that write and read a code file, and disassemble one procedure of a segment.
 use crate::one_segment::{NO_NAME, SEGMENT, example};
 use crate::programs::SEGMENTS;
 use pm_codefile::{Attributes, CodeFile, Slot, attributes, procedures};
@@ -37,7 +37,7 @@ fn written_file_is_read(rt: HostRuntime) -> Result<(), Fail> {
     Ok(())
 }
 
-/// Whether the bytes `wanted` are at offset `place` of `bytes`.
+/// Returns whether the bytes `wanted` are at the offset `place` of `bytes`.
 fn has(bytes: &[u8], place: usize, wanted: &[u8]) -> bool {
     match bytes.get(place..) {
         Some(rest) => rest.starts_with(wanted),
@@ -45,9 +45,9 @@ fn has(bytes: &[u8], place: usize, wanted: &[u8]) -> bool {
     }
 }
 
-/// Sixteen segments of 65,534 bytes, the greatest length that a slot can have. Their bytes are 1 in slots 0 to 7, and 2
-/// in the others. Each segment takes 128 blocks, with two zeros at the end. The segment of slot n begins at block 1 +
-/// 128 n.
+/// Tests a file of sixteen segments of 65,534 bytes, the greatest length that a slot can have. Their bytes are 1 in
+/// slots 0 to 7, and 2 in the other slots. Each segment occupies 128 blocks, with two zeros at the end. The segment of
+/// slot n begins at block 1 + 128 n.
 #[test]
 fn largest_file_is_written(rt: HostRuntime) -> Result<(), Fail> {
     let mut segments = vec![in rt.alloc(); 1; 524_272]?;
@@ -70,7 +70,7 @@ fn largest_file_is_written(rt: HostRuntime) -> Result<(), Fail> {
     Ok(())
 }
 
-/// Disassembles only one procedure of a segment.
+/// Tests the disassembly of only one procedure of a segment.
 #[test]
 fn one_procedure(rt: HostRuntime) -> Result<(), Fail> {
     let alloc = rt.alloc();

@@ -1,6 +1,6 @@
-//! Raw p-code, segments, and trace lines.
+//! Raw p-code, segments, and trace lines that several tests use.
 
-/// Adds two to three.
+/// Raw p-code that adds 2 to 3.
 pub const SUM: [u8; 4] = [0x02, 0x03, 0x82, 0xD6];
 
 /// The trace lines of `SUM`.
@@ -11,26 +11,26 @@ pub const SUM_LINES: [&str; 4] = [
     "00000003 01027 65490 65492 65492 01028 00005 XIT",
 ];
 
-/// Segment 1 keeps segment 2, calls it twice, and releases it.
+/// Two segments, of which segment 1 keeps segment 2, calls it twice, and releases it.
 pub const KEEPS: [u8; 44] = [
     0x02, 0x9E, 0x15, 0xCD, 0x02, 0x01, 0xCD, 0x02, 0x01, 0x02, 0x9E, 0x16, 0xC1, 0x00, 0x00, 0x00,
     0x00, 0x00, 0x06, 0x00, 0x14, 0x00, 0x01, 0x00, 0x02, 0x00, 0x01, 0x01, // segment 2
     0xC1, 0x00, 0x04, 0x00, 0x00, 0x00, 0x06, 0x00, 0x08, 0x00, 0x01, 0x00, 0x02, 0x00, 0x02, 0x01,
 ];
 
-/// Two procedures, each with an attribute table after its code. Number 1 of level 1 calls number 2 of level 2 twice.
-/// The code ends with the dictionary word of number 1, at address 1,056. The highest word of the segment follows at
-/// 1,058, and the test pokes it.
+/// A segment of two procedures, each with an attribute table after its code. Procedure 1 has level 1 and calls
+/// procedure 2, which has level 2, twice. The code ends with the dictionary word of procedure 1, at address 1,056. The
+/// highest word of the segment follows at 1,058, and the test writes it by a poke.
 pub const CALLS: [u8; 34] = [
     0xCE, 0x01, 0xCE, 0x02, 0xCE, 0x02, 0xAD, 0x00, 0x00, 0x00, 0x00, 0x00, 0x06, 0x00, 0x0C, 0x00,
     0x01, 0x01, 0xAD, 0x00, 0x00, 0x00, 0x00, 0x00, 0x06, 0x00, 0x08, 0x00, 0x02, 0x02, 0x02, 0x00,
     0x10, 0x00,
 ];
 
-/// The address and value of the highest word of the segment: segment number 1, and two procedures.
+/// The address and the value of the highest word of `CALLS`: segment number 1, and two procedures.
 pub const TOP: (u16, u16) = (1058, 513);
 
-/// Loads a variable by a static link, overwrites the link, and loads again.
+/// Raw p-code that loads a variable through a static link, overwrites the link, and loads the variable again.
 pub const STORED_LINK: [u8; 14] = [
     0xB6, 0x01, 0x01, 0xC7, 0xD4, 0xFF, 0xC7, 0xB8, 0x0B, 0x9A, 0xB6, 0x01, 0x01, 0xD6,
 ];

@@ -1,11 +1,12 @@
-//! Single calls and returns: which links and tables are cached, and which words are watched.
+//! Tests of single calls and returns: which static links and attribute tables are cached, and which words are watched.
+//! A *watched* word is a word whose change makes the caches invalid.
 use pm_calls::{Frames, Registers, ValidRegisters};
 use pm_families::Call;
 use pm_words::{ExecError, Memory};
 use std::alloc::Global;
 use std::process::Abort;
 
-// Puts a segment at 2000 with one procedure, whose attribute table is at 1900.
+// Writes a segment to memory that ends at 2000 and has one procedure, whose attribute table is at 1900.
 fn put_segment(memory: &mut Memory) {
     memory.set_word(2000, 256 + 1);
     memory.set_word(1998, 98);
@@ -64,7 +65,7 @@ impl Parts {
             .expect(rt, "a call");
     }
 
-    // Calls procedure 1 of a slot. Its code is lent.
+    // Calls procedure 1 of the slot `slot`. The code is passed by reference.
     fn call_slot(&mut self, rt: &impl Abort, slot: u8) {
         self.frames
             .call(
@@ -81,14 +82,14 @@ impl Parts {
         self.call_slot(rt, 3);
     }
 
-    // Keeps slot 3. Its code is lent.
+    // Keeps slot 3. The code is passed by reference.
     fn keep_segment(&mut self, rt: &impl Abort) {
         self.frames
             .keep(&mut self.memory, &mut self.registers, 3, Some(&CODE))
             .expect(rt, "a segment");
     }
 
-    // Returns by RBP if `base` is true, otherwise by RNP.
+    // Returns from a procedure: by RBP if `base` is true, otherwise by RNP.
     fn ret(&mut self, rt: &impl Abort, base: bool) {
         self.frames
             .ret(&mut self.memory, &mut self.registers, 0, base)
@@ -157,7 +158,7 @@ fn calls_and_returns_keep_what_is_kept(rt: HostRuntime) {
     }
 }
 
-// Makes 50 calls, and the returns from them.
+// Executes 50 calls, and the returns from them.
 fn descends(rt: &impl Abort, parts: &mut Parts) {
     for depth in 0..50 {
         parts.call(rt);
@@ -183,8 +184,8 @@ fn a_deep_descent_keeps_all_bases(rt: HostRuntime) {
     }
 }
 
-// After 130 calls, the last 128 frames are cached. The words of the others are no longer watched, so that the same
-// calls write no watched word when they are made again.
+// After 130 calls, the last 128 frames are cached. The words of the other frames are no longer watched. Hence the same
+// calls, executed again, write no watched word.
 #[test]
 fn the_129th_base_gives_its_word_back(rt: HostRuntime) {
     let mut parts = Parts::new(&rt, rt.alloc());
@@ -254,7 +255,7 @@ fn calls_of_a_segment_that_stays_touch_nothing(rt: HostRuntime) {
     }
 }
 
-// The table of a kept segment remains cached too. After the segment is released, none of its words is watched.
+// The table of a kept segment also remains cached. After the segment is released, none of its words is watched.
 #[test]
 fn calls_of_a_kept_segment_keep_its_table(rt: HostRuntime) {
     let mut parts = Parts::new(&rt, rt.alloc());
@@ -302,7 +303,7 @@ fn exit_touches_nothing(rt: HostRuntime) {
 #[test]
 fn sixteen_tables_are_kept(rt: HostRuntime) {
     let mut memory = Memory::new(rt.alloc()).expect(&rt, "memory");
-    // seventeen procedures, whose attribute tables are at 1900, 1888, ..
+    // Seventeen procedures, whose attribute tables are at 1900, 1888 and so on.
     memory.set_word(2000, 17 * 256 + 1);
     for p in 1..18_u16 {
         let table = 1912 - 12 * p;
@@ -316,7 +317,7 @@ fn sixteen_tables_are_kept(rt: HostRuntime) {
     assert!(rt; frames.kept().len() == 16);
     assert!(rt; frames.kept()[0].procedure == 17);
     assert!(rt; frames.kept()[15].procedure == 2);
-    // the table of the first was dropped, and its words are no longer watched
+    // The table of the first procedure was removed from the cache, so its words are no longer watched.
     memory.set_word(1900, 5);
     assert!(rt; !memory.touched());
     memory.set_word(1888, 5);

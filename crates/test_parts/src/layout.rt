@@ -1,4 +1,4 @@
-//! Code files in the canonical layout, for segments of any length.
+//! Code files in which the segments follow the dictionary in order, for segments of any length.
 ghost use Rattle.std.specs.Prelude.{◌≡◌, ◌%◌, ◌<◌, ◌++◌, OnErr, OnOk, length, set};
 
 use crate::spelled::unreadable;
@@ -12,18 +12,18 @@ const NAMES: usize = 64;
 
 const NAMES_END: usize = 192;
 
-/// The code of a slot.
+/// A slot with its code.
 #[derive(Drop)]
 pub struct Segment {
     pub slot: usize,
     pub bytes: Vec<u8>,
 }
 
-/// Sets the byte at `place`.
+/// Sets the byte at the offset `place` of `bytes` to `value`.
 ///
 /// # Errors
 ///
-/// `InvalidData`: `place` is not below the number of bytes. Nothing changes.
+/// `InvalidData`: `place` is not less than the number of bytes. Nothing changes.
 pub fn set_byte(bytes: &mut Vec<u8>, place: usize, value: u8) -> io::Result<()>
     ensures there { OnOk result (place < length bytes.old.items) }
     ensures set { OnOk result (bytes.new.items ≡ set bytes.old.items place value) }
@@ -36,13 +36,13 @@ pub fn set_byte(bytes: &mut Vec<u8>, place: usize, value: u8) -> io::Result<()>
     Ok(())
 }
 
-// Sets a word, its low byte first.
+// Sets the word at the offset `place`, with its low byte first.
 fn set_word(bytes: &mut Vec<u8>, place: usize, word: usize) -> io::Result<()> {
     set_byte(bytes, place, (word % 256) as u8)?;
     set_byte(bytes, place.saturating_add(1), (word / 256 % 256) as u8)
 }
 
-// Appends zeros up to the end of a block.
+// Appends zeros up to a multiple of 512 bytes.
 fn fill_block(file: &mut Vec<u8>) -> io::Result<()> {
     let used = file.len() % BLOCK;
     if used > 0 {
@@ -54,12 +54,12 @@ fn fill_block(file: &mut Vec<u8>) -> io::Result<()> {
 }
 
 /// Returns a code file: a dictionary block, in which all names are spaces, and then the segments in the given order.
-/// Each segment begins at a block. Its length in bytes may be odd or above 65,535. The dictionary has the low 16 bits
-/// of the length.
+/// Each segment begins at a block boundary. Its length in bytes may be odd or above 65,535. The dictionary has the low
+/// 16 bits of the length.
 ///
 /// # Errors
 ///
-/// - `InvalidData`: the entry of a slot is not in the file that was written so far.
+/// - `InvalidData`: the dictionary entry of a slot would be after the end of the file that was written so far.
 /// - `OutOfMemory`: the file cannot be allocated.
 pub fn code_file(alloc: Global, segments: &[Segment]) -> io::Result<Vec<u8>> {
     let mut file = vec![in alloc; 0; BLOCK]?;

@@ -1,16 +1,7 @@
-//! Tests of facts that no table row and no output shows:
-//!
-//! - opcodes, calls and returns, volumes, and code files;
-//! - steps on the fast execution path;
-//! - large memory use;
-//! - two machines with the same program.
-//!
-//! The crate also has items that other test crates use:
-//!
-//! - programs;
-//! - how test rows and cases spell numbers and bytes;
-//! - the code file that they pass to a machine;
-//! - the report of how many cases agree.
+//! Tests of facts that no test row and no output shows: about opcodes, calls and returns, volumes and code files; steps
+//! on the fast execution path; large memory use; and two machines with the same program. The crate also has items that
+//! other test crates use: programs, code files, the spelling of numbers and bytes in test rows, and the report of how
+//! many cases agree.
 #![tactic(auto)]
 
 pub mod any_bytes;

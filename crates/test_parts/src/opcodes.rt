@@ -1,9 +1,10 @@
-//! Facts that no decoded instruction shows: operands that no encoding has, and instructions without an encoding.
+//! Tests of facts that no decoded instruction shows: operands that no encoding has, and instructions without an
+//! encoding.
 use pm_families::{Call, Condition, Jump, Scope, Variable};
 use pm_opcode::{Encode, Form, Instr, Operation, encode, form_at, implied_number};
 use std::test::Fail;
 
-/// Returns the instruction of opcode `op` with these operands.
+/// Returns the instruction with the opcode `op` and the operands `a`, `b` and `c`.
 fn of(op: u8, [a, b, c]: [u16; 3]) -> Instr {
     Instr {
         a,
@@ -37,12 +38,12 @@ fn instructions_out_of_range(rt: HostRuntime) -> Result<(), Fail> {
     Ok(())
 }
 
-/// Returns the operation of opcode `op` with the operands 257 and 300.
+/// Returns the operation of the instruction with the opcode `op` and the operands 257 and 300.
 fn done(op: u8) -> Operation {
     Operation::of(&of(op, [257, 300, 0]))
 }
 
-/// A byte operand is taken modulo 256. A jump distance is a whole word.
+/// Tests that a byte operand is taken modulo 256, and that a jump distance is a whole word.
 #[test]
 fn operands_above_their_range(rt: HostRuntime) {
     assert!(rt;

@@ -1,5 +1,5 @@
-//! Steps on the fast execution path: each opcode that has a fast path uses it, and so does a whole program. No contract
-//! states this, because a machine that never uses the fast path executes the same steps.
+//! Tests of steps on the fast execution path: each opcode that has a fast path uses it, and so does a whole program. No
+//! contract states this, because a machine without the fast path executes the same steps.
 use crate::booted::volume;
 use crate::codes::{CALLS, KEEPS, TOP};
 use crate::tested::Tested;
@@ -8,8 +8,8 @@ use std::alloc::Global;
 use std::process::Abort;
 use std::test::Fail;
 
-/// Programs with the number of steps that they execute on the fast path. Each ends at an `XIT`, which is not such a
-/// step.
+/// Programs, each with the number of steps that it executes on the fast path. Each program ends with an `XIT`, which
+/// does not use the fast path.
 const PROGRAMS: [(&[u8], u64); 26] = [
     // arithmetic, logic and comparisons of integers, LDCN and LDCI
     (
@@ -221,7 +221,7 @@ const PROGRAMS: [(&[u8], u64); 26] = [
     ),
 ];
 
-/// Asserts that the program executes `count` steps on the fast path, and ends with the next step.
+/// Asserts that the program `code` executes `count` steps on the fast path, and ends with the next step.
 fn goes_quickly(rt: &impl Abort, alloc: Global, code: &[u8], count: u64) {
     let mut machine = Tested::raw(rt, alloc, code);
     machine.makes_quick(rt, 1000, count);
@@ -237,11 +237,11 @@ fn opcodes_go_quickly(rt: HostRuntime) {
     }
 }
 
-/// The last 14 bytes of a segment of 64 bytes: the attribute table of its one procedure, and the dictionary. The
-/// procedure has no parameters and no variables, and is entered at the first byte of the segment.
+/// The last 14 bytes of a segment of 64 bytes: the attribute table of its only procedure, and the dictionary. The
+/// procedure has no parameters and no variables, and its first instruction is at the first byte of the segment.
 const TABLE: [u8; 14] = [0, 0, 0, 0, 6, 0, 56, 0, 1, 0, 2, 0, 1, 1];
 
-/// Returns a segment of 64 bytes whose procedure has this code, of at most 50 bytes.
+/// Returns a segment of 64 bytes whose procedure has the code `code` of at most 50 bytes.
 fn segment_of(code: &[u8]) -> [u8; 64] {
     let mut segment = [0xD7; 64];
     for (place, byte) in segment.iter_mut().zip(code) {
@@ -251,7 +251,7 @@ fn segment_of(code: &[u8]) -> [u8; 64] {
     segment
 }
 
-/// The same programs as segments of a code file, which are at high addresses.
+/// Tests the same programs as segments of a code file, which are loaded at high addresses.
 #[test]
 fn booted_opcodes_go_quickly(rt: HostRuntime) -> Result<(), Fail> {
     for (code, count) in &PROGRAMS {
@@ -263,7 +263,7 @@ fn booted_opcodes_go_quickly(rt: HostRuntime) -> Result<(), Fail> {
     Ok(())
 }
 
-/// SLDC 0 to 127.
+/// Tests the opcodes SLDC 0 to 127.
 #[test]
 fn constants_go_quickly(rt: HostRuntime) {
     let mut code = [0xD6; 129];
@@ -273,8 +273,8 @@ fn constants_go_quickly(rt: HostRuntime) {
     goes_quickly(&rt, rt.alloc(), &code, 128);
 }
 
-/// Asserts that two jumps use the fast path: one forward by 127 bytes, and then one by the jump table entry 128 bytes
-/// below the end of the table.
+/// Asserts that two jumps use the fast path: a jump forward by 127 bytes, and a jump through the jump table entry 128
+/// bytes below the end of the table.
 fn jumps_far(rt: &impl Abort, alloc: Global, opcode: u8, word: u8) {
     let mut code = [0xD6; 300];
     code[..4].copy_from_slice(&[0x00, word, opcode, 0x7F]);
@@ -283,7 +283,7 @@ fn jumps_far(rt: &impl Abort, alloc: Global, opcode: u8, word: u8) {
     goes_quickly(rt, alloc, &code, 6);
 }
 
-/// FJP, UJP, EFJ and NFJ, each taken.
+/// Tests FJP, UJP, EFJ and NFJ, where each jump is executed.
 #[test]
 fn far_jumps_go_quickly(rt: HostRuntime) {
     for (opcode, word) in [(0xA1, 0), (0xB9, 0), (0xD3, 1), (0xD4, 0)] {
@@ -291,7 +291,7 @@ fn far_jumps_go_quickly(rt: HostRuntime) {
     }
 }
 
-/// LSA and LPA of 255 characters, LDC of 255 words, and XJP of 250 cases, of which the second is taken.
+/// Tests LSA and LPA of 255 characters, LDC of 255 words, and XJP of 250 cases, of which the second is selected.
 #[test]
 fn long_literals_go_quickly(rt: HostRuntime) {
     for opcode in [0xA6, 0xD0] {
@@ -308,8 +308,8 @@ fn long_literals_go_quickly(rt: HostRuntime) {
     goes_quickly(&rt, rt.alloc(), &code, 2);
 }
 
-/// CLP, then a call of procedure 2 by each kind of call within a segment, and RNP. The return to the system does not
-/// use the fast path.
+/// Tests CLP, then a call of procedure 2 by each kind of call within a segment, and RNP. The return to the system does
+/// not use the fast path.
 #[test]
 fn calls_go_quickly(rt: HostRuntime) {
     for opcode in [0xCE, 0xCF, 0xAE] {
@@ -324,7 +324,7 @@ fn calls_go_quickly(rt: HostRuntime) {
     }
 }
 
-/// CBP of procedures of level 0, and RBP.
+/// Tests CBP of procedures of level 0, and RBP.
 #[test]
 fn base_calls_go_quickly(rt: HostRuntime) {
     let mut code = CALLS;
@@ -341,7 +341,7 @@ fn base_calls_go_quickly(rt: HostRuntime) {
     machine.steps_to(&rt, Stop::Ended);
 }
 
-/// RNP and RBP of several words, from a procedure 2 with 600 bytes of variables.
+/// Tests RNP and RBP of several words, from a procedure 2 with 600 bytes of variables.
 #[test]
 fn returns_of_words_go_quickly(rt: HostRuntime) {
     for (call, back, level, sp) in [(0xCE, 0xAD, 2, 65480), (0xC2, 0xC1, 0, 65478)] {
@@ -363,7 +363,7 @@ fn returns_of_words_go_quickly(rt: HostRuntime) {
     }
 }
 
-/// Calls of procedure 255, whose dictionary word is at address 548, by each kind of call within a segment.
+/// Tests calls of procedure 255, whose dictionary word is at address 548, by each kind of call within a segment.
 #[test]
 fn calls_of_procedure_255_go_quickly(rt: HostRuntime) {
     for opcode in [0xCE, 0xCF, 0xAE] {
@@ -377,7 +377,7 @@ fn calls_of_procedure_255_go_quickly(rt: HostRuntime) {
     }
 }
 
-/// Segment 1 calls its own procedure 2 and segment 2, which calls procedure 2 of segment 1.
+/// Two segments. Segment 1 calls its own procedure 2, and then segment 2, which calls procedure 2 of segment 1.
 const CROSSING: [u8; 56] = [
     0xCD, 0x01, 0x02, 0xCD, 0x02, 0x01, 0xC1, 0x00, 0x00, 0x00, 0x00, 0x00, 0x06, 0x00, 0x0E, 0x00,
     0x01, 0x00, 0xC1, 0x00, 0x00, 0x00, 0x00, 0x00, 0x06, 0x00, 0x08, 0x00, 0x02, 0x00, 0x02, 0x00,
@@ -386,8 +386,8 @@ const CROSSING: [u8; 56] = [
     0x02, 0x00, 0x02, 0x01,
 ];
 
-/// CXP of a segment that is loaded by a call uses the fast path, from the segment itself and from another one. A CXP
-/// that loads the segment does not.
+/// Tests that CXP of a segment that is loaded by a call uses the fast path, from the segment itself and from another
+/// segment. A CXP that loads the segment does not use it.
 #[test]
 fn calls_of_called_segments_go_quickly(rt: HostRuntime) -> Result<(), Fail> {
     let volume = volume(rt.alloc(), 2, [36, 20, 0], &CROSSING)?;
@@ -399,8 +399,8 @@ fn calls_of_called_segments_go_quickly(rt: HostRuntime) -> Result<(), Fail> {
     Ok(())
 }
 
-/// CXP of a segment that the program keeps uses the fast path, and so does RBP, except to the system. Loading and
-/// unloading a segment do not.
+/// Tests that CXP of a segment that the program keeps uses the fast path. RBP also uses it, except to the system. Steps
+/// that load or remove a segment do not use it.
 #[test]
 fn calls_of_segments_go_quickly(rt: HostRuntime) -> Result<(), Fail> {
     let volume = volume(rt.alloc(), 2, [28, 16, 0], &KEEPS)?;
@@ -414,10 +414,10 @@ fn calls_of_segments_go_quickly(rt: HostRuntime) -> Result<(), Fail> {
     Ok(())
 }
 
-/// A loop of an addition: 1 + 2 into a variable, and a jump back by the jump table.
+/// Raw p-code of a loop: it stores 1 + 2 in a variable, and jumps back through the jump table.
 const LOOP: [u8; 10] = [0x01, 0x02, 0x82, 0xAB, 0x01, 0xB9, 0xFE, 0xD7, 0x08, 0x00];
 
-/// Every step of a loop uses the fast path, up to the limit.
+/// Tests that every step of a loop uses the fast path, up to the limit.
 #[test]
 fn loops_go_quickly(rt: HostRuntime) {
     let mut machine = Tested::raw(&rt, rt.alloc(), &LOOP);
@@ -430,10 +430,10 @@ fn loops_go_quickly(rt: HostRuntime) {
     machine.holds(&rt, 65504, 3);
 }
 
-/// The same loop, with FJP as the jump back.
+/// The same loop, which jumps back by FJP.
 const WHILE: [u8; 10] = [0x01, 0x02, 0x82, 0xAB, 0x01, 0x00, 0xA1, 0xFE, 0x08, 0x00];
 
-/// A test that stops no run. It asserts that it is called only before the first two steps.
+/// A test of breakpoints that stops no run. It asserts that it is called only before the first two steps.
 #[derive(Drop)]
 struct AskedAtFirst<'a, A>(&'a A);
 
@@ -452,7 +452,7 @@ impl<A: Abort> StopTest for AskedAtFirst<'_, A> {
     }
 }
 
-/// A run uses the fast path.
+/// Tests that a run uses the fast path.
 #[test]
 fn runs_go_quickly(rt: HostRuntime) -> Result<(), Fail> {
     let mut machine = Machine::raw(rt.alloc(), &WHILE)?;

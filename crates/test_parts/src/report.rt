@@ -1,11 +1,11 @@
-//! The number of test rows or cases that agree.
+//! The number of test rows or cases that agree with their expected results.
 ghost use Rattle.std.specs.Prelude.{◌≡◌, ◌+◌, ◌<◌, min};
 
 use std::alloc::Global;
 use std::fmt;
 
-/// The numbers of test rows, scenes or cases of a file that agree and that differ, and the message of the first that
-/// differs. Each count stops at 4,294,967,295.
+/// The numbers of test rows, scenes or cases that agree with their expected results and that differ, and the message of
+/// the first that differs. Each count stops at 4,294,967,295.
 #[derive(Drop)]
 pub struct Report {
     pub agree: u32,
@@ -25,14 +25,14 @@ impl Report {
         }
     }
 
-    /// Counts one more that agrees.
+    /// Counts one more test row or case that agrees.
     pub fn agrees(&mut self)
         ensures counted { self.new ≡ record self.old { agree = min (self.old.agree + 1) 4294967295 } }
     {
         self.agree = self.agree.saturating_add(1);
     }
 
-    /// Counts one more that differs. If it is the first, its message `told` is stored.
+    /// Counts one more test row or case that differs. If it is the first, stores its message `told`.
     pub fn differs(&mut self, told: String)
         ensures counted { self.new.differ ≡ min (self.old.differ + 1) 4294967295 }
         ensures agree { self.new.agree ≡ self.old.agree }

@@ -1,5 +1,5 @@
-//! Large memory use: waiting keys, output, and long programs. An implementation with a smaller bound of its own fails
-//! here.
+//! Tests of large memory use: waiting keys, output, and long programs. An implementation with a smaller limit fails
+//! these tests.
 ghost use Rattle.std.specs.Prelude.{◌<◌};
 
 use crate::tested::Tested;
@@ -9,7 +9,7 @@ use std::alloc::Global;
 use std::process::Abort;
 use std::test::Fail;
 
-/// 70,000 keys wait, which is more than the number of bytes of memory.
+/// Tests that 70,000 keys can wait, which is more than the number of bytes of memory.
 #[test]
 fn keys_wait(rt: HostRuntime) {
     let mut machine = Tested::raw(&rt, rt.alloc(), &[0xD6]);
@@ -18,12 +18,12 @@ fn keys_wait(rt: HostRuntime) {
     }
 }
 
-/// Writes bytes 0 to 32,767 of memory to a unit in an endless loop of eight steps.
+/// Raw p-code that writes the bytes 0 to 32,767 of memory to a unit in an endless loop of eight steps.
 const WRITING: [u8; 16] = [
     0x01, 0x00, 0x00, 0xC7, 0x00, 0x80, 0x00, 0x00, 0x9E, 0x06, 0xB9, 0xFE, 0xD7, 0xD7, 0x0E, 0x00,
 ];
 
-/// Returns a machine that has written 1 MiB to this unit.
+/// Returns a machine that has written 1 MiB to the unit `unit`.
 fn writes_much(rt: &impl Abort, alloc: Global, unit: u8) -> Tested {
     let mut code = WRITING;
     code[0] = unit;
@@ -40,7 +40,7 @@ fn output_has_memory(rt: HostRuntime) {
     machine.has_written(&rt, 0, 1_048_576);
 }
 
-/// 59,999 `NOP` instructions and an `XIT`: 60,000 bytes, the greatest length of raw p-code.
+/// Tests 59,999 `NOP` instructions and an `XIT`: 60,000 bytes, the greatest length of raw p-code.
 #[test]
 fn bare_code_of_the_greatest_length(rt: HostRuntime) -> Result<(), Fail> {
     let mut code = vec![in rt.alloc(); 0xD7; 60_000]?;
@@ -69,7 +69,8 @@ fn long_segment(alloc: Global) -> Result<Volume, Fail> {
 /// The numbers of the disk units, in the order of the volumes.
 const UNITS: [u8; 6] = [4, 5, 9, 10, 11, 12];
 
-/// A machine boots from the disk unit with index `place`, and ends after 59,984 `NOP` instructions and the return.
+/// Asserts that a machine boots from the disk unit `UNITS[place]`, and ends after 59,984 `NOP` instructions and the
+/// return.
 fn boots(rt: &impl Abort, alloc: Global, place: usize) -> Result<(), Fail>
     requires place { place < 6 }
 {

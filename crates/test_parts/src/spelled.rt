@@ -6,7 +6,7 @@ use std::alloc::{AllocError, Global};
 use std::io;
 use std::io::ErrorKind;
 
-/// Returns the error for a line that cannot be read.
+/// Returns the error for a test line that cannot be read.
 pub fn unreadable() -> io::Error {
     io::Error::from(ErrorKind::InvalidData)
 }
@@ -79,7 +79,7 @@ pub fn word(text: &str) -> io::Result<u16> {
     }
 }
 
-// Returns the bytes that pairs of hexadecimal digits spell.
+// Returns the bytes that `digits` spells with two hexadecimal digits for each byte.
 fn pairs(alloc: Global, digits: &str) -> io::Result<Vec<u8>> {
     match hex::decode(alloc, digits) {
         Ok(bytes) => Ok(bytes),
@@ -88,8 +88,8 @@ fn pairs(alloc: Global, digits: &str) -> io::Result<Vec<u8>> {
     }
 }
 
-// Appends `count` bytes that count up from the one byte of `first`, with 0 after 250. Another number of bytes in
-// `first` is an error.
+// Appends `count` bytes that count up from the only byte of `first`. The byte after 250 is 0. Returns an error if
+// `first` does not have exactly one byte.
 fn add_run(bytes: &mut Vec<u8>, first: &[u8], count: usize) -> io::Result<()> {
     if let [first] = first {
         let mut byte = *first;
@@ -102,8 +102,8 @@ fn add_run(bytes: &mut Vec<u8>, first: &[u8], count: usize) -> io::Result<()> {
     Err(unreadable())
 }
 
-// Appends the bytes of a piece: pairs of digits; `N*` and pairs of digits, which repeats their bytes N times; or
-// `N+HH`, which is N bytes that count up.
+// Appends the bytes of `piece`, which has one of these forms: pairs of hexadecimal digits; `N*` and pairs of digits,
+// whose bytes are repeated N times; or `N+HH`, which is N bytes that count up.
 fn add_piece(alloc: Global, bytes: &mut Vec<u8>, piece: &str) -> io::Result<()> {
     if let Some((count, digits)) = piece.split_once('+') {
         return add_run(bytes, &pairs(alloc, digits)?, number(count)?);
@@ -117,8 +117,8 @@ fn add_piece(alloc: Global, bytes: &mut Vec<u8>, piece: &str) -> io::Result<()> 
 }
 
 /// Returns the bytes of the pieces of `text`, which are separated by single spaces. A piece is pairs of hexadecimal
-/// digits. `N*` before the digits repeats their bytes N times. `N+HH` is N bytes that count up from HH, with 0 after
-/// 250.
+/// digits. With `N*` before the digits, their bytes are repeated N times. `N+HH` is N bytes that count up from HH,
+/// where 0 follows 250.
 ///
 /// # Errors
 ///
@@ -132,7 +132,7 @@ pub fn hex_bytes(alloc: Global, text: &str) -> io::Result<Vec<u8>> {
     Ok(bytes)
 }
 
-/// Returns bytes as pairs of hexadecimal digits, separated by spaces.
+/// Returns `bytes` as pairs of hexadecimal digits, separated by spaces.
 pub fn hex_text(alloc: Global, bytes: &[u8]) -> Result<String, AllocError> {
     let mut text = String::new(alloc);
     for byte in bytes.iter() {
@@ -153,8 +153,8 @@ fn pair(high: u8, low: u8) -> io::Result<u8> {
     }
 }
 
-/// Appends the bytes of `text`, in which `\hh` is the byte with these hexadecimal digits and every other character is
-/// its own bytes. If the text is only a backslash, it has no bytes.
+/// Appends the bytes of `text`. In `text`, `\hh` is the byte with these hexadecimal digits, and every other character
+/// is its own bytes. A text that is only a backslash has no bytes.
 ///
 /// # Errors
 ///
@@ -177,11 +177,11 @@ pub fn add_escaped(bytes: &mut Vec<u8>, text: &str) -> io::Result<()> {
     Ok(())
 }
 
-/// Returns the name that an escaped text spells.
+/// Returns the name that the escaped text `text` spells.
 ///
 /// # Errors
 ///
-/// Those of `add_escaped`, and `InvalidData` if the bytes are not UTF-8.
+/// The errors of `add_escaped`, and `InvalidData` if the bytes are not UTF-8.
 pub fn name(alloc: Global, text: &str) -> io::Result<String> {
     let mut bytes = Vec::new(alloc);
     add_escaped(&mut bytes, text)?;
@@ -191,7 +191,7 @@ pub fn name(alloc: Global, text: &str) -> io::Result<String> {
     }
 }
 
-// Returns the 64-bit FNV-1a hash of bytes.
+// Returns the 64-bit FNV-1a hash of `bytes`.
 fn digest(bytes: &[u8]) -> u64 {
     let mut hash: u64 = 0xcbf2_9ce4_8422_2325;
     for byte in bytes.iter() {
@@ -200,21 +200,21 @@ fn digest(bytes: &[u8]) -> u64 {
     hash
 }
 
-/// Returns the 64-bit FNV-1a hash of bytes as 16 hexadecimal digits.
+/// Returns the 64-bit FNV-1a hash of `bytes` as 16 hexadecimal digits.
 pub fn digest_text(alloc: Global, bytes: &[u8]) -> Result<String, AllocError> {
     let hash = digest(bytes);
     format!(in alloc; "{hash:016x}")
 }
 
-/// Returns the number of bytes and their hash, separated by a space.
+/// Returns the number of bytes in `bytes` and their hash, separated by a space.
 pub fn measured(alloc: Global, bytes: &[u8]) -> Result<String, AllocError> {
     let count = bytes.len();
     let hash = digest(bytes);
     format!(in alloc; "{count} {hash:016x}")
 }
 
-/// Returns bytes as a test answer spells them: in hexadecimal, or as their number and hash if there are more than
-/// `most`.
+/// Returns `bytes` as a test answer spells them: in hexadecimal, or as their number and hash if there are more than
+/// `most` bytes.
 pub fn bytes_text(alloc: Global, bytes: &[u8], most: usize) -> Result<String, AllocError> {
     if bytes.len() > most {
         return measured(alloc, bytes);

@@ -1,4 +1,4 @@
-//! Tests the public table of opcodes.
+//! A test of the public table of opcodes.
 use pm_opcode::{ROWS, row_at};
 use std::process::Abort;
 
@@ -12,7 +12,7 @@ fn stands(rt: &impl Abort, op: u8) {
     );
 }
 
-/// The table has the mnemonic and the format that are proved of `row_at`.
+/// Tests that the table has the mnemonic and the format that the contract of `row_at` states.
 #[test]
 fn rows(rt: HostRuntime) {
     for op in 0..=255u8 {

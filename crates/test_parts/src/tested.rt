@@ -1,4 +1,4 @@
-//! A machine under test. Each call asserts its result, so that a test is a list of calls.
+//! A machine under test. Each method asserts the result of a call, so that a test is a list of method calls.
 use crate::booted::boots;
 use pm_machine::{Machine, Stop};
 use pm_volume::Volume;
@@ -12,7 +12,7 @@ pub(crate) struct Tested {
 }
 
 impl Tested {
-    /// Returns a machine with raw p-code.
+    /// Returns a machine with the raw p-code `code`.
     pub(crate) fn raw(rt: &impl Abort, alloc: Global, code: &[u8]) -> Tested {
         let machine = Machine::raw(alloc, code).expect(rt, "a machine");
         Tested { machine }
@@ -59,7 +59,7 @@ impl Tested {
         assert_eq!(rt; self.machine.memory().word(address), Some(word));
     }
 
-    /// Asserts that this number of bytes was written to the console and to the printer.
+    /// Asserts that `console` bytes were written to the console and `printer` bytes to the printer.
     pub(crate) fn has_written(&self, rt: &impl Abort, console: usize, printer: usize) {
         assert_eq!(rt; self.machine.console().len(), console);
         assert_eq!(rt; self.machine.printer().len(), printer);

@@ -1,5 +1,6 @@
-//! Executes each program step by step in two machines. In one of them each word of memory is overwritten with its own
-//! value before each step. This drops the cached links and tables. Everything that the machines show must stay equal.
+//! Tests that execute each program step by step in two machines. In one machine, each word of memory is overwritten
+//! with its own value before each step, so that cached static links and attribute tables are discarded. Both machines
+//! must always have equal states.
 ghost use Rattle.std.specs.Prelude.{◌≡◌, length, sum};
 
 use crate::any_bytes::generated;
@@ -22,7 +23,7 @@ struct Twice {
     made: u16,
 }
 
-/// Asserts that the memory and everything else that a machine shows are equal.
+/// Asserts that the machines `one` and `other` have equal memory and equal visible state.
 fn are_same(rt: &impl Abort, one: &Machine, other: &Machine) {
     assert_eq!(rt; one.registers(), other.registers());
     assert_eq!(rt;
@@ -38,7 +39,7 @@ fn are_same(rt: &impl Abort, one: &Machine, other: &Machine) {
     }
 }
 
-/// The stack, the static chain and the dynamic chain.
+/// The words on the stack, and the frames of the static chain and of the dynamic chain.
 type Chains = (
     Vec<u16>,
     Result<Vec<u16>, DebugRefusal>,
@@ -53,7 +54,7 @@ fn chains(rt: &impl Abort, alloc: Global, debugger: &Debugger) -> Chains {
     )
 }
 
-/// Returns variables of frames that the static links reach.
+/// Returns the values of variables in frames that static links reach.
 fn locals(debugger: &mut Debugger) -> [Result<u16, DebugRefusal>; 4] {
     [
         debugger.local(0, 1),
@@ -72,7 +73,7 @@ impl Twice {
         }
     }
 
-    /// Returns two machines with raw p-code. The words in `pokes` are overwritten before the first step.
+    /// Returns two machines with the raw p-code `code`. The words in `pokes` are written before the first step.
     fn raw(rt: &impl Abort, alloc: Global, code: &[u8], pokes: &[(u16, u16)]) -> Twice {
         let mut plain = Machine::raw(alloc, code).expect(rt, "a machine");
         let mut written = Machine::raw(alloc, code).expect(rt, "a machine");
@@ -83,7 +84,8 @@ impl Twice {
         Twice::new(plain, written)
     }
 
-    /// Returns two machines with the program of a code file, whose slots 1, 2 and 3 have these lengths in bytes.
+    /// Returns two machines with the program of a code file, whose slots 1, 2 and 3 have the lengths `lengths` in
+    /// bytes.
     fn booted(alloc: Global, lengths: [u16; 3], segments: &[u8]) -> Result<Twice, Fail>
         requires joined { sum lengths ≡ length segments.now }
     {
@@ -108,7 +110,7 @@ impl Twice {
         assert_eq!(rt; locals(&mut self.plain), locals(&mut self.written));
     }
 
-    /// Executes one step of each machine, and asserts that both return the same and are equal.
+    /// Executes one step of each machine. Asserts that both return the same result and have equal states.
     fn step(&mut self, rt: &impl Abort, alloc: Global) -> Stop {
         self.write(rt);
         let stop = self.plain.machine().step().expect(rt, "memory");
@@ -119,7 +121,7 @@ impl Twice {
         stop
     }
 
-    /// Executes at most `limit` steps. Returns the result of the last one.
+    /// Executes at most `limit` steps, and returns the result of the last step.
     fn run(&mut self, rt: &impl Abort, alloc: Global, limit: u16) -> Stop {
         self.is_same(rt, alloc);
         for _ in 0..limit {
@@ -131,7 +133,7 @@ impl Twice {
         Stop::Went
     }
 
-    /// Asserts that the program ends with step number `steps`. Returns the registers.
+    /// Asserts that the program ends with step number `steps`, and returns the registers.
     fn ends(&mut self, rt: &impl Abort, alloc: Global, steps: u16) -> Registers {
         assert_eq!(rt; self.run(rt, alloc, 100), Stop::Ended);
         assert_eq!(rt; self.made, steps);
@@ -147,7 +149,7 @@ fn stored_link(rt: HostRuntime) {
     assert_eq!(rt; registers.sp, 65488);
 }
 
-/// Two nested procedures. The outer one calls the inner one twice.
+/// Tests two nested procedures. The outer procedure calls the inner one twice.
 #[test]
 fn nested_calls(rt: HostRuntime) {
     let alloc = rt.alloc();
@@ -156,7 +158,7 @@ fn nested_calls(rt: HostRuntime) {
     assert_eq!(rt; registers.sp, 65492);
 }
 
-/// EXIT that leaves two segments.
+/// Tests an EXIT that leaves two segments.
 #[test]
 fn exits(rt: HostRuntime) -> Result<(), Fail> {
     let alloc = rt.alloc();
@@ -165,7 +167,7 @@ fn exits(rt: HostRuntime) -> Result<(), Fail> {
     Ok(())
 }
 
-/// Two segments that are loaded one after the other at the same address.
+/// Tests two segments that are loaded one after the other at the same address.
 #[test]
 fn segments(rt: HostRuntime) -> Result<(), Fail> {
     let alloc = rt.alloc();
@@ -174,7 +176,7 @@ fn segments(rt: HostRuntime) -> Result<(), Fail> {
     Ok(())
 }
 
-/// A segment that is kept, called twice and released.
+/// Tests a segment that is kept, called twice and released.
 #[test]
 fn kept_segment(rt: HostRuntime) -> Result<(), Fail> {
     let alloc = rt.alloc();
@@ -183,7 +185,7 @@ fn kept_segment(rt: HostRuntime) -> Result<(), Fail> {
     Ok(())
 }
 
-/// Code that overwrites later code. One word of it becomes the constants 2 and 3, which are then added.
+/// Raw p-code that overwrites one word of its later code. The word becomes the constants 2 and 3, which are then added.
 const OWN_CODE: [u8; 12] = [
     0xC7, 0x08, 0x04, 0xC7, 0x02, 0x03, 0x9A, 0xD7, 0xD6, 0xD6, 0x82, 0xD6,
 ];
@@ -197,7 +199,7 @@ fn own_code(rt: HostRuntime) {
     assert_eq!(rt; machine.memory().word(registers.sp), Some(5));
 }
 
-/// A hundred pseudo-random codes, each of at most twenty steps.
+/// Tests a hundred pseudo-random codes, each for at most twenty steps.
 #[test]
 fn any_bytes(rt: HostRuntime) {
     let alloc = rt.alloc();

@@ -1,4 +1,4 @@
-//! Examples of volumes.
+//! Tests of volumes.
 
 use pm_volume::{Copies, Volume, VolumeFault};
 use std::alloc::{AllocError, Global};
@@ -19,7 +19,7 @@ fn write(image: &mut [u8], at: usize, bytes: &[u8]) {
     }
 }
 
-// Returns the fault of a new volume whose bytes from offset `at` on are replaced by `bytes`.
+// Returns the fault of the image of a new volume in which `bytes` replace the bytes from offset `at` on.
 fn fault_after(alloc: Global, at: usize, bytes: &[u8]) -> Option<VolumeFault> {
     let Ok(mut image) = work(alloc) else {
         return Some(VolumeFault::NoMemory);
@@ -67,7 +67,7 @@ fn refused_images(rt: HostRuntime) {
     assert_eq!(rt; VolumeFault::NoMemory.number(), 12);
 }
 
-// Asserts that a file is one block, the block `first`, and that each of its bytes is `byte`.
+// Asserts that the file `name` is one block, the block `first`, and that each of its bytes is `byte`.
 fn has_block(rt: &impl Abort, volume: &Volume, name: &str, first: u16, byte: u8) {
     let found = volume.find(name);
     assert_eq!(rt; found.as_ref().map(|e| e.first), Some(first));
@@ -101,7 +101,7 @@ fn full_volume(rt: HostRuntime) {
     let e = volume.add("TWO", 5, &two, 0).expect(&rt, "no refusal");
     assert_eq!(rt; (e.first, e.end), (81, 83));
     assert_eq!(rt; volume.entries().count(), 76);
-    // files after a removed file have moved by one block or two, with their bytes
+    // The files after a removed file have moved by one or two blocks, together with their bytes.
     for (name, first, byte) in [
         ("F09", 14, 9),
         ("F11", 15, 11),
@@ -162,7 +162,8 @@ fn disks(rt: HostRuntime) {
     assert_eq!(rt; disk.block(20).is_some(), false);
 }
 
-// Returns the bytes from offset `begin` up to offset `end`, or none if they are not in the image.
+// Returns the bytes of `image` from the offset `begin` up to the offset `end`. Returns an empty slice if they are not
+// in `image`.
 fn part(image: &[u8], begin: usize, end: usize) -> &[u8] {
     match image.get(begin..end) {
         Some(bytes) => bytes,
@@ -170,13 +171,13 @@ fn part(image: &[u8], begin: usize, end: usize) -> &[u8] {
     }
 }
 
-// Whether the image has bytes from `begin` up to `end`, and all of them are `byte`.
+// Returns whether `image` has bytes from `begin` up to `end`, and all of them are `byte`.
 fn are_all(image: &[u8], begin: usize, end: usize, byte: u8) -> bool {
     let bytes = part(image, begin, end);
     !bytes.is_empty() && bytes.iter().all(|b| *b == byte)
 }
 
-// Returns an image in which the volume W of 20 blocks has the file A at block 8. Every byte that no call reads is 165.
+// Returns an image of the volume W of 20 blocks with the file A at block 8. Every byte that no call reads is 165.
 fn marked(alloc: Global) -> Result<Vec<u8>, AllocError> {
     let mut image = vec![in alloc; 165; 10240]?;
     write(&mut image, 1026, b"\x06\x00");
@@ -233,8 +234,8 @@ fn doubled(alloc: Global) -> Result<Vec<u8>, VolumeFault> {
     Ok(volume.into_bytes())
 }
 
-// Returns the fault of the image of `doubled` after two changes and a cut to `size` bytes. The byte at offset 1,030
-// becomes `first`, and the bytes from offset `at` on become `second`.
+// Returns the fault of the image of `doubled` after these changes: the byte at offset 1,030 becomes `first`, the bytes
+// from offset `at` on become `second`, and the image is cut to `size` bytes.
 fn fault_of_doubled(
     alloc: Global,
     size: usize,

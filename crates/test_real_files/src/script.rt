@@ -19,7 +19,7 @@ pub const CASES: [&str; 15] = [
     NO_FILES,
 ];
 
-/// A file that does not exist, one that exists, and one that is prepared but not held.
+/// Cases of a file that does not exist, a file that exists, and a file that is prepared but not held.
 const PLAIN: &str = "\
 a new file: |replace a
 |make a old 644
@@ -28,7 +28,7 @@ a file: |replace a
 a file that is not held: |write a||new|; |tell a
 ";
 
-/// Files with restricted permissions.
+/// Cases of files with restricted permissions.
 const MODES: &str = "\
 |make a old 600
 a file with a mode: |replace a
@@ -46,7 +46,7 @@ a file with a mode: |replace a
 a file that may not be read: |hold a|, |read a
 ";
 
-/// A second hard link to the file, and symbolic links to it, to nothing, in a circle and to a folder.
+/// Cases of a second hard link to the file, and of symbolic links to the file, to nothing, in a circle and to a folder.
 const LINKS: &str = "\
 |make a old 644||link a b
 a file with two names: |replace a
@@ -65,13 +65,13 @@ the circle: |kind c
 a link to a folder: |replace d
 ";
 
-/// The path of the temporary file has one of these, in turn:
+/// Cases in which the path of the temporary file has one of these, in turn:
 ///
 /// - a file that another program has open;
 /// - a link to the file `theirs`, to nothing, to the image, in a circle, or to a folder;
 /// - a second hard link to the file `theirs`.
 ///
-/// Each is removed, and the file `theirs` is unchanged.
+/// Each of them is removed, and the file `theirs` is unchanged.
 const TAKEN_AWAY: &str = "\
 |make a old 600||make a.pmach-new theirs 666||open a.pmach-new
 their file stands there: |replace a
@@ -92,7 +92,7 @@ a further name stands there: |replace a
 their file: |text theirs|; where the link led: |kind none
 ";
 
-/// A folder at the path of the temporary file cannot be removed.
+/// Cases in which a folder at the path of the temporary file cannot be removed.
 const IN_THE_WAY: &str = "\
 |make a old 644||folder a.pmach-new
 a folder stands there: |replace a
@@ -100,7 +100,7 @@ a folder stands there: |replace a
 it is gone: |replace a
 ";
 
-/// A second store is refused while the first one exists, for every name of the file.
+/// Cases in which a second store is refused while the first store exists, for every name of the file.
 const TWO_STORES: &str = "\
 |new||make a old 644||node a
 the first holds: |hold a
@@ -115,7 +115,7 @@ the first writes: |put a new||new|; |tell a
 the second holds then: |hold a||new
 ";
 
-/// The name of a held file is removed: no file is created.
+/// Cases in which the name of a held file is removed. No file is created.
 const REMOVED: &str = "\
 |new||make a old 640||node a
 held: |hold a
@@ -124,7 +124,7 @@ removed, it reads: |read a
 and writes: |put a new|; |tell a
 ";
 
-/// The name of a held file becomes that of another file, which is unchanged.
+/// Cases in which another file is renamed to the name of a held file. The other file is unchanged.
 const REPLACED: &str = "\
 |new||make a old 644||make theirs theirs 644||node theirs
 held: |hold a
@@ -133,7 +133,7 @@ replaced, it reads: |read a
 and writes: |put a new|; |tell a
 ";
 
-/// The link by which a file is held is changed to another file. Both files are unchanged.
+/// Cases in which the link by which a file is held is changed to refer to another file. Both files are unchanged.
 const LED_ELSEWHERE: &str = "\
 |new||make b old 644||symlink b k
 held by a link: |hold k
@@ -144,8 +144,8 @@ the one file: |text b
 the other: |text a
 ";
 
-/// The folder of a held file is moved, and a link to another folder replaces it. Neither folder gets a file, and the
-/// image is unchanged.
+/// Cases in which the folder of a held file is moved, and a link to another folder replaces it. Neither folder gets a
+/// file, and the image is unchanged.
 const MOVED: &str = "\
 |new||folder u||folder v||make u/w old 644
 its folder held: |hold u/w
@@ -156,7 +156,7 @@ the folder that was linked has: |kind v/w
 the image: |text x/w
 ";
 
-/// A file, a link to a file, or a folder appears at a path that had nothing. Each is unchanged.
+/// Cases in which a file, a link to a file, or a folder appears at a path at which nothing existed. Each is unchanged.
 const APPEARED: &str = "\
 |new||make theirs theirs 644
 nothing is held: |hold n1
@@ -171,7 +171,7 @@ a folder appeared: |put n3 new
 beside them: |kind n1.pmach-new
 ";
 
-/// In a folder in which no file can be created, a file is written in place, and no other file is created.
+/// Cases in a folder in which no file can be created. A file is written in place, and no other file is created.
 const CLOSED: &str = "\
 |folder f||make f/w old 644||mode f 555
 in a closed folder: |replace f/w
@@ -182,7 +182,7 @@ by a path with more in it: |replace ./f/../f/w
 in no folder: |replace g/w
 ";
 
-/// In a folder that may not be read, a file is written in place, with more bytes and with fewer, and a new file is
+/// Cases in a folder that cannot be read. A file is written in place, with more bytes and with fewer, and a new file is
 /// created.
 const UNREAD: &str = "\
 |new||folder r||make r/w new 644||mode r 333
@@ -192,7 +192,7 @@ in a folder that may not be read: |replace r/w
 |mode r 755
 ";
 
-/// A name of 250 letters, to which no suffix can be added: the file is written in place.
+/// Cases of a name of 250 letters, to which no suffix can be added. The file is written in place.
 const LONG_NAMES: &str = "\
 |new
 a new name of 250 letters: |none LONG|, |put LONG old
@@ -200,7 +200,8 @@ a new name of 250 letters: |none LONG|, |put LONG old
 written again: |replace LONG
 ";
 
-/// A device can be written; a file of more than 33,554,432 bytes is not read.
+/// Cases of paths that name no regular file, and of a file that is too long: a device can be written, and a file of
+/// more than 33,554,432 bytes is not read.
 const NO_FILES: &str = "\
 |new
 a device: |put /dev/null old

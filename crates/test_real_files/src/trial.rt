@@ -23,7 +23,7 @@ use std::{fs, io, mem};
 /// The bytes of a file before a case.
 const OLD: &[u8] = b"the old image";
 
-/// The bytes that a case writes.
+/// The bytes that the cases write.
 const NEW: &[u8] = b"a new one";
 
 /// The bytes of the file of another program.
@@ -67,7 +67,7 @@ fn said(done: Result<(), DiskFault>) -> &'static str {
     }
 }
 
-/// Returns which of the three contents was read, or why it could not be read.
+/// Returns which of the three contents was read, or the reason why none was read.
 fn named(read: Result<Vec<u8>, DiskFault>) -> &'static str {
     match read {
         Ok(bytes) => match bytes.as_slice() {
@@ -128,7 +128,7 @@ fn set_size(rt: &HostRuntime, path: &str, count: &str) -> io::Result<()> {
     file.set_len(count.parse().unwrap_or(0))
 }
 
-/// Makes a call of the system on paths.
+/// Executes a call of the system on the paths `path`, `second` and `third`.
 fn act(rt: &HostRuntime, word: &str, path: &str, second: &str, third: &str) -> io::Result<()> {
     let mode = u32::from_str_radix(third, 8).unwrap_or(0);
     match word {
@@ -176,7 +176,8 @@ impl<'a> Trial<'a> {
         )
     }
 
-    /// Whether a path names the open file. It is also true if no file is open or a call of the system fails.
+    /// Returns whether `path` names the open file. Also returns `true` if no file is open or a call of the system
+    /// fails.
     fn is_theirs(&self, path: &str) -> bool {
         let Some(file) = &self.theirs else {
             return true;

@@ -1,4 +1,4 @@
-//! One command line over a disk in memory.
+//! The execution of one command line with a disk in memory.
 use crate::disk::{Disk, Inode, Name};
 use crate::runtime::FakeRuntime;
 use pm_program::program;
@@ -44,7 +44,7 @@ pub fn come(
     Came { status, disk }
 }
 
-/// Returns a copy of the bytes of a file, or no bytes if it has no name.
+/// Returns a copy of the bytes of `inode`. Returns no bytes if `is_named` is false, because no name refers to the file.
 fn bytes_of(alloc: Global, inode: &Inode, is_named: bool) -> io::Result<Vec<u8>> {
     let mut bytes = Vec::new(alloc);
     if is_named {
@@ -53,7 +53,7 @@ fn bytes_of(alloc: Global, inode: &Inode, is_named: bool) -> io::Result<Vec<u8>>
     Ok(bytes)
 }
 
-/// Returns a copy of a file.
+/// Returns a copy of `inode`.
 fn copy_of(alloc: Global, inode: &Inode, is_named: bool) -> io::Result<Inode> {
     let link = match &inode.link {
         Some(link) => Some(String::from_str(alloc, link.as_str())?),
@@ -75,7 +75,7 @@ fn copy_of(alloc: Global, inode: &Inode, is_named: bool) -> io::Result<Inode> {
     })
 }
 
-/// Adds copies of the files and names of `disk` to `copy`, which has none.
+/// Adds copies of the files and names of `disk` to `copy`, which must be empty.
 fn add_files(alloc: Global, copy: &mut Disk, disk: &Disk) -> io::Result<()> {
     for (number, inode) in disk.inodes.iter().enumerate() {
         let is_named = disk.names.iter().any(|name| name.inode == number);
@@ -91,7 +91,7 @@ fn add_files(alloc: Global, copy: &mut Disk, disk: &Disk) -> io::Result<()> {
     Ok(())
 }
 
-/// Returns a disk with the same files as another, without calls so far.
+/// Returns a disk with the same files as `disk`, and with no recorded calls.
 pub fn copy(alloc: Global, disk: &Disk) -> io::Result<Disk> {
     let mut copy = Disk::new(alloc);
     add_files(alloc, &mut copy, disk)?;

@@ -4,23 +4,23 @@ use std::alloc::Global;
 use std::io;
 use std::io::ErrorKind;
 
-/// A file, a folder or a symbolic link, independent of its names.
+/// A file, a folder or a symbolic link, without its names.
 #[derive(Drop)]
 pub struct Inode {
     pub bytes: Vec<u8>,
-    /// Whether another program has locked it.
+    /// Whether another program has locked the file.
     pub locked: bool,
-    /// The number of the open file by which the program has locked it.
+    /// The number of the open file by which the program has locked this file.
     pub holder: Option<usize>,
-    /// Whether it cannot be opened for reading.
+    /// Whether the file cannot be opened for reading.
     pub is_private: bool,
-    /// Whether it cannot be opened for writing.
+    /// Whether the file cannot be opened for writing.
     pub is_read_only: bool,
-    /// Whether it is a folder.
+    /// Whether the inode is a folder.
     pub is_folder: bool,
-    /// Whether a file cannot be renamed to its name, as if it were a mount point.
+    /// Whether no file can be renamed to the name of this inode, as if it were a mount point.
     pub is_busy: bool,
-    /// Whether another program made it. That program may still have it open.
+    /// Whether another program created the file. That program may still have it open.
     pub is_foreign: bool,
     /// The path that a symbolic link contains. `None` for everything else.
     pub link: Option<String>,
@@ -59,13 +59,13 @@ pub enum Act {
 /// What another program does during a command line, and when.
 #[derive(Drop)]
 pub struct Meanwhile {
-    /// The number of the call before which it acts.
+    /// The number of the call before which the other program acts.
     pub before: usize,
     pub act: Act,
     pub path: String,
-    /// The bytes that it writes.
+    /// The bytes that the other program writes.
     pub bytes: Vec<u8>,
-    /// The path that its link contains.
+    /// The path that the other program's link contains.
     pub link: String,
 }
 
@@ -116,7 +116,7 @@ pub(crate) const FOLDER: usize = usize::MAX;
 /// The inode number of the folder that another program made at its path.
 pub(crate) const OTHER_FOLDER: usize = usize::MAX - 1;
 
-/// The prefix of the names in that folder.
+/// The prefix of the names in `OTHER_FOLDER`.
 const ELSEWHERE: &str = "elsewhere/";
 
 /// The prefix of the path of an open file, before its number.
@@ -130,7 +130,7 @@ struct Spot<'a> {
 }
 
 impl Spot<'_> {
-    /// Whether the stored name `path` is this one.
+    /// Returns whether the stored name `path` is this name.
     fn is(self, path: &str) -> bool {
         if self.is_elsewhere {
             path.strip_prefix(ELSEWHERE) == Some(self.name)
@@ -197,7 +197,8 @@ impl Disk {
         }
     }
 
-    /// Returns the inode number of the open file whose path this is.
+    /// Returns the inode number of the open file with the path `path`. Returns `None` if `path` is not the path of an
+    /// open file.
     fn open_at(&self, path: &str) -> Option<usize> {
         if self.is_plain {
             return None;
@@ -383,7 +384,7 @@ impl Disk {
     ///
     /// # Errors
     ///
-    /// `FilesystemLoop`: `path` needs 40 links or more.
+    /// `FilesystemLoop`: 40 or more links must be followed.
     pub(crate) fn behind<'a>(&'a self, path: &'a str) -> io::Result<&'a str> {
         let mut at = path;
         for _ in 0..40 {
@@ -460,7 +461,7 @@ impl Disk {
         })
     }
 
-    /// Whether the user cannot remove or replace a name.
+    /// Returns whether the user cannot remove or replace the name `path`.
     pub(crate) fn keeps(&self, path: &str) -> bool {
         let owner = match self.find(path) {
             Some(number) => self.inodes.get(number).map(|inode| inode.owner),
@@ -512,8 +513,8 @@ impl Disk {
         }
     }
 
-    /// Overwrites bytes of a file from offset `place` on. Returns false if the file does not exist or ends before the
-    /// last byte. Earlier bytes are then overwritten.
+    /// Overwrites bytes of a file from the offset `place` on. Returns `false` if the file does not exist, or if it ends
+    /// before the last byte. In the second case, the bytes before its end are overwritten.
     pub fn write_at(&mut self, path: &str, place: usize, bytes: &[u8]) -> bool {
         let Some(inode) = self.named(path) else {
             return false;

@@ -1,6 +1,6 @@
-//! Tests of whole command lines over a runtime in memory. Standard input is a script with the command lines and their
-//! expected results. The scripts `large.trial` and `system.trial` follow, if these files exist. The first has large
-//! texts, files and volumes, and the second has the procedures of the system segment.
+//! Tests of whole command lines with a runtime in memory. Standard input is a script with the command lines and their
+//! expected results. The scripts `large.trial` and `system.trial` are executed next, if these files exist. The first
+//! has large texts, files and volumes, and the second has the procedures of the system segment.
 #![tactic(auto)]
 
 mod command;
@@ -15,10 +15,10 @@ mod sweep;
 use script::Trials;
 use std::{fs, io};
 
-/// The scripts in the folder in which the program runs.
+/// The scripts in the current folder of the program.
 const SCRIPTS: [&str; 2] = ["large.trial", "system.trial"];
 
-/// Adds the lines of a text file to standard input of the next command line.
+/// Appends the lines of the text file at `path` to the standard input of the next command line.
 fn include(rt: &HostRuntime, trials: &mut Trials, path: &str) -> io::Result<()> {
     let text = fs::read_to_string(rt, path)?;
     for line in text.lines() {
@@ -28,7 +28,8 @@ fn include(rt: &HostRuntime, trials: &mut Trials, path: &str) -> io::Result<()> 
     Ok(())
 }
 
-/// Executes a line of a script. Prints the line if it is false, and prints the results that it produced.
+/// Executes a line of a script. Prints the line if it is a false statement, and prints the output that the line
+/// produced.
 fn take(rt: &HostRuntime, trials: &mut Trials, line: &str) -> io::Result<()> {
     if let Some(path) = line.strip_prefix("include ") {
         return include(rt, trials, path);

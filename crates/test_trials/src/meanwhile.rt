@@ -1,4 +1,4 @@
-//! Another program acts before each call of a command line in turn.
+//! Tests in which another program acts before each call of a command line in turn.
 use crate::command::{Came, CommandLine, come, copy};
 use crate::disk::{Act, Disk, Meanwhile};
 use std::alloc::Global;
@@ -36,7 +36,7 @@ fn bytes_of(alloc: Global, bytes: &[u8]) -> io::Result<Vec<u8>> {
 }
 
 /// Returns the action of a script line, or `None` if `word` is not a keyword. `rest` has the path and, after a space, a
-/// second path: the file whose bytes are written, or the path that the link contains.
+/// second path. This is the file whose bytes are written, or the path that the link contains.
 pub fn deed_of(alloc: Global, disk: &Disk, word: &str, rest: &str) -> io::Result<Option<Deed>> {
     let (path, from) = rest.split_once(' ').unwrap_or((rest, ""));
     let Some(act) = act_of(word) else {
@@ -50,8 +50,8 @@ pub fn deed_of(alloc: Global, disk: &Disk, word: &str, rest: &str) -> io::Result
     }))
 }
 
-/// Returns another path that named a file with the same bytes before. Returns `none` if `path` names no file, and
-/// `other` if no other path had these bytes.
+/// Returns a path that named a file with the same bytes in `old` as `path` names in `now`. Returns `none` if `path`
+/// names no file, and `other` if no path in `old` had these bytes.
 fn name_of<'a>(old: &'a Disk, now: &Disk, path: &str) -> &'a str {
     let Some(bytes) = now.bytes(path) else {
         return "none";
@@ -65,8 +65,9 @@ fn name_of<'a>(old: &'a Disk, now: &Disk, path: &str) -> &'a str {
     "other"
 }
 
-/// Appends what a path names: the path that a link contains, or the path that had the bytes of the file before. `*`
-/// marks a file that another program made. Owner, group and mode follow if they are not 0, 0 and 644.
+/// Appends a description of what `path` names: the path that a link contains, or the path that had the bytes of the
+/// file in `old`. `*` marks a file that another program created. Owner, group and mode follow if they are not 0, 0 and
+/// 644.
 fn tell_path(
     alloc: Global,
     text: &mut String,
@@ -99,7 +100,8 @@ fn tell_path(
     Ok(())
 }
 
-/// Returns the result of a command line as text: its status, what `paths` name, and the first line of its output.
+/// Returns the result of a command line as text: its status, what each of `paths` names, and the first line of its
+/// output.
 fn tell(alloc: Global, old: &Disk, came: &Came, paths: &str) -> io::Result<String> {
     let mut text = format!(in alloc; "{}", came.status)?;
     for path in paths.split(',') {
@@ -115,7 +117,7 @@ fn tell(alloc: Global, old: &Disk, came: &Came, paths: &str) -> io::Result<Strin
     Ok(text)
 }
 
-/// Returns the action before call number `before`.
+/// Returns the action of another program before call number `before`.
 fn act_before(alloc: Global, deed: &Deed, before: usize) -> io::Result<Meanwhile> {
     Ok(Meanwhile {
         before,

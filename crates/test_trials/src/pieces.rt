@@ -1,8 +1,8 @@
-//! Bytes as a script spells them.
+//! The spelling of bytes in a script.
 use std::io;
 
-/// Appends the bytes of `digits`, two hexadecimal digits for each byte, `count` times. Returns false if the digits
-/// spell no bytes.
+/// Appends `count` times the bytes of `digits`, which has two hexadecimal digits for each byte. Returns `false` if
+/// `digits` spells no bytes.
 fn add_piece(bytes: &mut Vec<u8>, count: usize, digits: &str) -> io::Result<bool> {
     let mut piece = [0_u8; 64];
     let length = digits.len() / 2;

@@ -1,4 +1,4 @@
-//! Each call of a command line fails in turn.
+//! Tests in which each call of a command line fails in turn.
 use crate::command::{Came, CommandLine, come, copy};
 use crate::disk::Disk;
 use std::alloc::Global;
@@ -8,7 +8,8 @@ use std::io;
 /// and reading and writing a standard stream.
 const TOLD: &str = "rwlsnIO";
 
-/// Whether the first files of the list have their new bytes and all others their old bytes, each of them completely.
+/// Returns whether the first files of `paths` have their new bytes and all others their old bytes, each of them
+/// completely.
 fn are_whole(old: &Disk, new: &Disk, now: &Disk, paths: &str) -> bool {
     let mut is_old = false;
     for path in paths.split(',') {
@@ -22,7 +23,8 @@ fn are_whole(old: &Disk, new: &Disk, now: &Disk, paths: &str) -> bool {
     true
 }
 
-/// Whether a command line has the same result as if no call failed, except that its message may be missing.
+/// Returns whether a command line has the same result as without a failing call, except that its message may be
+/// missing.
 fn is_done(good: &Came, came: &Came, paths: &str) -> bool {
     for path in paths.split(',') {
         if came.disk.bytes(path) != good.disk.bytes(path) {
@@ -35,7 +37,7 @@ fn is_done(good: &Came, came: &Came, paths: &str) -> bool {
         && (came.disk.err.as_str() == good.disk.err.as_str() || came.disk.err.is_empty())
 }
 
-/// Whether the failure of call `number` must be reported.
+/// Returns whether the failure of call `number` must be reported.
 fn is_told(good: &Came, number: usize) -> bool {
     match good.disk.log.as_bytes().get(number) {
         Some(letter) => TOLD.as_bytes().contains(letter),
@@ -43,9 +45,9 @@ fn is_told(good: &Came, number: usize) -> bool {
     }
 }
 
-/// Whether a command line stopped at call `number`. Its status is 4, it has a message, and its output is a prefix of
-/// the complete one. It has no more files than if no call fails. If the failure of the call need not be reported, one
-/// temporary file may remain.
+/// Returns whether a command line stopped at call `number`. Its status is then 4, it has a message, and its output is a
+/// prefix of the complete output. It has no more files than without a failing call. If the failure need not be
+/// reported, one more temporary file may remain.
 fn is_broken_off(good: &Came, came: &Came, number: usize) -> bool {
     let message = came.disk.err.as_str();
     let left = usize::from(!is_told(good, number));
@@ -59,12 +61,13 @@ fn is_broken_off(good: &Came, came: &Came, number: usize) -> bool {
         && came.disk.names.len() <= good.disk.names.len().saturating_add(left)
 }
 
-/// Executes a command line once without a failing call, and once more for each of its calls, which then fails. Returns
-/// whether every failing run was right, and the result without a failure.
+/// Executes a command line once without a failing call, and then once for each of its calls, where this call fails.
+/// Returns whether every failing run was correct, and the result without a failing call.
 ///
-/// A failing run is right in two cases:
-/// - It stopped with status 4, and the first files of `paths` are new and the others old.
-/// - The failure need not be reported, and its result is the one without a failure.
+/// A failing run is correct in two cases:
+///
+/// - It stopped with status 4. The first files of `paths` are new and the other files are old.
+/// - The failure need not be reported, and the result is the same as without a failing call.
 pub fn sweep(
     alloc: Global,
     old: &Disk,

@@ -1,4 +1,4 @@
-//! Actions on a machine.
+//! Actions on a machine, as lines of a scene spell them.
 use crate::scene::{asked, mount_blank, with_refusal};
 use crate::spelled::words;
 use pm_machine::{Machine, Stop};
@@ -40,7 +40,7 @@ fn step(alloc: Global, machine: &mut Machine) -> io::Result<String> {
     Ok(format!(in alloc; "step {text}")?)
 }
 
-/// Runs the machine: `COUNT OUTCOME`. If the outcome is `went`, the count is the limit.
+/// Runs the machine. `rest` is `COUNT OUTCOME`. If the outcome is `went`, the count is the limit.
 fn run(alloc: Global, machine: &mut Machine, rest: &str) -> io::Result<String> {
     let (count, wanted) = rest.split_once(' ').ok_or_else(unreadable)?;
     let limit = match wanted {
@@ -52,7 +52,7 @@ fn run(alloc: Global, machine: &mut Machine, rest: &str) -> io::Result<String> {
     Ok(format!(in alloc; "run {made} {text}")?)
 }
 
-/// Writes words from an address on: `A W ..`. Returns whether all were written.
+/// Writes words from an address on. `rest` is `A W ..`. Returns whether all words were written.
 fn poke(alloc: Global, machine: &mut Machine, rest: &str) -> io::Result<bool> {
     let (address, text) = rest.split_once(' ').ok_or_else(unreadable)?;
     let mut address = word(address)?;
@@ -64,14 +64,14 @@ fn poke(alloc: Global, machine: &mut Machine, rest: &str) -> io::Result<bool> {
     Ok(all)
 }
 
-/// Mounts a blank disk: `UNIT BLOCKS`.
+/// Mounts a disk without files. `rest` is `UNIT BLOCKS`.
 fn disk(alloc: Global, machine: &mut Machine, line: &str, rest: &str) -> io::Result<String> {
     let (unit, blocks) = asked(rest).split_once(' ').ok_or_else(unreadable)?;
     let refusal = mount_blank(alloc, machine, byte(unit)?, word(blocks)?)?;
     with_refusal(alloc, asked(line), refusal)
 }
 
-/// Removes a disk: `UNIT BLOCKS`, or `UNIT none`.
+/// Removes a disk. `rest` is `UNIT BLOCKS`, or `UNIT none`.
 fn eject(alloc: Global, machine: &mut Machine, rest: &str) -> io::Result<String> {
     let (unit, _) = rest.split_once(' ').ok_or_else(unreadable)?;
     match machine.eject(byte(unit)?) {
@@ -83,7 +83,7 @@ fn eject(alloc: Global, machine: &mut Machine, rest: &str) -> io::Result<String>
     }
 }
 
-/// Presses keys.
+/// Appends bytes to the console input queue.
 fn keys(alloc: Global, machine: &mut Machine, line: &str, rest: &str) -> io::Result<String> {
     for byte in hex_bytes(alloc, rest)?.iter() {
         machine.key(*byte)?;
@@ -91,7 +91,7 @@ fn keys(alloc: Global, machine: &mut Machine, line: &str, rest: &str) -> io::Res
     Ok(String::from_str(alloc, line)?)
 }
 
-/// Writes words and returns the line, with `refused` if one was not written.
+/// Writes words, and returns the line. The line ends with `refused` if a word was not written.
 fn pokes(alloc: Global, machine: &mut Machine, line: &str, rest: &str) -> io::Result<String> {
     let all = poke(alloc, machine, asked(rest))?;
     let mut answer = String::from_str(alloc, asked(line))?;
@@ -101,7 +101,8 @@ fn pokes(alloc: Global, machine: &mut Machine, line: &str, rest: &str) -> io::Re
     Ok(answer)
 }
 
-/// Whether a line with this word is an action on a machine, not a view.
+/// Returns whether a line with the first word `word` is an action on a machine. Any other line prints a part of the
+/// state.
 pub fn is_event(word: &str) -> bool {
     matches!(word, "step" | "run" | "disk" | "eject" | "key" | "poke")
 }

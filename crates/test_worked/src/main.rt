@@ -1,7 +1,7 @@
-//! A test program of CI. It compares worked examples, written manually from the rules of docs/, with the machine. It
-//! prints for each file of data/ how many agree. For the first one that does not agree it prints the line, the expected
-//! result and the actual one. The head of data/integers.rows states how test rows are written (`INN 8B | 1 8 3 | 1`).
-//! The head of data/machine.rows states how scenes are written; an empty line ends a scene.
+//! A test program of CI. It compares worked examples, which were written manually from the rules of docs/, with the
+//! machine. For each file of data/, it prints how many examples agree. For the first that does not agree, it prints the
+//! line, the expected result and the actual result. The head of data/integers.rows states the form of test rows. The
+//! head of data/machine.rows states the form of scenes.
 #![tactic(auto)]
 
 mod code_file;
@@ -18,7 +18,7 @@ mod views;
 use report::replay;
 use std::{fs, io};
 
-/// The files. The test rows of the last file are wrong on purpose, except the first one of each kind.
+/// The files. The test rows of the last file have wrong results on purpose, except the first row of each kind.
 const FILES: [&str; 8] = [
     "operands.rows",
     "integers.rows",

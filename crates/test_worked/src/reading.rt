@@ -1,4 +1,5 @@
-//! Test rows of one instruction that is decoded: `read PLACE HEX | OPCODE A B C LONG START COUNT LEN`, or the fault.
+//! Test rows of one decoded instruction: `read PLACE HEX | OPCODE A B C LONG START COUNT LEN`, or the fault instead of
+//! the fields.
 use pm_opcode::{Decode, Instr, decode, encode};
 use std::alloc::{AllocError, Global};
 use std::io;
@@ -20,8 +21,8 @@ fn fault(fault: Decode) -> &'static str {
     }
 }
 
-/// Returns the actual result if a test row does not agree. A decoded instruction must be encoded as the same bytes
-/// again.
+/// Returns the actual result if the test row does not agree, and `None` otherwise. A decoded instruction must also be
+/// encoded as the same bytes.
 pub fn differing(alloc: Global, line: &str) -> io::Result<Option<String>> {
     let (given, wanted) = line.split_once('|').ok_or_else(unreadable)?;
     let given = given.strip_prefix("read ").ok_or_else(unreadable)?;

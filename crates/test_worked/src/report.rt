@@ -1,4 +1,4 @@
-//! The replay of a file: each test row and each scene, and the report on the first one that does not agree.
+//! The execution of the test rows and scenes of a file, and the report on the first one that does not agree.
 use crate::scene::Scene;
 use crate::{reading, row};
 use std::alloc::Global;
@@ -6,7 +6,7 @@ use std::io;
 use std::io::ErrorKind;
 use test_parts::Report;
 
-/// The state of the replay of a file.
+/// The state of the execution of a file.
 #[derive(Drop)]
 struct FileRun {
     alloc: Global,
@@ -15,7 +15,7 @@ struct FileRun {
     scene: Scene,
 }
 
-/// Returns the actual result if it is not that of the line. A line that cannot be read never agrees.
+/// Returns the actual result if it differs from the result in the line. A line that cannot be read always differs.
 fn differing(alloc: Global, came: io::Result<Option<String>>) -> io::Result<Option<String>> {
     match came {
         Err(error) if error.kind() == ErrorKind::InvalidData => Ok(Some(String::from_str(
@@ -27,7 +27,7 @@ fn differing(alloc: Global, came: io::Result<Option<String>>) -> io::Result<Opti
 }
 
 impl FileRun {
-    /// Counts a line that does not agree, with its number, the expected result and the actual one.
+    /// Counts a line that does not agree, and records its number, the expected result and the actual result.
     fn differs(&mut self, number: usize, line: &str, came: &str) -> io::Result<()> {
         let told = format!(in self.alloc;
             "  line {number}\n  expected: {line}\n  came:     {came}\n"
@@ -50,7 +50,7 @@ impl FileRun {
         Ok(())
     }
 
-    /// Executes a line of a scene if all its lines before agree.
+    /// Executes a line of a scene if all earlier lines of the scene agree.
     fn go_on(&mut self, number: usize, line: &str) -> io::Result<()> {
         if self.scene.fails {
             return Ok(());
@@ -64,7 +64,7 @@ impl FileRun {
         Ok(())
     }
 
-    /// Counts the scene that ends, if there is one.
+    /// Counts the scene that ends, if a scene has begun.
     fn end(&mut self) {
         if self.scene.goes && !self.scene.fails {
             self.report.agrees();

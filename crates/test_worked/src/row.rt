@@ -15,7 +15,7 @@ const WORDS: u16 = 8;
 /// The end of the stack.
 const STACK_END: u16 = 65504;
 
-/// Adds the words from SP up.
+/// Appends the words from SP on to `text`.
 fn add_stack(alloc: Global, machine: &Machine, text: &mut String) -> Result<(), AllocError> {
     let sp = machine.registers().sp;
     for place in 0..WORDS {
@@ -30,7 +30,7 @@ fn add_stack(alloc: Global, machine: &Machine, text: &mut String) -> Result<(), 
     Ok(())
 }
 
-/// Adds the first byte that differs in two memories.
+/// Appends the first byte that differs in the memories `there` and `wanted` to `text`.
 fn add_byte(
     alloc: Global,
     there: &Memory,
@@ -46,7 +46,7 @@ fn add_byte(
     Ok(())
 }
 
-/// Adds the output if it is not the expected output.
+/// Appends the output `there` to `text` if it is not the expected output `wanted`.
 fn add_output(
     alloc: Global,
     what: &str,
@@ -93,7 +93,7 @@ fn told(
     Ok(text)
 }
 
-/// Whether the machine is as expected.
+/// Returns whether the state of the machine is the expected state.
 fn agrees(machine: &Machine, wanted: &Side) -> bool {
     machine.registers() == wanted.registers
         && machine.memory().bytes() == wanted.memory.bytes()
@@ -101,7 +101,8 @@ fn agrees(machine: &Machine, wanted: &Side) -> bool {
         && machine.printer() == wanted.printer.as_slice()
 }
 
-/// Returns the bytes of an instruction. The mnemonic before them must be that of the table; `-` means none.
+/// Returns the bytes of an instruction. The mnemonic before them must be that of the table; `-` means that there is no
+/// mnemonic.
 fn code(alloc: Global, text: &str) -> io::Result<Vec<u8>> {
     let (name, digits) = text.split_once(' ').ok_or_else(unreadable)?;
     let code = hex_bytes(alloc, digits)?;
@@ -114,7 +115,7 @@ fn code(alloc: Global, text: &str) -> io::Result<Vec<u8>> {
     }
 }
 
-/// Returns the actual result if a test row does not agree.
+/// Returns the actual result if the test row does not agree, and `None` otherwise.
 pub fn differing(alloc: Global, line: &str) -> io::Result<Option<String>> {
     let (instruction, sides) = line.split_once('|').ok_or_else(unreadable)?;
     let (before, after) = sides.split_once('|').ok_or_else(unreadable)?;

@@ -1,4 +1,4 @@
-//! Scenes: a machine on raw p-code or on a volume, and lines that are executed one after the other. The result of a
+//! Scenes: a machine with raw p-code or with a volume, and lines that are executed one after the other. The result of a
 //! line that agrees is the line itself.
 use crate::code_file::volume;
 use crate::events::{is_event, on_machine};
@@ -12,12 +12,12 @@ use test_parts::{Segment, byte, hex_bytes, number, unreadable};
 /// A scene.
 #[derive(Drop)]
 pub struct Scene {
-    /// Whether it has begun.
+    /// Whether the scene has begun.
     pub goes: bool,
-    /// Whether one of its lines did not agree.
+    /// Whether a line of the scene did not agree.
     pub fails: bool,
     machine: Option<Machine>,
-    /// The raw p-code of the last scene that has some.
+    /// The raw p-code of the last scene that states raw p-code.
     code: Vec<u8>,
     segments: Vec<Segment>,
     kind: u8,
@@ -43,7 +43,7 @@ pub fn mount(machine: &mut Machine, unit: u8, volume: Volume) -> Option<u8> {
     }
 }
 
-/// Returns a line with the number of its refusal after it, if there is one.
+/// Returns `line`, followed by the number of the refusal if `refusal` is not `None`.
 pub fn with_refusal(alloc: Global, line: &str, refusal: Option<u8>) -> io::Result<String> {
     let mut text = String::from_str(alloc, line)?;
     if let Some(number) = refusal {
@@ -90,7 +90,7 @@ impl Scene {
         Ok(())
     }
 
-    /// Sets the code of a slot: `N HEX`.
+    /// Sets the code of a slot. `rest` is `N HEX`.
     fn add_segment(&mut self, alloc: Global, rest: &str) -> io::Result<()> {
         let (slot, digits) = rest.split_once(' ').ok_or_else(unreadable)?;
         let slot = number(slot)?;
@@ -105,7 +105,7 @@ impl Scene {
         Ok(())
     }
 
-    /// Boots a machine from a volume on unit 4: `UNIT NAME`. Returns the fault if the boot is refused.
+    /// Boots a machine from the volume on a unit. `rest` is `UNIT NAME`. Returns the fault if the boot is refused.
     fn boot(&mut self, alloc: Global, rest: &str) -> io::Result<Option<BootFault>> {
         let (unit, name) = asked(rest).split_once(' ').ok_or_else(unreadable)?;
         let unit = byte(unit)?;
@@ -120,7 +120,7 @@ impl Scene {
         }
     }
 
-    /// Mounts a volume with the segments: `UNIT`.
+    /// Mounts a volume that has the segments. `rest` is `UNIT`.
     fn mount(&mut self, alloc: Global, rest: &str) -> io::Result<Option<u8>> {
         let unit = byte(asked(rest))?;
         let volume = volume(alloc, &self.segments, self.kind)?;
@@ -175,7 +175,7 @@ impl Scene {
         }
     }
 
-    /// Returns the actual result if a line does not agree.
+    /// Returns the actual result if the line does not agree, and `None` otherwise.
     pub fn differing(&mut self, alloc: Global, line: &str) -> io::Result<Option<String>> {
         let answer = self.answer(alloc, line)?;
         if answer.as_str() == line {

@@ -1,4 +1,4 @@
-//! The two sides of a test row: the input and the expected result.
+//! The two sides of a test row: the input, and the expected result.
 use crate::spelled::words;
 use pm_machine::Registers;
 use pm_words::Memory;
@@ -32,7 +32,7 @@ pub struct Side {
     pub outcome: String,
     /// The bytes in the console input before the step.
     pub keys: Vec<u8>,
-    /// Blank disks: the unit and the number of blocks.
+    /// Disks without files: the unit and the number of blocks of each.
     pub disks: Vec<(u8, u16)>,
     pub console: Vec<u8>,
     pub printer: Vec<u8>,
@@ -71,8 +71,8 @@ impl Side {
         self.write(place, code)
     }
 
-    /// Returns the expected state after an instruction of `length` bytes. After an error or a wait it is the state
-    /// before, changed only by the pieces of the test row.
+    /// Returns the expected state after an instruction of `length` bytes. After an error or a wait, it is the state
+    /// before the instruction, changed only as the pieces of the test row state.
     pub fn wanted(alloc: Global, before: &Side, length: u16, text: &str) -> io::Result<Side> {
         let mut side = Side::new(alloc)?;
         side.registers = before.registers;
@@ -126,7 +126,8 @@ impl Side {
         Ok(())
     }
 
-    /// Applies a piece: `A: HEX` for bytes of memory, a register, or bytes of the console or of another stream.
+    /// Applies one piece of a test row: `A: HEX` for bytes of memory, a register, or bytes of the console or of another
+    /// stream.
     fn put(&mut self, alloc: Global, piece: &str) -> io::Result<()> {
         if let Some((address, digits)) = piece.split_once(':') {
             let bytes = hex_bytes(alloc, digits.trim())?;

@@ -1,4 +1,4 @@
-//! The words of a test row.
+//! The spelling of words in a test row.
 use std::alloc::Global;
 use std::io;
 use test_parts::{number, unreadable, word};

@@ -1,4 +1,4 @@
-//! A machine in the state before a test row. It reaches this state only by public calls: pokes and six steps.
+//! A machine in the state before a test row. Only public calls lead to this state: pokes and six steps.
 use crate::scene::mount_blank;
 use crate::sides::Side;
 use pm_machine::{Machine, Stop};
@@ -6,10 +6,10 @@ use std::alloc::Global;
 use std::io;
 use test_parts::unreadable;
 
-/// RNP 0 in the frame of the system. The dynamic link and the IPC of this frame are overwritten.
+/// RNP 0, executed in the frame of the system. The dynamic link and the IPC of this frame are overwritten before.
 const RETURN: &[u8] = &[0xAD, 0x00];
 
-/// The address of this code.
+/// The address of the code `RETURN`.
 const RETURNS: u16 = 1024;
 
 /// The address of the second frame. The word below it is BASE.
@@ -21,7 +21,7 @@ const MARKED: u16 = 5100;
 /// The address of the code to which the first return leads.
 const CODE: u16 = 1000;
 
-/// Returns the first word of an LDCI of a unit for which UNITCLEAR results in this IORESULT: unit 1, 0 or 3.
+/// Returns the first word of an LDCI of a unit for which UNITCLEAR sets IORESULT to `ioresult`. The unit is 1, 0 or 3.
 fn load_unit(ioresult: u16) -> io::Result<u16> {
     match ioresult {
         0 => Ok(0x01C7),
@@ -58,10 +58,11 @@ fn put_code(machine: &mut Machine, side: &Side) -> io::Result<()> {
     Ok(())
 }
 
-/// The words that are overwritten on the way: the frames, the code, and words below the end of the stack.
+/// The ranges of words that are overwritten before the test row: the frames, the code, and words below the end of the
+/// stack.
 const WRITTEN: [(u16, u16); 4] = [(CODE, 6), (RETURNS, 1), (FRAME - 2, 52), (65492, 6)];
 
-/// Sets the memory to that of the test row. Words that the row does not write are zero.
+/// Sets the memory to the memory of the test row. Words that the row does not write are zero.
 fn put_memory(machine: &mut Machine, side: &Side) {
     for (first, count) in WRITTEN {
         for n in 0..count {
@@ -73,7 +74,7 @@ fn put_memory(machine: &mut Machine, side: &Side) {
     }
 }
 
-/// Brings a new machine into the state.
+/// Leads the new machine `machine` to the state `side`.
 fn put_state(alloc: Global, machine: &mut Machine, side: &Side) -> io::Result<()> {
     put_code(machine, side)?;
     if machine.run(6)? != (6, Stop::Went) || machine.registers() != side.registers {

@@ -1,4 +1,4 @@
-//! Views of a machine.
+//! Lines of a scene that print a part of a machine's state, here called views.
 use pm_machine::Machine;
 use std::alloc::{AllocError, Global};
 use std::io;
@@ -25,7 +25,8 @@ fn count(text: &str) -> usize {
     text.split(' ').count()
 }
 
-/// Returns the first of the registers IPC, SP, MP, BASE, NP and IORESULT, as many as the view contains.
+/// Returns the first of the registers IPC, SP, MP, BASE, NP and IORESULT. Their number is the number of words in
+/// `rest`.
 fn registers(alloc: Global, machine: &Machine, rest: &str) -> io::Result<String> {
     let r = machine.registers();
     let all = [r.ipc, r.sp, r.mp, r.base, r.np, r.ioresult];
@@ -33,7 +34,7 @@ fn registers(alloc: Global, machine: &Machine, rest: &str) -> io::Result<String>
     Ok(numbers(alloc, some)?)
 }
 
-/// Returns `count` words from an address on.
+/// Returns `count` words of memory from the address `address` on.
 fn words(
     alloc: Global,
     machine: &Machine,
@@ -51,7 +52,7 @@ fn words(
     Ok(words)
 }
 
-/// Returns the words from an address on, as many as the view contains: `A W ..`.
+/// Returns words of memory from an address on. `rest` is `A W ..`, and states their number.
 fn words_at(alloc: Global, machine: &Machine, rest: &str) -> io::Result<String> {
     let (address, asked) = rest.split_once(' ').ok_or_else(unreadable)?;
     let there = words(alloc, machine, word(address)?, count(asked))?;
@@ -59,7 +60,7 @@ fn words_at(alloc: Global, machine: &Machine, rest: &str) -> io::Result<String> 
     Ok(format!(in alloc; "{address} {text}")?)
 }
 
-/// Returns the bytes from an address on, as many as the view contains: `A HEX`.
+/// Returns bytes of memory from an address on. `rest` is `A HEX`, and states their number.
 fn bytes_at(alloc: Global, machine: &Machine, rest: &str) -> io::Result<String> {
     let (address, asked) = rest.split_once(' ').ok_or_else(unreadable)?;
     let begin = number(address)?;
@@ -73,8 +74,8 @@ fn bytes_at(alloc: Global, machine: &Machine, rest: &str) -> io::Result<String> 
     Ok(format!(in alloc; "{address} {text}")?)
 }
 
-/// Returns the address of the segment of a slot, the number of its calls, and the number of its keeps: `N A CALLS
-/// KEEPS`, or `N none`.
+/// Returns the address of the segment of a slot, the number of its calls, and the number of its keeps. `rest` is `N A
+/// CALLS KEEPS`, or `N none`.
 fn place(alloc: Global, machine: &Machine, rest: &str) -> io::Result<String> {
     let (slot, _) = rest.split_once(' ').ok_or_else(unreadable)?;
     let n = byte(slot)?;
@@ -88,7 +89,7 @@ fn place(alloc: Global, machine: &Machine, rest: &str) -> io::Result<String> {
     }
 }
 
-/// Returns the content of a view, without its first word.
+/// Returns the contents of a view, without its first word.
 fn shown(alloc: Global, machine: &Machine, word: &str, rest: &str) -> io::Result<String> {
     let r = machine.registers();
     let one = match word {
@@ -101,7 +102,7 @@ fn shown(alloc: Global, machine: &Machine, word: &str, rest: &str) -> io::Result
     Ok(numbers(alloc, &[one])?)
 }
 
-/// Returns the content of a view that is not a single register.
+/// Returns the contents of a view that is not a single register.
 fn many(alloc: Global, machine: &Machine, word: &str, rest: &str) -> io::Result<String> {
     let r = machine.registers();
     match word {

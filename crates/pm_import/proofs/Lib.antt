@@ -1,2 +1,3 @@
 pub mod Computed
 pub mod Cutting
+pub mod Taken

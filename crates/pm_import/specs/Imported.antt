@@ -1,5 +1,5 @@
 -- The files that a volume gets from a folder.
-use Rattle.std.specs.Prelude.{◌≡◌, ◌⊎◌, ℕ, zero, suc, List, [], ◌∷◌, ◌++◌, Option, None, Some, Result, Ok, Err, codes, map}
+use Rattle.std.specs.Prelude.{◌≡◌, ◌⊎◌, ℕ, ◌==◌, List, [], ◌∷◌, ◌++◌, Option, None, Some, Result, Ok, Err, codes, map, if◌then◌else◌}
 use Rattle.pm_files.specs.Folders.{MayFail}
 use Rattle.pm_files.specs.Held.{Files, HoldsFile}
 use Rattle.pm_files.specs.declared.fault.DiskFault.{DiskFault}
@@ -42,12 +42,16 @@ abbrev pub with_left : List NotAdded → List ℕ → Option Why → List NotAdd
 with_left left name None = left
 with_left left name (Some why) = left ++ record { name = name; why = why } ∷ []
 
+-- A line that is not empty: its file is added, or it is one more of the files that were not added.
+abbrev pub TakesFilled : Files → Ends → List ℕ → List ℕ → List ℕ → List NotAdded → List NotAdded → Type 0
+TakesFilled folder ends line image next earlier left = (reason : Option Why)
+    × TakesListed folder ends image (listed_of line) next reason
+    × (left ≡ with_left earlier (name_for line (listed_of line)) reason)
+
 -- One line: an empty line has no effect.
 abbrev pub TakesLine : Files → Ends → List ℕ → List ℕ → List ℕ → List NotAdded → List NotAdded → Type 0
 TakesLine folder ends [] image next earlier left = (next ≡ image) × (left ≡ earlier)
-TakesLine folder ends (c ∷ line) image next earlier left = (reason : Option Why)
-    × TakesListed folder ends image (listed_of (c ∷ line)) next reason
-    × (left ≡ with_left earlier (name_for (c ∷ line) (listed_of (c ∷ line))) reason)
+TakesLine folder ends (c ∷ line) image next earlier left = TakesFilled folder ends (c ∷ line) image next earlier left
 
 -- The lines, in their order.
 abbrev pub TakesLines : Files → Ends → List (List ℕ) → List ℕ → List ℕ → List NotAdded → List NotAdded → Type 0
@@ -58,8 +62,7 @@ TakesLines folder ends (line ∷ lines) image last earlier left = (next : List �
 -- The volume gets this last date. A date that is 0 or not valid has no effect.
 abbrev pub with_date : List ℕ → Option ℕ → List ℕ
 with_date image None = image
-with_date image (Some zero) = image
-with_date image (Some (suc date)) = dated_image image (suc date)
+with_date image (Some date) = if date == 0 then image else dated_image image date
 
 -- The lines after the first are the files; the first line has the last date.
 abbrev pub TakesList : Files → Ends → List (List ℕ) → List ℕ → List ℕ → List NotAdded → Type 0

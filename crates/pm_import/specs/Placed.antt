@@ -1,7 +1,7 @@
 -- What a file of a folder is on the volume.
-use Rattle.std.specs.Prelude.{ℕ, ◌&&◌, nat_le, Bool, false, not, List, length, Option, None, Some}
+use Rattle.std.specs.Prelude.{ℕ, ◌&&◌, nat_le, Bool, false, List, length, Option, None, Some}
 use Rattle.std.specs.Prelude.{Result, Ok, Err, if◌then◌else◌}
-use Rattle.std.specs.Str.{bytes_eq, is_utf8}
+use Rattle.std.specs.Str.{bytes_eq}
 use Rattle.percent_encoding.specs.Percent.{percent_decode}
 use Rattle.pm_filer.specs.Filed.{bytes_of_file}
 use Rattle.pm_filer.specs.declared.fault.FilerFault.{FilerFault}
@@ -10,7 +10,7 @@ use Rattle.pm_folder.specs.declared.contents.Ends.{Ends}
 use Rattle.pm_folder.specs.declared.contents.How.{How}
 use Rattle.pm_folder.specs.declared.contents.How.TheVariants as how
 use Rattle.pm_import.specs.Feeds.{with_feeds}
-use Rattle.pm_import.specs.Listed.{Listed}
+use Rattle.pm_import.specs.Listed.{Listed, utf8_of}
 use Rattle.pm_textfile.specs.Laying.{text_file}
 use Rattle.pm_textfile.specs.Reading.{text_of_file}
 use Rattle.pm_textfile.specs.Writing.{text_fault}
@@ -49,14 +49,14 @@ abbrev pub of_volume : Result (List ℕ) VolumeFault → Result (List ℕ) Filer
 of_volume (Ok image) = Ok image
 of_volume (Err fault) = Err (faults.Volume fault)
 
-abbrev pub placed_named : List ℕ → List ℕ → Listed → List ℕ → Result (List ℕ) FilerFault
-placed_named image name l bytes = if not (is_utf8 name) then Err (faults.Volume BadName)
-    else if has_same image name l.how bytes then Ok image
+abbrev pub placed_named : List ℕ → Option (List ℕ) → Listed → List ℕ → Result (List ℕ) FilerFault
+placed_named image None l bytes = Err (faults.Volume BadName)
+placed_named image (Some name) l bytes = if has_same image name l.how bytes then Ok image
     else of_volume (added image name l.kind bytes l.date)
 
 abbrev pub placed_bytes : List ℕ → Listed → Result (List ℕ) FilerFault → Result (List ℕ) FilerFault
 placed_bytes image l (Err fault) = Err fault
-placed_bytes image l (Ok bytes) = placed_named image (percent_decode l.name) l bytes
+placed_bytes image l (Ok bytes) = placed_named image (utf8_of (percent_decode l.name)) l bytes
 
 -- The image after a file of a folder was added, with the name, kind and date of its line. It is unchanged if it has a
 -- file of this name with the same contents. `contents` is what the file in the folder contains.

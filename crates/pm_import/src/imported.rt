@@ -1,7 +1,8 @@
 //! The files of a folder, read and added to a volume.
 ghost use Rattle.std.specs.Prelude.{◌≡◌, [], IfOk, None, Some, OnErr, OnOk, map};
 ghost use Rattle.pm_files.specs.Folders.{IsAt};
-ghost use Rattle.pm_import.specs.Imported.{Imports, Takes, TakesLine, TakesLines, TakesList, TakesListed};
+ghost use Rattle.pm_import.specs.Imported.{Imports, Takes, TakesFilled, TakesLine, TakesLines, TakesList};
+ghost use Rattle.pm_import.specs.Imported.{TakesListed};
 ghost use Rattle.pm_import.specs.Imported.{left_seen, with_date, with_left};
 ghost use Rattle.pm_import.specs.Listed as listed;
 ghost use Rattle.pm_import.specs.Placed as placed;
@@ -99,7 +100,33 @@ fn push_left(
     Ok(())
 }
 
-/// Adds the file of a line of `LIST` to a volume. If it cannot be added, appends it to `left`.
+/// Adds the file of a line of `LIST` to a volume. If it cannot be added, appends it to `left`. The line is not empty.
+#[tactic(auto, using(crate::proofs::Taken::filled_none, crate::proofs::Taken::filled_some))]
+fn take_filled<F: Folder>(
+    alloc: Global,
+    folder: &mut F,
+    volume: &mut Volume,
+    line: &[u8],
+    ends: Ends,
+    left: &mut Vec<Left>,
+) -> Result<(), DiskFault>
+    ensures takes { OnOk result (TakesFilled (F.files folder.old) ends line.now volume.old volume.new
+        (map left_seen left.old.items) (map left_seen left.new.items)) }
+    ensures folder { F.files folder.new ≡ F.files folder.old }
+    ensures at { F.at folder.new ≡ F.at folder.old }
+    ensures volume { IsVolume volume.old → IsVolume volume.new }
+{
+    match listed_of(line) {
+        Some(listed) => {
+            let why = take_listed(alloc, folder, volume, &listed, ends)?;
+            push_left(alloc, left, listed.host.as_bytes(), why)
+        }
+        None => push_left(alloc, left, line, Some(Why::Line)),
+    }
+}
+
+/// Adds the file of a line of `LIST` to a volume. If it cannot be added, appends it to `left`. An empty line has no
+/// effect.
 fn take_line<F: Folder>(
     alloc: Global,
     folder: &mut F,
@@ -114,15 +141,9 @@ fn take_line<F: Folder>(
     ensures at { F.at folder.new ≡ F.at folder.old }
     ensures volume { IsVolume volume.old → IsVolume volume.new }
 {
-    if line.is_empty() {
-        return Ok(());
-    }
-    match listed_of(line) {
-        Some(listed) => {
-            let why = take_listed(alloc, folder, volume, &listed, ends)?;
-            push_left(alloc, left, listed.host.as_bytes(), why)
-        }
-        None => push_left(alloc, left, line, Some(Why::Line)),
+    match line {
+        [] => Ok(()),
+        [_, ..] => take_filled(alloc, folder, volume, line, ends, left),
     }
 }
 
@@ -155,9 +176,36 @@ fn set_date(volume: &mut Volume, date: Option<u16>)
     ensures date { volume.new ≡ with_date volume.old date }
     ensures volume { IsVolume volume.old → IsVolume volume.new }
 {
-    match date {
-        None | Some(0) => {}
-        Some(date) => volume.set_date(date),
+    if let Some(date) = date
+        && date != 0
+    {
+        volume.set_date(date);
+    }
+}
+
+/// Adds the files of the lines of `LIST` to a volume, and sets its last date. The first line has the date, and each
+/// other line a file. Returns the files that were not added.
+fn take_list<F: Folder>(
+    alloc: Global,
+    folder: &mut F,
+    volume: &mut Volume,
+    lines: &[&[u8]],
+    ends: Ends,
+) -> Result<Vec<Left>, DiskFault>
+    ensures takes { IfOk result (λ left. TakesList (F.files folder.old) ends (map (λ line. line.now) lines.now)
+        volume.old volume.new (map left_seen left.items)) }
+    ensures folder { F.files folder.new ≡ F.files folder.old }
+    ensures at { F.at folder.new ≡ F.at folder.old }
+    ensures volume { IsVolume volume.old → IsVolume volume.new }
+{
+    let mut left = Vec::new(alloc);
+    match lines {
+        [] => Ok(left),
+        [first, files @ ..] => {
+            take_lines(alloc, folder, volume, files, ends, &mut left)?;
+            set_date(volume, last_date_in(first));
+            Ok(left)
+        }
     }
 }
 
@@ -187,10 +235,5 @@ pub fn import<F: Folder>(
     folder.open(path)?;
     let list = folder.read(alloc, LIST)?;
     let lines = lines_of(alloc, &list)?;
-    let mut left = Vec::new(alloc);
-    if let [first, files @ ..] = lines.as_slice() {
-        take_lines(alloc, folder, volume, files, ends, &mut left)?;
-        set_date(volume, last_date_in(first));
-    }
-    Ok(left)
+    take_list(alloc, folder, volume, &lines, ends)
 }

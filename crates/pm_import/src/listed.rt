@@ -167,7 +167,7 @@ fn first_or_all(bytes: &[u8], mark: u8) -> &[u8]
 }
 
 /// Returns the same bytes as a text. `None` if they are not UTF-8.
-fn utf8_of(bytes: &[u8]) -> Option<&str>
+pub(crate) fn utf8_of(bytes: &[u8]) -> Option<&str>
     ensures text { option_map (λ text. text.now) result ≡ listed.utf8_of bytes.now }
 {
     match str::from_utf8(bytes) {

@@ -1,17 +1,17 @@
 //! A file of a folder, added to a volume.
 ghost use Rattle.std.specs.Prelude.{◌≡◌, ◌≢◌, Ok, Err, IfErr, IfOk, OnErr, OnOk, option_map, string_bytes};
-ghost use Rattle.std.specs.Prelude.{false, true};
-ghost use Rattle.std.specs.Str.{is_utf8};
+ghost use Rattle.std.specs.Prelude.{None, Some};
 ghost use Rattle.percent_encoding.specs.Percent.{percent_decode};
 ghost use Rattle.pm_filer.specs.Filed.{bytes_of_file};
-ghost use Rattle.pm_import.specs.Listed.{seen};
+ghost use Rattle.pm_import.specs.Listed.{seen, utf8_of};
 ghost use Rattle.pm_import.specs.Placed as placed;
 ghost use Rattle.pm_volume.specs.Directory.{IsVolume};
 ghost use Rattle.pm_volume.specs.Files.{file_named};
+ghost use Rattle.pm_volume.specs.Made.{added};
 ghost use Rattle.pm_volume.specs.declared.fault.VolumeFault.TheVariants.{BadName};
 
 use crate::feeds::with_feeds;
-use crate::listed::Listed;
+use crate::listed::{Listed, utf8_of};
 use percent_encoding::percent_decode;
 use pm_filer::FilerFault;
 use pm_folder::{Ends, How};
@@ -89,19 +89,60 @@ fn has_same(
 /// # Errors
 ///
 /// `BadName` if the name is not UTF-8. `NoMemory`.
-#[tactic(auto, using(crate::proofs::Names::utf8))]
 fn decoded(alloc: Global, name: &[u8]) -> Result<String, FilerFault>
-    ensures name { IfOk result (λ decoded. string_bytes decoded ≡ percent_decode name.now) }
-    ensures utf8 { OnOk result (is_utf8 (percent_decode name.now) ≡ true) }
+    ensures name { IfOk result (λ decoded. utf8_of (percent_decode name.now) ≡ Some (string_bytes decoded)) }
     ensures refusal { IfErr result (λ fault. fault ≢ FilerFault.NoMemory
-        → (fault ≡ FilerFault.Volume BadName) × (is_utf8 (percent_decode name.now) ≡ false)) }
+        → (fault ≡ FilerFault.Volume BadName) × (utf8_of (percent_decode name.now) ≡ None)) }
 {
     let mut bytes = Vec::new(alloc);
     percent_decode(name).append_to(&mut bytes)?;
-    match String::from_utf8(bytes) {
-        Ok(name) => Ok(name),
-        Err(_) => Err(FilerFault::Volume(VolumeFault::BadName)),
+    match utf8_of(&bytes) {
+        Some(name) => Ok(String::from_str(alloc, name)?),
+        None => Err(FilerFault::Volume(VolumeFault::BadName)),
     }
+}
+
+/// Adds a file to a volume.
+#[tactic(auto, using(pm_filer::proofs::Made::made))]
+fn add(
+    volume: &mut Volume,
+    name: &str,
+    kind: u8,
+    bytes: &[u8],
+    date: u16,
+) -> Result<(), VolumeFault>
+    ensures done { OnOk result (added volume.old name.now kind bytes.now date ≡ Ok volume.new) }
+    ensures refusal { IfErr result (λ fault. added volume.old name.now kind bytes.now date ≡ Err fault) }
+    ensures unchanged { OnErr result (volume.new ≡ volume.old) }
+    ensures volume { IsVolume volume.old → IsVolume volume.new }
+{
+    match volume.add(name, kind, bytes, date) {
+        Ok(_) => Ok(()),
+        Err(fault) => Err(fault),
+    }
+}
+
+/// Adds a file to a volume, with this name and the kind and date of its line. If the volume has a file of this name with
+/// the same contents, nothing changes.
+fn place_named(
+    alloc: Global,
+    volume: &mut Volume,
+    name: &str,
+    line: &Listed<'_>,
+    bytes: &[u8],
+) -> Result<(), FilerFault>
+    ensures placed { OnOk result
+        (placed.placed_named volume.old (Some name.now) (seen line.now) bytes.now ≡ Ok volume.new) }
+    ensures refusal { IfErr result (λ fault. fault ≢ FilerFault.NoMemory
+        → placed.placed_named volume.old (Some name.now) (seen line.now) bytes.now ≡ Err fault) }
+    ensures unchanged { OnErr result (volume.new ≡ volume.old) }
+    ensures volume { IsVolume volume.old → IsVolume volume.new }
+{
+    if has_same(alloc, volume, name, line.how, bytes)? {
+        return Ok(());
+    }
+    add(volume, name, line.kind, bytes, line.date)?;
+    Ok(())
 }
 
 /// Adds a file of a folder to a volume, with the name, kind and date of its line. If the volume has a file of this name
@@ -130,9 +171,5 @@ pub(crate) fn place(
 {
     let bytes = stored_for(alloc, line.how, ends, contents)?;
     let name = decoded(alloc, line.name)?;
-    if has_same(alloc, volume, name.as_str(), line.how, &bytes)? {
-        return Ok(());
-    }
-    volume.add(name.as_str(), line.kind, &bytes, line.date)?;
-    Ok(())
+    place_named(alloc, volume, name.as_str(), line, &bytes)
 }

@@ -5,5 +5,4 @@ ghost use Rattle.pm_import.specs.Worked.{WorkedLists};
 #[tactic(auto, using(crate::proofs::Computed::worked_lists))]
 pub fn worked_lists()
     ensures worked { WorkedLists }
-{
-}
+{}

@@ -1,0 +1,3 @@
+pub mod SumLaws
+pub mod BigSteps
+pub mod FoundLaws

@@ -2,7 +2,7 @@
 use Rattle.std.proofs.Common.{◌≡◌, ◌+◌, ◌-◌, ◌<◌, ◌≤◌, ℕ, Bool, true, false, List, [], ◌∷◌, ◌++◌, refl, sym, arith, length, append_assoc, append-nil}
 use Rattle.std.specs.Prelude.{◌==◌, slice_index}
 use Rattle.std.proofs.lemmas.List.FromFn.{length-map-range_with_len, map-range_with_len_more}
-use Rattle.pm_convert.specs.Big.{big_place, code_firsts, directory_front, directory_place, exchanged_front, turned_directory}
+use Rattle.pm_convert.specs.Big.{big_place, code_firsts, directory_front, directory_place, exchanged_front, exchanged_with, turned_directory}
 use Rattle.pm_volume.specs.Directory.{entries_from, entry_in}
 use Rattle.pm_volume.specs.declared.kinds.TheConstants.{CODE}
 use Rattle.pm_volume.proofs.DirectoryLaws.{entries_from-more}
@@ -34,7 +34,14 @@ directory_more directory made place from whole value =
 -- A converted directory has 2,048 bytes.
 pub turned_directory_size : (directory : List ℕ) → length (turned_directory directory) ≡ 2048
 unfolding turned_directory directory_front
-turned_directory_size directory = length-map-range_with_len _ 0 2048
+turned_directory_size directory =
+    length-map-range_with_len (λ (place : ℕ). slice_index directory (directory_place place)) 0 2048
+
+-- A conversion keeps the length of the image.
+pub exchanged_size : (second : Bool) (blocks image : List ℕ) → length (exchanged_with second blocks image) ≡ length image
+unfolding exchanged_with exchanged_front
+exchanged_size second blocks image =
+    length-map-range_with_len (λ (place : ℕ). slice_index image (big_place second blocks (length image) place)) 0 (length image)
 
 module _ (directory blocks : List ℕ) (n end : ℕ) where
   -- The next entry is a code file, or another file. The last law: no entry is left.

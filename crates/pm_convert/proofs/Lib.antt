@@ -1,3 +1,4 @@
 pub mod SumLaws
 pub mod BigSteps
 pub mod FoundLaws
+pub mod MadeLaws

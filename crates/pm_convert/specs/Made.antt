@@ -36,12 +36,16 @@ with_blocks_at format (Some part) image blocks =
 abbrev pub with_blocks : Format → List ℕ → List ℕ → Option (List ℕ)
 with_blocks format image blocks = with_blocks_at format (part_in format.cover image) image blocks
 
--- A new .2mg file for `volume`. The number at offset 12 of the header is 0 for DOS order, and 1 for the other orders.
+-- The number of this order in the header of a .2mg file: 0 for DOS order, and 1 for the other orders.
+abbrev pub order_number : ByteOrder → ℕ
+order_number orders.Blocks = 1
+order_number orders.Dos = 0
+order_number orders.Swapped = 1
+order_number orders.Big = 1
+
+-- A new .2mg file for `volume`, as pm_check writes it, but with the number of this order at offset 12.
 abbrev pub two_img : ByteOrder → List ℕ → List ℕ
-two_img orders.Blocks volume = new_file volume
-two_img orders.Dos volume = written (new_file volume) 12 (0 ∷ [])
-two_img orders.Swapped volume = new_file volume
-two_img orders.Big volume = new_file volume
+two_img order volume = written (new_file volume) 12 (order_number order ∷ [])
 
 -- A new file of DiskCopy 4.2 for `volume`.
 abbrev pub disk_copy : List ℕ → List ℕ

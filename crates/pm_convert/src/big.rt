@@ -159,7 +159,7 @@ fn turned_directory(alloc: Global, directory: &[u8]) -> Result<Vec<u8>, AllocErr
 }
 
 /// Converts `image` from the order `big` to blocks in order.
-#[tactic(auto, using(crate::proofs::BigSteps::turned_directory_size))]
+#[tactic(auto, unfolding(crate::specs::Big::from_big), using(crate::proofs::BigSteps::turned_directory_size))]
 pub(crate) fn from_big(alloc: Global, image: &[u8]) -> Result<Vec<u8>, AllocError>
     requires whole { DIRECTORY_END ≤ length image.now }
     ensures image { IfOk result (λ made. made.items ≡ from_big image.now) }
@@ -169,9 +169,11 @@ pub(crate) fn from_big(alloc: Global, image: &[u8]) -> Result<Vec<u8>, AllocErro
 }
 
 /// Converts `image` from blocks in order to the order `big`.
+#[tactic(auto, unfolding(crate::specs::Big::to_big), using(crate::proofs::BigSteps::exchanged_size))]
 pub(crate) fn to_big(alloc: Global, image: &[u8]) -> Result<Vec<u8>, AllocError>
     requires whole { DIRECTORY_END ≤ length image.now }
     ensures image { IfOk result (λ made. made.items ≡ to_big image.now) }
+    ensures size { IfOk result (λ made. length made.items ≡ length image.now) }
 {
     big_with(alloc, &image[DIRECTORY..DIRECTORY_END], image)
 }

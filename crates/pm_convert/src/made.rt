@@ -1,9 +1,9 @@
 //! New images, and images with other blocks.
-ghost use Rattle.std.specs.Prelude.{◌≡◌, ◌+◌, ◌≤◌, IfOk, length};
+ghost use Rattle.std.specs.Prelude.{◌≡◌, ◌+◌, ◌≤◌, [], ◌∷◌, IfOk, length};
 ghost use Rattle.std.specs.Option.{option_map};
 ghost use Rattle.pm_bytes.specs.Words.{written};
 ghost use Rattle.pm_convert.specs.declared.format.Cover.{Cover};
-ghost use Rattle.pm_convert.specs.Made.{covered, disk_copy, new_image, sealed, two_img, with_blocks};
+ghost use Rattle.pm_convert.specs.Made.{disk_copy, new_image, order_number, sealed, two_img, with_blocks};
 
 use crate::cover::part_in;
 use crate::disk_copy::{DATA_SUM, checksum, disk_copy_header, high_bytes};
@@ -59,15 +59,33 @@ pub fn with_blocks(alloc: Global, image: &[u8], format: Format, blocks: &[u8]) -
     Ok(Some(made))
 }
 
+/// Returns the number of this order in the header of a .2mg file. Only DOS order has a number of its own.
+fn order_number(order: ByteOrder) -> u8
+    ensures number { result ≡ order_number order }
+{
+    match order {
+        ByteOrder::Dos => 0,
+        ByteOrder::Blocks | ByteOrder::Swapped | ByteOrder::Big => 1,
+    }
+}
+
+/// Returns the .2mg file `file` with the number of this order in its header.
+fn numbered(file: Vec<u8>, order: ByteOrder) -> Vec<u8>
+    requires room { 13 ≤ length file.items }
+    ensures file { result.items ≡ written file.items 12 (order_number order ∷ []) }
+{
+    let mut file = file;
+    set_bytes(file.as_mut_slice(), ORDER_NUMBER, &[order_number(order)]);
+    file
+}
+
 /// Returns a new .2mg file for a volume in this order.
+#[tactic(auto, using(crate::proofs::MadeLaws::new_steps))]
 fn two_img(alloc: Global, order: ByteOrder, volume: &[u8]) -> Result<Vec<u8>, AllocError>
     ensures file { IfOk result (λ file. file.items ≡ two_img order volume.now) }
 {
-    let mut file = filed(alloc, &[], volume)?;
-    if order == ByteOrder::Dos {
-        set_bytes(file.as_mut_slice(), ORDER_NUMBER, &[0]);
-    }
-    Ok(file)
+    let file = filed(alloc, &[], volume)?;
+    Ok(numbered(file, order))
 }
 
 /// Returns a new file of DiskCopy 4.2 for a volume.

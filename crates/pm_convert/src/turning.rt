@@ -38,6 +38,7 @@ pub(crate) fn in_blocks(alloc: Global, order: ByteOrder, volume: &[u8]) -> Resul
 }
 
 /// Returns `blocks`, a volume with its blocks in order, in this order.
+#[tactic(auto, using(pm_check::proofs::OrderLaws::turned_size))]
 pub(crate) fn in_order(alloc: Global, order: ByteOrder, blocks: &[u8]) -> Result<Vec<u8>, AllocError>
     requires fits { IsTrue (fits order (length blocks.now)) }
     ensures volume { IfOk result (λ made. made.items ≡ in_order order blocks.now) }

@@ -1,5 +1,5 @@
 -- The order `big`: which bytes of an image are exchanged.
-use Rattle.std.specs.Prelude.{ℕ, ◌+◌, ◌-◌, ◌*◌, ◌/◌, ◌%◌, ◌==◌, ◌&&◌, ◌||◌, Bool, nat_le, nat_lt, List, length, map}
+use Rattle.std.specs.Prelude.{◌≡◌, ◌<◌, ◌≤◌, ℕ, ◌+◌, ◌-◌, ◌*◌, ◌/◌, ◌%◌, ◌==◌, ◌&&◌, ◌||◌, Bool, nat_le, nat_lt, List, length, map}
 use Rattle.std.specs.Prelude.{slice_index, if◌then◌else◌, true, false}
 use Rattle.std.specs.List.{filter, list_any, range_with_len}
 use Rattle.pm_check.specs.Orders.{place_in_word}
@@ -87,3 +87,10 @@ from_big image = big_with (turned_directory (directory_of image)) image
 -- The conversion of an image from blocks in order to the order `big`.
 unfoldable pub to_big : List ℕ → List ℕ
 to_big image = big_with (directory_of image) image
+
+-- ---- laws
+
+-- No code file of `directory` begins in blocks 2 to 5, where the directory is.
+abbrev pub IsClear : List ℕ → Type 0
+IsClear directory =
+    (block : ℕ) → 2 ≤ block → block < 6 → list_any (λ known. known == block) (code_blocks directory) ≡ false

@@ -7,3 +7,4 @@ pub mod Turning
 pub mod Found
 pub mod Made
 pub mod Foreigners
+pub mod Worked

@@ -10,6 +10,7 @@ mod format;
 mod found;
 mod made;
 mod turning;
+pub mod worked;
 
 pub use foreign::{Foreign, recognized};
 pub use format::{ByteOrder, Cover, Format};

@@ -186,7 +186,7 @@ two_img_part image part = go (has_front image) refl
         let size : part.size ≡ front_size image = cc in
         (omega (arith, begin, facts.1), omega (arith, begin, size, facts.3))
 
-disk_copy_part : (image : List ℕ) (part : Part) → part_in covers.DiskCopy image ≡ Some part
+pub disk_copy_part : (image : List ℕ) (part : Part) → part_in covers.DiskCopy image ≡ Some part
     → (part.begin ≡ 84) × (part.size ≡ high_long image 64) × (84 + part.size ≤ length image) × (has_disk_copy image ≡ true)
 disk_copy_part image part = go (has_disk_copy image) refl
   where
@@ -249,7 +249,8 @@ module _ (image : List ℕ) (part : Part) (volume : List ℕ) (same : length vol
       front_stays image part.begin volume facts.0 (omega (arith, same, facts.1)) ∙ is
   replaced_part covers.DiskCopy is =
       let facts = disk_copy_part image part is in
-      rw (facts.0) (copy_stays image volume (high_bytes (checksum volume)) refl (omega (arith, same, facts.2)) ∙ is)
+      ap (λ begin. part_in covers.DiskCopy (written (written image begin volume) 72 (high_bytes (checksum volume)))) facts.0
+      ∙ copy_stays image volume (high_bytes (checksum volume)) refl (omega (arith, same, facts.2)) ∙ is
 
   -- The new volume is at the position.
   pub replaced_bytes : (cover : Cover) → part_in cover image ≡ Some part

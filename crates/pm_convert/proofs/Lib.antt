@@ -6,4 +6,6 @@ pub mod BigLaws
 pub mod TurnLaws
 pub mod CoverLaws
 pub mod ImageLaws
-pub mod TryLaws
+pub mod SealLaws
+pub mod NewLaws
+pub mod Computed

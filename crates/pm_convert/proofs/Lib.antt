@@ -1,0 +1,11 @@
+pub mod SumLaws
+pub mod BigSteps
+pub mod FoundLaws
+pub mod MadeLaws
+pub mod BigLaws
+pub mod TurnLaws
+pub mod CoverLaws
+pub mod ImageLaws
+pub mod SealLaws
+pub mod NewLaws
+pub mod Computed

@@ -1,0 +1,10 @@
+pub mod Formats
+pub mod Sums
+pub mod Headers
+pub mod Covers
+pub mod Big
+pub mod Turning
+pub mod Found
+pub mod Made
+pub mod Foreigners
+pub mod Worked

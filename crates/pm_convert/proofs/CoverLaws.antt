@@ -60,13 +60,16 @@ front_facts image = go (nat_lt (length image) 64) refl
   where
     go : (short : Bool) → nat_lt (length image) 64 ≡ short
         → (if short then false else bytes_eq (take 4 image) (codes "2IMG") && nat_le 52 (front_begin image)
-          && nat_lt 0 (front_size image) && nat_le (front_begin image + front_size image) (length image)) ≡ true
+        && nat_lt 0 (front_size image) && nat_le (front_begin image + front_size image) (length image)) ≡ true
         → (64 ≤ length image) × (52 ≤ front_begin image) × (0 < front_size image) × (front_begin image + front_size image ≤ length image)
     go true is e = cc
     go false is e =
-        let a = and_parts _ _ e in let b = and_parts _ _ a.0 in let d = and_parts _ _ b.0 in
-        (ltb-false (length image) 64 is, leb-true 52 (front_begin image) d.1, ltb-true 0 (front_size image) b.1,
-          leb-true (front_begin image + front_size image) (length image) a.1)
+        let a = and_parts _ _ e in let b = and_parts _ _ a.0 in let d = and_parts _ _ b.0 in (
+          ltb-false (length image) 64 is,
+          leb-true 52 (front_begin image) d.1,
+          ltb-true 0 (front_size image) b.1,
+          leb-true (front_begin image + front_size image) (length image) a.1,
+        )
 
 module _ (image : List ℕ) (begin : ℕ) (volume : List ℕ) (behind : 52 ≤ begin) (inside : begin + length volume ≤ length image) where
   long_same : (place : ℕ) → place + 4 ≤ begin → long_in (written image begin volume) place ≡ long_in image place

@@ -151,6 +151,7 @@ made_back format blocks made e clear some small other = go (fits format.order (l
   where
     volume : List ℕ
     volume = in_order format.order blocks
+
     go : (b : Bool) → fits format.order (length blocks) ≡ b
         → (if b then Some (covered format.cover format.order (in_order format.order blocks)) else None) ≡ Some made
         → blocks_in format made ≡ Some blocks
@@ -161,7 +162,7 @@ made_back format blocks made e clear some small other = go (fits format.order (l
         ap (blocks_in format) made_is
         ∙ ap (λ found. blocks_at format.order found (covered format.cover format.order (in_order format.order blocks)))
         (new_part format.cover format.order (in_order format.order blocks) (omega (arith, size, some)) (omega (arith, size, small))
-          (λ same. other (sym size ∙ same)))
+        (λ same. other (sym size ∙ same)))
         ∙ cond-true (fits format.order (length (in_order format.order blocks))) _ _ (ap (fits format.order) size ∙ is)
         ∙ ap (λ volume. Some (in_blocks format.order volume)) (new_bytes format.cover format.order (in_order format.order blocks))
         ∙ ap Some (turn_back format.order blocks is clear)

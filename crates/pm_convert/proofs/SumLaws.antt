@@ -14,10 +14,10 @@ pub sum_more : (sum : ℕ) (bytes : List ℕ) (n : ℕ) → 2 * n + 1 < length b
 unfolding sum_from
 sum_more sum bytes n h =
     let first : drop (2 * n) bytes ≡ get_or bytes (2 * n) 0 ∷ drop (suc (2 * n)) bytes
-        = drop-cons bytes (2 * n) 0 (omega arith) in
+    = drop-cons bytes (2 * n) 0 (omega arith) in
     let one : suc (2 * n) ≡ 2 * n + 1 = omega arith in
     let second : drop (2 * n + 1) bytes ≡ get_or bytes (2 * n + 1) 0 ∷ drop (suc (2 * n + 1)) bytes
-        = drop-cons bytes (2 * n + 1) 0 h in
+    = drop-cons bytes (2 * n + 1) 0 h in
     let two : suc (2 * n + 1) ≡ 2 * (n + 1) = omega arith in
     rw (first, one, second, two) refl
 

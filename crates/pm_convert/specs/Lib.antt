@@ -8,3 +8,4 @@ pub mod Found
 pub mod Made
 pub mod Foreigners
 pub mod Worked
+pub mod Jobs

@@ -8,11 +8,15 @@ mod disk_copy;
 mod foreign;
 mod format;
 mod found;
+mod job;
 mod made;
+mod report;
 mod turning;
 pub mod worked;
 
 pub use foreign::{Foreign, recognized};
 pub use format::{ByteOrder, Cover, Format};
 pub use found::{blocks_in, formats_of, is_sum_wrong};
+pub use job::{ConvertFault, Made, convert, convert_back};
 pub use made::{new_image, with_blocks};
+pub use report::formats_text;

@@ -50,6 +50,17 @@ impl ConvertFault {
 /// An image, or why there is none.
 pub type Made = Result<Vec<u8>, ConvertFault>;
 
+/// Returns the only one of some formats.
+fn only(formats: &[Format]) -> Result<Format, ConvertFault>
+    ensures format { result ≡ jobs.only formats.now }
+{
+    match formats {
+        [] => Err(ConvertFault::NoFormat),
+        [format] => Ok(*format),
+        [_, _, ..] => Err(ConvertFault::Several),
+    }
+}
+
 /// Returns the format of `image`: the given one, or the only one in which it opens as a volume.
 fn chosen(
     alloc: Global,
@@ -58,15 +69,13 @@ fn chosen(
 ) -> Result<Result<Format, ConvertFault>, AllocError>
     ensures format { IfOk result (λ chosen. chosen ≡ jobs.chosen format image.now) }
 {
-    if let Some(format) = format {
-        return Ok(Ok(format));
+    match format {
+        Some(format) => Ok(Ok(format)),
+        None => {
+            let formats = formats_of(alloc, image)?;
+            Ok(only(&formats))
+        }
     }
-    let formats = formats_of(alloc, image)?;
-    Ok(match formats.as_slice() {
-        [] => Err(ConvertFault::NoFormat),
-        [format] => Ok(*format),
-        _ => Err(ConvertFault::Several),
-    })
 }
 
 /// Returns an image, or `OtherLength` if there is none.

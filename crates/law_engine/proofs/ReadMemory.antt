@@ -1,4 +1,4 @@
--- Standard procedures on memory, in two memories that agree on the bytes that they read.
+-- Lemmas for standard procedures on memory in two memories that agree on the bytes that the procedures read.
 use Rattle.std.proofs.Common.{◌≡◌, ◌<◌, ◌≤◌, inl, inr, ℕ, zero, suc, ◌+◌, ◌-◌, ◌*◌, ◌/◌, ◌%◌, ◌==◌, ◌&&◌, Bool, true, false, nat_le}
 use Rattle.std.proofs.Common.{List, [], ◌∷◌, length, replicate, Ok, refl, sym, ap, ◌∙◌, subst, arith}
 use Rattle.std.specs.List.{All}
@@ -33,14 +33,14 @@ use Rattle.pm_calls.proofs.ReturnLaws.{bound, ok_same}
 
 -- ---- the words that are written
 
--- The memories after the same word was stored.
+-- If storing the word `w` at the address `a` succeeds in `m`, then it succeeds in `n`, and both memories change alike.
 pub store_alike : (m n : List ℕ) (a w : ℕ) → IsMemory m → IsMemory n → Both (λ p q. ChangeAlike m p n q) (store m a w) (store n a w)
 store_alike m n a w memory other = elim (cases_Bool (is_even a)) [
   | inl e ↦ rw e (record { other = with_word n a w; made = refl; like = word_alike m n a w memory other })
   | inr e ↦ rw e tt
 ]
 
--- A row that pushes a word and returns registers.
+-- If a row pushes the word `w` and returns the registers `r` with the new SP, then it changes `m` and `n` alike.
 pushed_with : (m n : List ℕ) (sp np w : ℕ) (r : Registers) → IsMemory m → IsMemory n
     → RowsAlike m n (push m sp np w >>= λ t. Ok (t.0, record r { sp = t.1 })) (push n sp np w >>= λ t. Ok (t.0, record r { sp = t.1 }))
 pushed_with m n sp np w r memory other =
@@ -52,7 +52,7 @@ pushed_with m n sp np w r memory other =
 one_byte : (b : ℕ) → b < 256 → All (λ x. x < 256) (b ∷ [])
 one_byte b h = All-cons (λ x. x < 256) b [] h (All-nil (λ x. x < 256))
 
--- One byte is moved.
+-- If the byte at `from` is the same in `m` and `n`, then moving it to `to` changes both memories alike.
 byte_moved : (m n : List ℕ) (from to : ℕ) → IsMemory m → IsMemory n → from < 65536 → to < 65536 → byte_at n from ≡ byte_at m from
     → ChangeAlike m (with_byte m to (byte_at m from)) n (with_byte n to (byte_at n from))
 unfolding with_byte
@@ -256,7 +256,7 @@ scan_row_alike m n r memory other same agree =
     (subst (λ a. Agree (scan_stretch a (signed (word_at m (r.sp + 10))) ∷ []) m n) at agree))) (λ c z.
     pushed_with m n limit.above r.np c r memory other))))))
 
--- The number of words that a procedure on memory pops.
+-- Returns the number of words that a procedure on memory pops.
 abbrev pub taken_by_memory : OnMemory → ℕ
 taken_by_memory memory.CheckIo = 0
 taken_by_memory memory.New = 2

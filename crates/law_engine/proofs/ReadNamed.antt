@@ -1,4 +1,4 @@
--- The bytes that an instruction names in the code: the words of LDC, and the table of XJP.
+-- Lemmas for the bytes of the code that an instruction reads as data: the words of LDC, and the table of XJP.
 use Rattle.std.proofs.Common.{◌≡◌, ◌≤◌, inl, inr, ℕ, ◌+◌, ◌-◌, ◌*◌, ◌%◌, ◌&&◌, ◌||◌, Bool, true, false, nat_le}
 use Rattle.std.proofs.Common.{List, [], ◌∷◌, Option, Some, None, refl, sym, subst, arith}
 use Rattle.std.specs.Prelude.{not}
@@ -25,7 +25,8 @@ use Rattle.law_engine.proofs.ReadOthers.{Equal, NamesSame, entry_same}
 
 -- ---- the case jump
 
--- The table of a case jump is the same in both memories, and is in them.
+-- The table at `table` of a case jump from `low` to `high` ends within memory, and its bytes are the same in `m` and
+-- `n`.
 pub record CaseSame (low high table : ℕ) (m n : List ℕ) : Type 0 where
   pub room : table + 2 * jump_count low high ≤ 65536
   pub same : Same m n table (2 * jump_count low high)
@@ -67,7 +68,7 @@ abbrev is_jumps : Form → Bool
 is_jumps form.Jumps = true
 is_jumps other = false
 
--- A case jump has the form of one.
+-- Returns true unless `shape` is a case jump and `f` is another form than `Jumps`.
 abbrev consistent : Operation → Form → Bool
 consistent shape f = not (is_case shape) || is_jumps f
 
@@ -93,7 +94,7 @@ op_consistent : (op : ℕ) → consistent (shape_of op) (form_of op) ≡ true
 unfolding shape_of form_of
 op_consistent op = group_consistent groups op table_consistent
 
--- The bytes that an operation names in the code are the same in both memories.
+-- The bytes of the code that an operation reads as data are the same in both memories.
 abbrev pub CodeSame : Operation → List ℕ → List ℕ → Type 0
 CodeSame (operation.Literal o) m n = NamesSame o m n
 CodeSame (operation.Jump (jump.Case low high table)) m n = CaseSame low high table m n

@@ -1,4 +1,5 @@
--- Calls, returns and EXIT that succeed write the same stretches in both memories.
+-- Lemmas: if a call, a return or EXIT succeeds, then it writes the same ranges of bytes in two memories that agree on
+-- the bytes that are read.
 use Rattle.std.proofs.Common.{◌≡◌, ◌<◌, ◌≤◌, ℕ, zero, suc, ◌+◌, ◌*◌, ◌%◌, ◌&&◌, Bool, true, false, nat_le, add-one}
 use Rattle.std.proofs.Common.{List, [], ◌∷◌, ◌++◌, Option, Some, None, Result, Ok, Err, refl, sym, ap, ◌∙◌, subst, arith}
 use Rattle.std.specs.Prelude.{if◌then◌else◌}

@@ -1,4 +1,4 @@
--- Rows in two memories that agree on the bytes that they read: variables, literals and jumps.
+-- Lemmas for the rows of variables, literals and jumps in two memories that agree on the bytes that the rows read.
 use Rattle.std.proofs.Common.{◌≡◌, ◌≤◌, ℕ, zero, suc, ◌+◌, ◌-◌, ◌*◌, ◌/◌, ◌%◌, ◌==◌, ◌&&◌, Bool, true, false, nat_le, nat_lt}
 use Rattle.std.proofs.Common.{List, [], ◌∷◌, ◌++◌, length, Result, Ok, Err, refl, sym, ◌∙◌, subst, arith}
 use Rattle.std.specs.Prelude.{if◌then◌else◌, not, reverse}
@@ -71,7 +71,7 @@ load_alike scope b m n r (Ok x) memory other found agree =
 load_alike scope b m n r (Err e) memory other found agree =
     rw (variable_same scope b m n r agree, found) tt
 
--- The stretches that the row of a variable reads.
+-- Returns the ranges of bytes that the row of a variable reads.
 abbrev pub variable_reads : Variable → List ℕ → Registers → List Stretch
 variable_reads (variable.Address scope b) m r = frame_read scope m r.mp
 variable_reads (variable.Load scope b) m r = word_stretch (variable_at scope b m r) ++ frame_read scope m r.mp
@@ -119,7 +119,7 @@ code_words_alike start c m n sp np memory other top same =
     (done m n (with_words m (sp - 2 * c) (reverse (words_at m start c))) (with_words n (sp - 2 * c) (reverse (words_at m start c))) (sp - 2 * c)
     (words_alike m n (reverse (words_at m start c)) (sp - 2 * c) memory other (omega (arith, count, room, top))))))
 
--- The words of LDC are in the bytes that it names.
+-- If the literal is that of LDC, then its bytes in the code are the same in both memories.
 abbrev pub NamesSame : Literal → List ℕ → List ℕ → Type 0
 NamesSame (literal.String start) m n = Unit {0}
 NamesSame (literal.Characters start) m n = Unit {0}
@@ -156,7 +156,7 @@ jumped_same : (b : Bool) (m n : List ℕ) (r : Registers) (offset : ℕ) → Agr
 jumped_same true m n r offset agree = rw (target_same m n r offset agree) refl
 jumped_same false m n r offset agree = refl
 
--- The same registers are made.
+-- The registers `r` and `t` are equal.
 abbrev pub Equal : Registers → Registers → Type 0
 Equal r t = t ≡ r
 

@@ -1,4 +1,4 @@
--- Returns, and segments that procedure 21 loads, in two memories that agree on the bytes that they read.
+-- Lemmas for returns, and for segments that procedure 21 loads, in two memories that agree on the bytes that are read.
 use Rattle.std.proofs.Common.{◌≡◌, ◌<◌, ◌≤◌, ℕ, ◌+◌, ◌-◌, ◌*◌, ◌%◌, ◌&&◌, Bool, true, false, nat_le, nat_lt}
 use Rattle.std.proofs.Common.{List, [], ◌∷◌, length, Option, Some, None, refl, arith}
 use Rattle.std.specs.List.{All}

@@ -1,4 +1,5 @@
--- Rows on the stack in two memories that agree on the bytes that they read: integers, variables, pointers and literals.
+-- Lemmas for rows on the stack in two memories that agree on the bytes that the rows read. The rows are those of
+-- integers, variables, pointers and literals.
 use Rattle.std.proofs.Common.{◌≡◌, ◌≤◌, ℕ, ◌+◌, ◌-◌, ◌*◌, ◌%◌, Bool, true, false, nat_le, nat_lt}
 use Rattle.std.proofs.Common.{List, [], ◌∷◌, Ok, refl, sym, ◌∙◌, subst, arith}
 use Rattle.std.proofs.lemmas.Bool.{and_parts}
@@ -22,7 +23,8 @@ use Rattle.law_engine.proofs.StoredWords.{popped}
 use Rattle.law_engine.proofs.ReadSteps.{Agree, RowAlike, RowsAlike, Same, both, copy_alike, done, first_same, load_same, pop_same, pushed_alike}
 use Rattle.law_engine.proofs.ReadSteps.{rest_agree, stored_alike}
 
--- The next word that is popped.
+-- If the `k` bytes from `sp` on are the same in `m` and `n`, then popping a second word within these bytes gives the
+-- same result in both memories.
 pub next_same : (m n : List ℕ) (sp k x : ℕ) (p : Popped) → Same m n sp k → pop m x ≡ Ok p → sp ≤ x → x + 4 ≤ sp + k → pop n p.above ≡ pop m p.above
 next_same m n sp k x p same h low room =
     let above = (popped m x p h).above in

@@ -1,4 +1,5 @@
--- A successful step writes the same stretches in both memories.
+-- Lemmas: a successful step writes the same ranges of bytes in two memories that agree on the bytes that the step
+-- reads.
 use Rattle.std.proofs.Common.{◌≡◌, ℕ, ◌+◌, ◌*◌, ◌%◌, List, Option, Result, Ok, Err, refl, sym, ap, ◌∙◌, subst}
 use Rattle.std.proofs.Common.{arith}
 use Rattle.std.specs.Prelude.{slice_get}
@@ -46,7 +47,7 @@ use Rattle.pm_calls.specs.Returns.{returned}
 
 -- ---- successful steps
 
--- If `or_fails r` succeeds, `r` succeeds with the same value.
+-- If `or_fails r` succeeds, then `r` succeeds with the same value.
 went : {A : Type 0} (r : Result A ExecError) (x : A) → or_fails r ≡ Ok x → r ≡ Ok x
 went (Ok y) x h = of y x h
   where
@@ -54,7 +55,7 @@ went (Ok y) x h = of y x h
     of y x h = cc
 went (Err e) x h = cc
 
--- `r` succeeds. The first step of a sequence that succeeds does so.
+-- The result `r` is a success with the value `made`. If a sequence succeeds, then its first result is a success.
 record Goes {A : Type 0} (r : Result A ExecError) : Type 0 where
   pub made : A
   pub is : r ≡ Ok made

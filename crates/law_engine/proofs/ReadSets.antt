@@ -1,4 +1,4 @@
--- Rows on sets, and all rows on values, in two memories that agree on the bytes that they read.
+-- Lemmas for rows on sets, and for all rows on values, in two memories that agree on the bytes that the rows read.
 use Rattle.std.proofs.Common.{◌≡◌, ◌≤◌, ℕ, ◌+◌, ◌*◌, ◌&&◌, ◌||◌, Bool, true, nat_le}
 use Rattle.std.proofs.Common.{List, [], ◌∷◌, length, Result, Ok, refl, sym, ap, ◌∙◌, subst, arith}
 use Rattle.std.specs.Prelude.{if◌then◌else◌, max, min, not, int_lt}
@@ -73,7 +73,8 @@ set_popped m sp s h =
     let low : n.0.above + 2 * n.0.word ≤ 65504 = grind (arith, nat_tests, room.0) in
     record { above = is ∙ omega (arith, up, word); room = omega (arith, low, is) }
 
--- Two sets are popped.
+-- If a row pops two sets whose bytes are the same in `m` and `n`, and the rest of the row changes both memories alike,
+-- then the whole row does so.
 two_sets_taken : (m n : List ℕ) (sp : ℕ) (f g : StackSet → StackSet → Result (List ℕ × ℕ) ExecError) → IsMemory m → IsMemory n
     → Same m n sp (2 * (word_at m sp + 1 + (word_at m (sp + 2 * (word_at m sp + 1)) + 1)))
     → ((t s : StackSet) → s.above ≤ 65504 → RowsAlike m n (f t s) (g t s))

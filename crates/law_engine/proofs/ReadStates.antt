@@ -1,4 +1,5 @@
--- Operations in two states that agree on the bytes that they read: the whole state after rows, calls and returns.
+-- Lemmas for the whole state after rows, calls and returns, in two states that agree on the bytes that the operations
+-- read.
 use Rattle.std.proofs.Common.{◌≡◌, ℕ, List, [], ◌∷◌, ◌++◌, Option, Some, None, Result, Ok, Err, refl, ap, subst}
 use Rattle.std.specs.Prelude.{ℤ, slice_get}
 use Rattle.pm_words.specs.declared.error.ExecError.{ExecError}
@@ -44,14 +45,14 @@ use Rattle.law_engine.proofs.ReadNamed.{CodeSame, case_alike}
 use Rattle.law_engine.proofs.ReadCalls.{PartsAlike, called_alike, called_read}
 use Rattle.law_engine.proofs.ReadReturns.{returned_alike}
 
--- A state with another IPC.
+-- Returns the registers `r` with the IPC `x`.
 abbrev pub at_ipc : Registers → ℕ → Registers
 at_ipc r x = record r { ipc = x }
 
 abbrev pub with_ipc : State → ℕ → State
 with_ipc s x = record s { registers = at_ipc s.registers x }
 
--- The states are the same, except for the memory, which changed alike.
+-- The states `t` and `u` are equal except for their memories, and both memories changed alike from `m` and `n`.
 pub record StateAlike (m n : List ℕ) (t u : State) : Type 0 where
   pub memory : List ℕ
   pub same : u ≡ in_memory t memory
@@ -95,7 +96,7 @@ unfolding jump_row
 jump_rows (jump.Short c offset) m n r agree code = short_alike c m n r offset agree
 jump_rows (jump.Case low high table) m n r agree code = case_alike low high table m n r (first_same r.sp 2 [] m n agree) code
 
--- IPC does not determine the address of a variable.
+-- The address of a variable does not depend on IPC.
 same_variable : (scope : Scope) (b : ℕ) (m : List ℕ) (r : Registers) (x : ℕ) → variable_at scope b m r ≡ variable_at scope b m (at_ipc r x)
 same_variable Global b m r x = refl
 same_variable Local b m r x = refl
@@ -117,7 +118,7 @@ parts_alike s n x (Ok d) u h = rw (h.made, h.like.same) (record {
   like = record { memory = h.like.memory; same = refl; alike = h.like.alike };
 })
 
--- IPC does not determine what a call reads.
+-- The bytes that a call reads do not depend on IPC.
 same_link : (call : Call) (m : List ℕ) (r : Registers) (x : ℕ) (level : ℤ) → static_link_read call m r level ≡ static_link_read call m (at_ipc r x) level
 same_link (Clp p) m r x level = refl
 same_link (Cgp p) m r x level = refl

@@ -1,5 +1,5 @@
--- Standard procedures on units, in two memories that agree on the bytes that they read, and the words that standard
--- procedures pop.
+-- Lemmas for standard procedures on units in two memories that agree on the bytes that the procedures read, and for the
+-- number of words that standard procedures pop.
 use Rattle.std.proofs.Common.{◌≡◌, ◌<◌, ◌≤◌, inl, inr, ℕ, ◌+◌, ◌*◌, ◌/◌, ◌%◌, ◌==◌, ◌&&◌, Bool, true, false, nat_lt}
 use Rattle.std.proofs.Common.{List, [], ◌∷◌, ◌++◌, length, drop, take, Option, Some, None, Result, Ok, Err, refl, sym, ap, subst, arith}
 use Rattle.std.specs.Prelude.{if◌then◌else◌}
@@ -64,7 +64,8 @@ ordered_same m n sp same =
 
 -- ---- transfers
 
--- The result of a transfer is the same, except for the memory, which changed alike.
+-- The results `t` and `u` of a transfer are equal except for their memories, and both memories changed alike from `m`
+-- and `n`.
 abbrev pub MovedAlike : List ℕ → List ℕ → Moved → Moved → Type 0
 MovedAlike m n t u = (u ≡ record t { memory = u.memory }) × ChangeAlike m t.memory n u.memory
 
@@ -106,7 +107,7 @@ disk_alike (Some bs) t m n d memory other fit room = elim (cases_Bool (can_move 
   | inr e ↦ rw e (idle_alike m n 1 d)
 ]
 
--- A result that is returned at once.
+-- If two results are alike, then two transfers that return these results at once are alike.
 given : (m n : List ℕ) (t u : Moved) → MovedAlike m n t u → Both {E = Pause} (MovedAlike m n) (Ok t) (Ok u)
 given m n t u h = record { other = u; made = refl; like = h }
 
@@ -141,11 +142,12 @@ write_alike (Disk k) t m n d same = to_disk_alike k (image_at d k) t m n d same
 
 -- ---- the rows
 
--- The result of a procedure on units is the same, except for the memory, which changed alike.
+-- The results `t` and `u` of a procedure on units are equal except for their memories, and both memories changed alike
+-- from `m` and `n`.
 abbrev pub ServedAlike : List ℕ → List ℕ → Served → Served → Type 0
 ServedAlike m n t u = (u ≡ record t { memory = u.memory }) × ChangeAlike m t.memory n u.memory
 
--- The same state with another memory.
+-- Returns the state `s` with the memory `n`.
 abbrev pub served_in : Served → List ℕ → Served
 served_in s n = record s { memory = n }
 
@@ -230,7 +232,7 @@ busy_alike s n memory other same =
     (pushed_alike m n unit.above s.registers.np 0 memory other) (λ t u k like.
     rw like.0 (record { other = _; made = refl; like = (refl, like.1) })))
 
--- The number of words that a procedure on units pops.
+-- Returns the number of words that a procedure on units pops.
 abbrev pub taken_by_units : OnUnits → ℕ
 taken_by_units units.Read = 6
 taken_by_units units.Write = 6
@@ -258,7 +260,7 @@ units_alike units.Clear s n memory other holds same agree = failing (ServedAlike
 
 -- ---- the words that standard procedures pop
 
--- The number of words that a standard procedure pops.
+-- Returns the number of words that a standard procedure pops.
 abbrev pub taken_by : Procedure → ℕ
 taken_by (procedure.OnMemory o) = taken_by_memory o
 taken_by (procedure.OnUnits o) = taken_by_units o

@@ -1,4 +1,4 @@
--- Rows on values in two memories that agree on the bytes that they read: bytes, fields, strings and comparisons.
+-- Lemmas for rows on bytes, fields, strings and comparisons in two memories that agree on the bytes that the rows read.
 use Rattle.std.proofs.Common.{◌≡◌, ◌<◌, ◌≤◌, inl, inr, ℕ, ◌+◌, ◌-◌, ◌*◌, ◌/◌, ◌%◌, ◌==◌, ◌&&◌, Bool, true, false, nat_le, nat_lt}
 use Rattle.std.proofs.Common.{List, [], ◌∷◌, length, Result, Ok, refl, sym, ap, ◌∙◌, subst, arith}
 use Rattle.std.specs.List.{All}
@@ -26,7 +26,8 @@ use Rattle.law_engine.proofs.ReadRows.{held, next_same}
 
 -- ---- words that are popped
 
--- Two words are popped. If the rest of the row agrees, the whole row agrees.
+-- If a row pops two words that are the same in `m` and `n`, and the rest of the row changes both memories alike, then
+-- the whole row does so.
 pub two_taken : (m n : List ℕ) (sp : ℕ) (f g : Popped → Popped → Result (List ℕ × ℕ) ExecError) → Same m n sp 4
     → ((b a : Popped) → b.word ≡ word_at m sp → a.word ≡ word_at m (sp + 2) → a.above ≡ sp + 4 → sp + 4 ≤ 65504 → sp % 2 ≡ 0 → RowsAlike m n (f b a) (g b a))
     → RowsAlike m n (pop m sp >>= λ b. (pop m b.above >>= λ a. f b a)) (pop n sp >>= λ b. (pop n b.above >>= λ a. g b a))

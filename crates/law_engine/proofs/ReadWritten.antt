@@ -1,5 +1,4 @@
--- The words that an instruction reads determine what it writes: rows and procedures name the same stretches in both
--- memories.
+-- Lemmas: rows and procedures write the same ranges of bytes in two memories that agree on the bytes that they read.
 use Rattle.std.proofs.Common.{◌≡◌, ◌≤◌, ℕ, ◌+◌, ◌*◌, ◌%◌, Bool, true, false, nat_lt}
 use Rattle.std.proofs.Common.{List, [], ◌∷◌, refl, arith}
 use Rattle.std.specs.Prelude.{if◌then◌else◌}
@@ -40,7 +39,7 @@ at_top m n sp k same even room = word_same m n sp k sp same even (omega arith) (
 pub above_top : (m n : List ℕ) (sp k j : ℕ) → Same m n sp k → sp % 2 ≡ 0 → j % 2 ≡ 0 → j + 2 ≤ k → word_at n (sp + j) ≡ word_at m (sp + j)
 above_top m n sp k j same even half room = word_same m n sp k (sp + j) same (omega (arith, even, half)) (omega arith) (omega (arith, room))
 
--- The sum of two words.
+-- If the two words from `a` on are the same in `m` and `n`, then the address that is their sum is the same.
 placed : (m n : List ℕ) (sp k a : ℕ) → Same m n sp k → a % 2 ≡ 0 → sp ≤ a → a + 4 ≤ sp + k → place_on_stack n a ≡ place_on_stack m a
 placed m n sp k a same even low high =
     rw (
@@ -76,7 +75,7 @@ pointer_names (pointer.Move b) m n sp even agree =
 
 -- ---- values
 
--- The counts of two sets.
+-- If the bytes of two sets at `sp` are the same in `m` and `n`, then the count of the second set is the same.
 two_counts : (m n : List ℕ) (sp : ℕ) → sp % 2 ≡ 0 → Same m n sp (2 * (word_at m sp + 1 + (word_at m (sp + 2 * (word_at m sp + 1)) + 1)))
     → word_at n (sp + 2 * (word_at m sp + 1)) ≡ word_at m (sp + 2 * (word_at m sp + 1))
 two_counts m n sp even same =

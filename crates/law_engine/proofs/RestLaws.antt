@@ -1,4 +1,4 @@
--- The memory that a call and its return leave unchanged.
+-- Lemmas for the bytes of memory that a call and its return leave unchanged.
 use Rattle.std.proofs.Common.{◌≡◌, ◌<◌, ◌≤◌, ◌⊎◌, inl, inr, ℕ, ◌+◌, ◌-◌, ◌*◌, ◌%◌, ◌&&◌, Bool, true, false}
 use Rattle.std.proofs.Common.{nat_lt, nat_le, List, length, Option, Some, None, Ok, refl, sym, ap, ◌∙◌, arith}
 use Rattle.std.specs.Prelude.{slice_get}
@@ -27,7 +27,8 @@ use Rattle.pm_calls.proofs.ReturnLaws.{bound, has_room, loading_memory, low_befo
 
 -- ---- bytes outside a frame
 
--- The address is before the control words or after them.
+-- If the address `x` is before or after the control words at `f`, then writing these words leaves the byte at `x`
+-- unchanged.
 control_leaves : (m : List ℕ) (f static : ℕ) (r : Registers) (above x : ℕ) → f % 2 ≡ 0 → LiesOutside f 12 x →
     byte_at (with_control m f static r above) x ≡ byte_at m x
 unfolding with_control
@@ -135,7 +136,7 @@ return_made d e words base h =
       memory = sym (ap (λ (p : Parts). p.memory) same);
     }
 
--- A return leaves all bytes unchanged, except the words that it returns.
+-- If a return succeeds, then it leaves all bytes unchanged, except the words that it returns.
 pub return_leaves : (d e : Parts) (words x : ℕ) (base : Bool) → IsMemory d.memory → returned d words base ≡ Ok e →
     LiesOutside e.registers.sp (2 * words) x → byte_at e.memory x ≡ byte_at d.memory x
 return_leaves d e words x base memory h out =
@@ -150,7 +151,7 @@ return_leaves d e words x base memory h out =
 
 -- ---- a call in a segment that was reached
 
--- The reached segment has the old memory, except for the loaded code.
+-- The memory of `at` is valid, and equals the memory of `c` except for the bytes of the loaded code.
 record HoldsTheRest (c : Parts) (at : Reached) : Type 0 where
   pub memory : IsMemory at.memory
   pub rest : (x : ℕ) → LiesOutside (c.registers.sp - at.loaded) at.loaded x → byte_at at.memory x ≡ byte_at c.memory x

@@ -1,4 +1,4 @@
--- The static link of a call, a unit that was cleared, and a move.
+-- Lemmas for the static link of a call, for a unit that is cleared, and for a move of bytes.
 use Rattle.std.proofs.Common.{◌≡◌, ◌≤◌, ◌⊎◌, inl, inr, ℕ, ◌+◌, ◌-◌, ◌*◌, ◌%◌, ◌&&◌, Bool, true, false, cond, nat_lt, nat_le}
 use Rattle.std.proofs.Common.{List, Option, Some, None, Ok, Err, refl, sym, ap, subst, ◌∙◌, arith}
 use Rattle.std.specs.Prelude.{zero, suc, ℤ, pos, negsuc, ◌+ℤ◌, ◌-ℤ◌, int_le, slice_get}
@@ -86,7 +86,7 @@ base_link_stays : (base : Bool) (m : List ℕ) (f old to : ℕ) → f % 2 ≡ 0 
 base_link_stays false m f old to even room h = h
 base_link_stays true m f old to even room h = below-link m f old to even room h
 
--- The first word of a frame that was made.
+-- If a call creates a frame at `f`, then the first word of the frame is the static link `static`.
 first_word : (m n : List ℕ) (s loaded static f : ℕ) (r inner : Registers) (base : Bool) (t : Table) → IsMemory m → IsFramed m s loaded r base t static n inner f
     → f % 2 ≡ 0 → word_at n f ≡ static
 first_word m n s loaded static f r inner base t memory made even =

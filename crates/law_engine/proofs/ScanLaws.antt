@@ -1,4 +1,4 @@
--- A scan stops at the first byte for which it searches.
+-- Lemmas: a scan stops at the first byte for which it searches.
 use Rattle.std.proofs.Common.{◌≡◌, ℕ, ◌+◌, ◌-◌, ◌<◌, ◌≤◌, Bool, true, false, List, length, drop, get_or, ltb, refl, sym, ap, ◌∙◌, arith, inl, inr}
 use Rattle.std.specs.Prelude.{pos, negsuc, reverse}
 use Rattle.std.specs.List.{position_or_len}
@@ -11,7 +11,8 @@ use Rattle.pm_words.proofs.Laws.{scanned-down, scanned-up}
 use Rattle.pm_words.proofs.RangeLaws.{length-bytes_at}
 use Rattle.law_engine.specs.ProcedureLaws.{IsFirst, ScansDown, ScansStopFirst, ScansUp}
 
--- The number of bytes that a scan passes in a list is the position of the first byte that stops it, or the length.
+-- The number of bytes that a scan passes in `bs` is the index of the first byte that stops the scan, or the length of
+-- `bs`.
 passed-first : (bs : List ℕ) (b : ℕ) (equal : Bool) → IsFirst (λ i. stops equal b (get_or bs i 0)) (length bs) (passed bs b equal)
 passed-first bs b equal = elim (cases_lt (position_or_len (stops equal b) bs) (length bs)) [
   | inl inside ↦ let test : ltb (position_or_len (stops equal b) bs) (length bs) ≡ true = grind (arith, nat_tests) in
@@ -30,7 +31,7 @@ passed-first bs b equal = elim (cases_lt (position_or_len (stops equal b) bs) (l
       })
 ]
 
--- The same for a list and another test that agrees with the first one below `n`.
+-- If the tests `p` and `q` agree below `n`, then the first index at which `p` is true is also the first for `q`.
 first-same : (p q : ℕ → Bool) (n m k : ℕ) → n ≡ m → ((i : ℕ) → i < n → p i ≡ q i) → IsFirst p n k → IsFirst q m k
 first-same p q n m k e same f = record {
   inside = omega (arith, f.inside);

@@ -1,4 +1,4 @@
--- The shape that no event changes.
+-- Lemmas: no event changes the shape of a state: its rows, its number of segment slots, and its number of disks.
 use Rattle.std.proofs.Common.{◌≡◌, inl, inr, ℕ, ◌+◌, ◌*◌, ◌==◌, ◌&&◌, Bool, true, false, cond, nat_lt, nat_le, List, [], ◌∷◌, length, Option, Some, None}
 use Rattle.std.proofs.Common.{is_none, Result, Ok, Err, refl, sym, ap, ◌∙◌, subst, arith, length-set}
 use Rattle.std.specs.Prelude.{position, slice_get}
@@ -407,7 +407,7 @@ unfolding raw_start
 raw_shape bytes s h = let same = chosen (nat_lt 60000 (length bytes)) _ _ s h in
     (subst (λ (k : State). shape k ≡ record { rows = k.rows; places = 16; disks = 6 }) same refl, subst (λ (k : State). length k.rows ≡ 16) same refl)
 
--- The result of a boot.
+-- The state `s` is the result of a boot of the code file `name` on the unit `unit`.
 pub record IsBooted (images : List (Option (List ℕ))) (unit : ℕ) (name : List ℕ) (s : State) : Type 0 where
   pub entry : Entry
   pub file : List ℕ

@@ -1,4 +1,4 @@
--- The SP after each standard procedure.
+-- Lemmas for the SP after each standard procedure.
 use Rattle.std.proofs.Common.{◌≡◌, ◌≤◌, inl, inr, ℕ, ◌+◌, ◌-◌, ◌*◌, ◌%◌, ◌==◌, ◌&&◌}
 use Rattle.std.proofs.Common.{Bool, true, false, nat_lt, nat_le, List, Result, Ok, Err, refl, sym, ap, subst, arith}
 use Rattle.std.specs.Prelude.{Option, if◌then◌else◌}
@@ -85,11 +85,11 @@ pops_place : {B : Type 0} (P : B → Type 0) (g : ℕ) (m : List ℕ) (sp k : �
     → ((a : Popped) → a.above + 2 * k ≡ g → AllOk P (f a)) → AllOk P (pop_place m sp >>= f)
 pops_place P g m sp k f e h = step P (pop_place m sp) f (λ a p. let up = place_above m sp a p in h a (omega (arith, e, up)))
 
--- No word was pushed.
+-- The result of a push for which the stack has no space.
 abbrev broken : Result (List ℕ × ℕ) ExecError
 broken = Err StackOverflow
 
--- A word that was pushed, and the SP before the push.
+-- If a word is pushed, then the new SP is 2 less than the SP before the push.
 pub pushed : (m : List ℕ) (sp np w : ℕ) (t : List ℕ × ℕ) → push m sp np w ≡ Ok t → t.1 + 2 ≡ sp
 pushed m sp np w t h = elim (cases_Bool (nat_lt sp (np + 2))) [
   | inl l ↦ refused t (rw l at h)
@@ -159,7 +159,7 @@ same_kept : {A : Type 0} (y x : A) → kept y ≡ kept x → y ≡ x
 unfolding kept
 same_kept y x e = cc
 
--- A property of each success is one of this result.
+-- If `P` holds for each success of `r`, and `or_fails r` succeeds with `x`, then `P` holds for `x`.
 of_ok : {A : Type 0} (P : A → Type 0) (r : Result A ExecError) (x : A) → AllOk P r → or_fails r ≡ Ok x → P x
 unfolding kept
 of_ok P (Ok y) x h e = subst P (same_kept y x e) h

@@ -1,4 +1,4 @@
--- The state that a step and a row leave unchanged.
+-- Lemmas for the parts of the state that a step or a row leaves unchanged.
 use Rattle.std.specs.Prelude.{slice_get}
 use Rattle.std.proofs.Common.{◌≡◌, ◌≢◌, ℕ, ◌+◌, ◌-◌, ◌*◌, ◌%◌, ◌&&◌, inl, inr, Some, None, length, Bool, true, false, nat_lt, List, Option, Result}
 use Rattle.std.proofs.Common.{Ok, Err, refl, ap, arith}
@@ -73,7 +73,7 @@ abbrev KeepsDevices : Disks → Result Devices Pause → Type 0
 KeepsDevices d (Ok e) = e.disks ≡ d
 KeepsDevices d (Err e) = Unit {0}
 
--- The result of a part of a row has the old disks.
+-- If the result is a success `x`, then `disks x` equals the disks `d` before.
 abbrev pub Stays : {A E : Type 0} → (A → Disks) → Disks → Result A E → Type 0
 Stays disks d (Ok x) = disks x ≡ d
 Stays disks d (Err e) = Unit {0}
@@ -82,7 +82,7 @@ then : {A B E : Type 0} (disks : B → Disks) (d : Disks) (r : Result A E) (f : 
 then disks d (Ok x) f h = h x
 then disks d (Err e) f h = tt
 
--- The same, if the first part itself has the old disks.
+-- If `r` leaves the disks `d` unchanged, and `f` does so after `r`, then `r` followed by `f` leaves `d` unchanged.
 after : {A B E : Type 0} (first : A → Disks) (disks : B → Disks) (d : Disks) (r : Result A E) (f : A → Result B E) → Stays first d r
     → ((x : A) → first x ≡ d → Stays disks d (f x)) → Stays disks d (r >>= f)
 after first disks d (Ok x) f k h = h x k

@@ -1,4 +1,4 @@
--- The words that storing rows write.
+-- Lemmas for the words that each row that stores writes.
 use Rattle.std.proofs.Common.{◌≡◌, ◌≢◌, ◌<◌, ◌≤◌, ◌⊎◌, inl, inr, ℕ, ◌+◌, ◌*◌, ◌/◌, ◌%◌, Bool, true, false}
 use Rattle.std.proofs.Common.{nat_lt, nat_le, List, [], ◌∷◌, length, Result, Ok, Err, refl, sym, ap, ◌∙◌, subst, arith}
 use Rattle.std.specs.List.{All}
@@ -30,7 +30,7 @@ then : {A : Type 0} (m : List ℕ) (a k : ℕ) (r : Result A ExecError) (f : A �
 then m a k (Ok x) f h = h x refl
 then m a k (Err e) f h = tt
 
--- The second word that is popped is at SP + 2, and the third word at SP + 4.
+-- If two words are popped from `sp` on, then the second is the word at `sp + 2`, and the SP after them is `sp + 4`.
 pub word_below : (m : List ℕ) (sp : ℕ) (p q : Popped) → pop m sp ≡ Ok p → pop m p.above ≡ Ok q → (q.word ≡ word_at m (sp + 2)) × (q.above ≡ sp + 4)
 word_below m sp p q h k =
     let above = (popped m sp p h).above in
@@ -38,7 +38,7 @@ word_below m sp p q h k =
     let up : q.above ≡ sp + 4 = next.above ∙ omega (arith, above) in
     (next.word ∙ ap (λ (i : ℕ). word_at m i) above, up)
 
--- A word that is stored.
+-- If a word is stored at the address `a`, then no other word is written.
 one : (m : List ℕ) (a w above : ℕ) → WritesAlone m a 2 (store m a w >>= λ n. Ok (n, above))
 one m a w above = elim (cases_Bool (is_even a)) [
   | inl e ↦ rw e (λ x even away. word_at-with_word_other m a x w (evenly a e) even (differs x a away))
@@ -131,7 +131,7 @@ field_stores m sp np =
     subst (λ (i : ℕ). WritesAlone m i 2 (store m a.word (with_field w r.word s.word v.word) >>= λ n. Ok (n, a.above))) same
     (one m a.word (with_field w r.word s.word v.word) a.above)))))))
 
--- The characters that a word names are bytes, and fewer than 256.
+-- The elements of `s` are bytes, and `s` has fewer than 256 elements.
 pub record AreCharacters (s : List ℕ) : Type 0 where
   pub bytes : All (λ x. x < 256) s
   pub few : length s < 256

@@ -1,4 +1,4 @@
--- The words that STM stores and LDM loads again.
+-- Lemmas: LDM loads the words again that STM has stored.
 use Rattle.std.proofs.Common.{◌≡◌, ◌≢◌, ◌<◌, ◌≤◌, ◌⊎◌, inl, inr, ℕ, ◌+◌, ◌-◌, ◌*◌, ◌%◌, Bool, true}
 use Rattle.std.proofs.Common.{false, cond, nat_lt, nat_le, List, Result, Ok, Err, refl, sym, ap, ◌∙◌, arith}
 use Rattle.std.proofs.lemmas.Bool.{and_parts}
@@ -110,7 +110,8 @@ apart : (a n u k : ℕ) → k < n → (a + 2 * n ≤ u) ⊎ (u + 2 ≤ a) → a 
 apart a n u k l (inl low) = λ e. omega (arith, l, low, e)
 apart a n u k l (inr high) = λ e. omega (arith, high, e)
 
--- One word on its way: from the stack to the address, then, outside the word of the address, to the stack again.
+-- If `n` words are copied from `sp` to `a`, then `a` is written at `u` outside the copy, and then the copy is copied to
+-- the stack, then word `k` on the stack is the word `k` at `sp` in `m`.
 one_word : (m o q r : List ℕ) (n sp a u k : ℕ) → IsMemory m → IsMemory q → k < n → sp + 2 * n ≤ 65502 → sp % 2 ≡ 0 → a % 2 ≡ 0 → a + 2 * n ≤ 65536 →
     u ≡ sp + 2 * n → (a + 2 * n ≤ u) ⊎ (u + 2 ≤ a) →
     o ≡ copied m sp a (2 * n) → q ≡ with_word o u a → r ≡ copied q a (u + 2 - 2 * n) (2 * n) →

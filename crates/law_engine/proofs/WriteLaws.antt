@@ -1,4 +1,4 @@
--- The state that each event leaves unchanged.
+-- Lemmas for the parts of the state that each event leaves unchanged.
 use Rattle.std.proofs.Common.{◌≡◌, inl, inr, ℕ, ◌+◌, ◌*◌, ◌/◌, ◌-◌, ◌%◌, ◌==◌, ◌&&◌, Bool, true, false, cond, nat_lt, nat_le, List, [], length, Option, Some}
 use Rattle.std.proofs.Common.{None, is_none, Result, Ok, Err, refl, ap, ◌∙◌, arith}
 use Rattle.std.specs.Prelude.{slice_get, slice_set}
@@ -95,7 +95,8 @@ blank_devices w dsk d = record {
   clock = d.clock;
 }
 
--- The same, with the whole memory or all disks blanked too.
+-- Returns the state `s` with the parts that `w` names, except memory and disks, set to fixed values. If `mem` is true,
+-- the memory is replaced by `[]`. If `dsk` is true, the disks are replaced by `[]`.
 abbrev blanked : Writes → Bool → Bool → State → State
 blanked w mem dsk s = record {
   memory = cond mem [] s.memory;
@@ -111,7 +112,8 @@ unless : {A : Type 0} (b : Bool) (z x y : A) → cond b z x ≡ cond b z y → b
 unless true z x y h e = cc
 unless false z x y h e = h
 
--- All parts that were not blanked are the same.
+-- If `s` and `t` are equal after `blanked`, and the words and disks that `w` does not name are the same, then all parts
+-- that `w` does not name are the same.
 left : (w : Writes) (mem dsk : Bool) (s t : State) → blanked w mem dsk t ≡ blanked w mem dsk s
     → ((x : ℕ) → x % 2 ≡ 0 → w.words x ≡ false → word_at t.memory x ≡ word_at s.memory x)
     → ((k : ℕ) → w.disks k ≡ false → image_at t.devices k ≡ image_at s.devices k) → LeavesTheRest w s t
@@ -136,7 +138,8 @@ left w mem dsk s t same words disks = record {
   status = unless w.status status.Running t.status s.status (ap (λ (k : State). k.status) same);
 }
 
--- An event that changes only blanked parts of the state.
+-- If `s` and `t` are equal after `blanked` with `mem` and `dsk` false, then all parts that `w` does not name are the
+-- same.
 left_words : (w : Writes) (s t : State) → blanked w false false t ≡ blanked w false false s → LeavesTheRest w s t
 left_words w s t same =
     left w false false s t same (λ x even h. ap (λ (k : State). word_at k.memory x) same) (λ k h. ap (λ (q : State). image_at q.devices k) same)
@@ -232,7 +235,7 @@ returned_stays c words base =
 
 -- ---- EXIT, and segments that procedure 21 loads
 
--- The registers except SP and IPC.
+-- Returns the registers `r` with SP and IPC set to 0.
 abbrev other_registers : Registers → Registers
 other_registers r = record r { sp = 0; ipc = 0 }
 
@@ -282,7 +285,7 @@ record OfMemory : Type 0 where
 abbrev memory_blank : Writes → Bool → List ℕ × Registers → OfMemory
 memory_blank w mem t = record { memory = cond mem [] t.0; registers = blank_registers w t.1 }
 
--- The procedures that write memory.
+-- Returns whether a procedure on memory can write words of memory.
 abbrev in_memory : OnMemory → Bool
 in_memory memory.CheckIo = false
 in_memory memory.New = true
@@ -459,7 +462,7 @@ units_stay units.Clear z m r x d =
     clear_stays Terminal = refl
     clear_stays (Disk k) = refl
 
--- A disk that UNITWRITE does not name.
+-- If UNITWRITE writes to disk `k`, then each other disk `n` is unchanged.
 written_disk : (k : ℕ) (o : Option (List ℕ)) (t : Transfer) (m : List ℕ) (d : Devices) (n : ℕ) → (n == k) ≡ false
     → image_at (to_disk k o t m d).devices n ≡ image_at d n
 written_disk k None t m d n h = refl
@@ -491,7 +494,7 @@ named_disks (Err e) m g d = tt
 
 -- ---- instructions that succeed
 
--- A state with another IPC.
+-- Returns the state `s` with the IPC `x`.
 abbrev with_ipc : State → ℕ → State
 with_ipc s x = record s { registers = at_ipc s.registers x }
 
@@ -593,7 +596,7 @@ return_goes s x r =
 
 -- ---- standard procedures
 
--- The state after a standard procedure.
+-- Returns the result of the standard procedure `p` in the state `s`.
 abbrev stood : Procedure → State → Result State Pause
 stood p s = procedure_row p (reach s) >>= λ t. Ok (with_reach t s)
 

@@ -1,4 +1,4 @@
--- Calls and returns write only the words that they name.
+-- Lemmas: calls and returns write only words that share a byte with the ranges that `pm_machine` defines for them.
 use Rattle.std.proofs.Common.{◌≡◌, ◌<◌, ◌≤◌, ◌⊎◌, inl, inr, ⊎_elim, ℕ, ◌+◌, ◌-◌, ◌*◌, ◌%◌, Bool, true, false}
 use Rattle.std.proofs.Common.{List, [], ◌∷◌, length, Option, Some, None, Result, Ok, Err, refl, sym, ap, ◌∙◌, subst, arith}
 use Rattle.std.specs.Prelude.{slice_get}
@@ -26,7 +26,8 @@ use Rattle.law_engine.proofs.Stretches.{IfMade, Kept, all_kept, both_kept, bytes
 
 -- ---- words outside a frame, which may be at an odd address
 
--- The word is before the control words or after them.
+-- If the word at `x` is before or after the control words at `f`, then writing the control words leaves this word
+-- unchanged.
 control_keeps : (m : List ℕ) (f static : ℕ) (r : Registers) (above x : ℕ) → x % 2 ≡ 0 → (x + 1 < f) ⊎ (f + 12 ≤ x)
     → word_at (with_control m f static r above) x ≡ word_at m x
 unfolding with_control
@@ -61,7 +62,7 @@ frame_keeps base m f static r n memory source target room =
 
 -- ---- a call in a segment that was reached
 
--- The reached segment has the old memory, except for the loaded code.
+-- The memory of `at` is valid, and its words equal those of `c`, except the words that the loaded code touches.
 record HoldsTheRest (c : Parts) (at : Reached) : Type 0 where
   memory : IsMemory at.memory
   rest : Kept (stretch_to c.registers.sp at.loaded ∷ []) c.memory at.memory
@@ -166,12 +167,12 @@ slot_keeps c call n code (Some (Some p)) memory bytes = standing_keeps c call n 
 slot_keeps c call n None (Some None) memory bytes = tt
 slot_keeps c call n (Some code) (Some None) memory bytes = loading_keeps c call n code memory bytes
 
--- The segment that a call reaches, with the code that it needs.
+-- Returns the segment that a call reaches. If the call loads the segment, then `code` is the code of the segment.
 abbrev pub called_reached : Call → Parts → Option (List ℕ) → Result Reached ExecError
 called_reached (Cxp n p) c code = slot_reached n c (slice_get c.places n) (Ok code)
 called_reached call c code = Ok (here c)
 
--- The stretches that the call writes there.
+-- Returns the ranges of bytes that the call writes.
 abbrev pub called_written : Call → Parts → Option (List ℕ) → List Stretch
 called_written call c code = reached_written call c.registers.sp (called_reached call c code)
 

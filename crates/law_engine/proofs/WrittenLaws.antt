@@ -1,4 +1,4 @@
--- A step writes only the words that its instruction names.
+-- Lemmas: a step writes only words that share a byte with the ranges that `pm_machine` defines for its instruction.
 use Rattle.std.proofs.Common.{◌≡◌, ℕ, ◌+◌, ◌%◌, List, [], Option, Some, None, Result, Ok, Err, refl, subst}
 use Rattle.std.specs.Prelude.{slice_get}
 use Rattle.pm_words.specs.declared.error.ExecError.{ExecError}
@@ -50,7 +50,7 @@ use Rattle.law_engine.proofs.WrittenMemory.{memory_keeps}
 use Rattle.law_engine.proofs.WrittenUnits.{HoldsBytes, units_keep}
 use Rattle.law_engine.proofs.WrittenProcedures.{exit_keeps, keep_keeps, slot_code_fits, unkeep_keeps}
 
--- A state with another IPC.
+-- Returns the registers `r` with the IPC `x`.
 abbrev at_ipc : Registers → ℕ → Registers
 at_ipc r x = record r { ipc = x }
 
@@ -78,7 +78,7 @@ jump_keeps : (s : State) (x : ℕ) (row : Result Registers ExecError) → StepKe
 jump_keeps s x (Ok r) = all_kept [] s.memory
 jump_keeps s x (Err e) = tt
 
--- IPC does not determine the address of a variable.
+-- The address of a variable does not depend on IPC.
 same_variable : (scope : Scope) (b : ℕ) (m : List ℕ) (r : Registers) (x : ℕ) → variable_at scope b m (at_ipc r x) ≡ variable_at scope b m r
 same_variable Global b m r x = refl
 same_variable Local b m r x = refl
@@ -104,7 +104,7 @@ parts_keep : (ss : List Stretch) (s t : State) (made : Result Parts ExecError) �
 parts_keep ss s t (Ok d) h = h
 parts_keep ss s t (Err e) h = tt
 
--- IPC does not determine what a call writes.
+-- The ranges of bytes that a call writes do not depend on IPC.
 pub same_slot : (s : State) (x : ℕ) (call : Call) (n : ℕ) (slot : Option (Option SegmentPlace)) (code : Result (Option (List ℕ)) ExecError)
     → reached_written call s.registers.sp (slot_reached n (parts (with_ipc s x)) slot code)
     ≡ reached_written call s.registers.sp (slot_reached n (parts s) slot code)
@@ -155,7 +155,7 @@ return_step o s x plain =
 
 -- ---- standard procedures
 
--- The state after a standard procedure.
+-- Returns the result of the standard procedure `p` in the state `s`.
 abbrev stood : Procedure → State → Result State Pause
 stood p s = procedure_row p (reach s) >>= λ t. Ok (with_reach t s)
 

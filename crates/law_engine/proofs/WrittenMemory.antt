@@ -1,4 +1,5 @@
--- Standard procedures on memory write only the words that they name.
+-- Lemmas: standard procedures on memory write only words that share a byte with the ranges that `pm_machine` defines
+-- for them.
 use Rattle.std.proofs.Common.{◌≡◌, ◌<◌, ◌≤◌, ◌⊎◌, inl, inr, ℕ, ◌+◌, ◌-◌, ◌*◌, ◌/◌, ◌%◌, ◌==◌, ◌&&◌, nat_le, nat_lt}
 use Rattle.std.proofs.Common.{List, [], ◌∷◌, length, replicate, Result, Ok, Err, sym, ap, ◌∙◌, subst, arith}
 use Rattle.std.proofs.lemmas.Bool.{and_parts, cases_Bool, ltb-false}
@@ -58,7 +59,7 @@ word_pushed m sp np w g t e h = elim (cases_Bool (nat_lt sp (np + 2))) [
 
 -- ---- addresses
 
--- A popped address is the sum of the index at SP and the base after it.
+-- If an address is popped, then it is the sum of the index at `sp` and the base after the index, modulo 65,536.
 pub place_is : (m : List ℕ) (sp : ℕ) (p : Popped) → pop_place m sp ≡ Ok p → p.word ≡ place_on_stack m sp
 place_is m sp p h =
     let i = bound (pop m sp) _ p h in
@@ -70,7 +71,7 @@ place_is m sp p h =
 
 -- ---- moves and fills
 
--- A move that stays in its destination.
+-- The function `move` changes only the `n` bytes from `to` on.
 abbrev StaysInside : (List ℕ → ℕ → ℕ → ℕ → List ℕ) → Type 0
 StaysInside move =
     (m : List ℕ) (from to n x : ℕ) → IsMemory m → from + n ≤ 65536 → to + n ≤ 65536 → (x < to) ⊎ (to + n ≤ x) → byte_at (move m from to n) x ≡ byte_at m x

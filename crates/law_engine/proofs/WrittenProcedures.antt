@@ -1,4 +1,4 @@
--- EXIT and procedure 21 write only the words that they name.
+-- Lemmas: EXIT and procedure 21 write only words that share a byte with the ranges that `pm_machine` defines for them.
 use Rattle.std.proofs.Common.{◌≡◌, ◌≢◌, ◌<◌, ◌≤◌, inl, inr, ℕ, zero, suc, ◌+◌, ◌-◌, ◌*◌, ◌==◌, ◌||◌, Bool, false}
 use Rattle.std.proofs.Common.{nat_lt, is_none, List, [], ◌∷◌, length, Option, Some, None, Result, Ok, Err, refl, sym, ap, ◌∙◌}
 use Rattle.std.proofs.Common.{subst, arith}
@@ -35,7 +35,8 @@ use Rattle.law_engine.proofs.WrittenUnits.{HoldsBytes, written_bytes}
 
 -- ---- EXIT
 
--- The word is none of those in which the frames save IPC.
+-- If the word at `x` touches no word in which one of the `n` frames saves IPC, then `x` is not the address of such a
+-- word.
 ips_apart : (m : List ℕ) (a n x : ℕ) → list_any (touches x 2) (ips_written m a n) ≡ false → (i : ℕ) → i < n → x ≢ ip_kept m a i
 unfolding ips_written
 ips_apart m a zero x none i l = absurd (omega (arith, l))
@@ -67,12 +68,12 @@ exited_keeps c p memory = of (exited c p) refl
         is.rest x even (λ i l. ips_apart c.memory c.registers.mp is.count x none i l))
     of (Err e) h = tt
 
--- A property of each success is one of this result.
+-- If `P` holds for each success of `r`, and `r` succeeds with `x`, then `P` holds for `x`.
 of_ok : {A : Type 0} (P : A → Type 0) (r : Result A ExecError) (x : A) → IfMade P r → r ≡ Ok x → P x
 of_ok P (Ok y) x h e = subst P (ok_same y x e) h
 of_ok P (Err f) x h e = cc
 
--- Code that ends at an address.
+-- Returns the range of the code that ends at the address `sp`, or no range if no code is given.
 abbrev code_stretches : ℕ → Option (List ℕ) → List Stretch
 code_stretches sp None = []
 code_stretches sp (Some code) = stretch_to sp (length code) ∷ []
@@ -120,7 +121,7 @@ keeps_slot c n code (Some (Some p)) memory bytes low =
 keeps_slot c n None (Some None) memory bytes low = tt
 keeps_slot c n (Some code) (Some None) memory bytes low = keeps_loading c n code memory bytes low
 
--- The code of a slot consists of bytes, as the disks do.
+-- If an image consists of bytes, then the code of a slot in this image consists of bytes.
 on_image : (image : Option (List ℕ)) (block n : ℕ) → ((bs : List ℕ) → image ≡ Some bs → AreBytes bs) → IsCode (code_in image block n)
 on_image None block n holds = tt
 on_image (Some bs) block n holds = elim (cases_Bool (lies_on bs block n)) [

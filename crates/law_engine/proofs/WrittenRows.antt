@@ -1,4 +1,4 @@
--- Rows on the stack write only the words that they name.
+-- Lemmas: rows on the stack write only words that share a byte with the ranges that `pm_machine` defines for them.
 use Rattle.std.proofs.Common.{◌≡◌, ◌<◌, ◌≤◌, ◌⊎◌, inl, inr, ⊎_elim, ℕ, ◌+◌, ◌-◌, ◌*◌, ◌/◌, ◌%◌, Bool, true, false, nat_le, nat_lt}
 use Rattle.std.proofs.Common.{List, [], ◌∷◌, length, None, Result, Ok, Err, refl, sym, ap, ◌∙◌, subst, arith}
 use Rattle.std.proofs.lemmas.Bool.{and_parts, cases_Bool, cases_lt}
@@ -49,26 +49,28 @@ use Rattle.law_engine.proofs.StoredWords.{popped}
 use Rattle.law_engine.proofs.Stretches.{IfMade, Kept, IsAway, away, bytes_kept, kept_to, made, words_kept}
 use Rattle.law_engine.proofs.WrittenSets.{HasCount, difference_count, intersection_count, singleton_count, subrange_count, union_count}
 
--- A row leaves each word unchanged that the stretches do not touch.
+-- If the row succeeds, then it leaves each word unchanged that no range of `ss` touches.
 abbrev pub RowKeeps : List Stretch → List ℕ → Result (List ℕ × ℕ) ExecError → Type 0
 RowKeeps ss m row = IfMade (λ (t : List ℕ × ℕ). Kept ss m t.0) row
 
 -- ---- rows that push
 
--- Words that end at an address, and a word that their stretch does not touch.
+-- If `k` words from `t` on end at `g`, and the range of these words does not touch the word at `x`, then `x` is before
+-- `t` or not before `g`.
 outside : (x t g k : ℕ) → t + 2 * k ≡ g → IsAway x (g - 2 * k) (2 * k) → (x < t) ⊎ (t + 2 * k ≤ x)
 outside x t g k ends (inl none) = ⊎_elim (λ l. inl l) (λ l. inr (omega (arith, none, l))) (cases_lt x t)
 outside x t g k ends (inr (inl low)) = inl (omega (arith, low, ends))
 outside x t g k ends (inr (inr high)) = inr (omega (arith, high, ends))
 
--- `k` words, which end where the popped words of the row ended.
+-- If a row pushes `k` words that end at `g`, then it leaves each word unchanged that these words do not touch.
 pushed : (m : List ℕ) (g k : ℕ) (row : Result (List ℕ × ℕ) ExecError) → WritesWhatItPushes m (so_many k) row → EndsAt g (share.Words k) row
     → RowKeeps (stretch_to g (2 * k) ∷ []) m row
 pushed m g k (Ok t) writes ends = kept_to g (2 * k) m t.0 (omega (arith, ends)) (λ x even none.
     writes x even (outside x t.1 g k ends (away x (g - 2 * k) (2 * k) none)))
 pushed m g k (Err e) writes ends = tt
 
--- A set of `k` words, its count included.
+-- If a row pushes a set of `k` words that ends at `g`, its count included, then it leaves each word unchanged that the
+-- set does not touch.
 pushed_set : (m : List ℕ) (g k : ℕ) (row : Result (List ℕ × ℕ) ExecError) → WritesWhatItPushes m a_set row → EndsAt g share.Set row
     → IfMade (HasCount k) row → RowKeeps (stretch_to g (2 * k) ∷ []) m row
 pushed_set m g k (Ok t) writes ends count =
@@ -77,7 +79,7 @@ pushed_set m g k (Ok t) writes ends count =
     writes x even (subst (λ n. (x < t.1) ⊎ (t.1 + 2 * n ≤ x)) (sym count) (outside x t.1 g k stands (away x (g - 2 * k) (2 * k) none))))
 pushed_set m g k (Err e) writes ends count = tt
 
--- A row that stores.
+-- If a row stores only the `k` bytes from `a` on, then it leaves each word unchanged that these bytes do not touch.
 stored : (m : List ℕ) (a k : ℕ) (row : Result (List ℕ × ℕ) ExecError) → 0 < k → WritesAlone m a k row → RowKeeps (stretch a k ∷ []) m row
 stored m a k (Ok t) some writes = words_kept m t.0 a k some writes
 stored m a k (Err e) some writes = tt
@@ -99,7 +101,7 @@ arithmetic_keeps o m sp np memory stack = of o (stack_rows_write_what_they_push.
     of (arithmetic.Compare o) = pushed m (sp + 2 * 2) 1 (arithmetic_row (arithmetic.Compare o) m sp np)
     of arithmetic.Check = pushed m (sp + 2 * 3) 1 (arithmetic_row arithmetic.Check m sp np)
 
--- SRO, STL and STR, if the variable has an address and if it has none.
+-- SRO, STL and STR write only the word of the variable, or no word if the variable has no address.
 store_keeps : (scope : Scope) (b : ℕ) (m : List ℕ) (r : Registers) (at : Result ℕ ExecError) → IsMemory m → variable_at scope b m r ≡ at
     → RowKeeps (word_stretch at) m (store_row scope b m r)
 unfolding store_row
@@ -107,7 +109,7 @@ store_keeps scope b m r (Ok a) memory found = stored m a 2 (store_row scope b m 
     (rows_write_what_they_store.variable scope b a m r memory found)
 store_keeps scope b m r (Err e) memory found = made (λ (t : List ℕ × ℕ). Kept [] m t.0) (pop m r.sp) _ (λ v h. rw found tt)
 
--- The stretches that the row of a variable writes.
+-- Returns the ranges of bytes that the row of a variable writes.
 abbrev pub variable_stretches : Variable → List ℕ → Registers → List Stretch
 variable_stretches (variable.Store scope b) m r = word_stretch (variable_at scope b m r)
 variable_stretches o m r = pushes_words (variable_effect o) m r.sp
@@ -190,7 +192,7 @@ literal_keeps (literal.Words start count) m sp np memory stack = pushed m (sp + 
 
 -- ---- values
 
--- The address after a set at the top of the stack and `more` words below it.
+-- Returns the address after the set at `sp` and the next `more` words.
 abbrev set_end : List ℕ → ℕ → ℕ → ℕ
 set_end m sp more = sp + 2 * ((word_at m sp + 1) + more)
 
@@ -224,12 +226,12 @@ set_keeps (set.Adjust n) m sp np memory stack = pushed m (set_end m sp 0) n (val
     (stack_rows_write_what_they_push.values (value.Set (set.Adjust n)) m sp np memory stack)
     (effects_are_the_machines.values (value.Set (set.Adjust n)) m sp np memory stack)
 
--- IXS leaves the memory unchanged.
+-- If a row pushes no words, as IXS does, then it leaves all words unchanged.
 index_keeps : (m : List ℕ) (row : Result (List ℕ × ℕ) ExecError) → WritesWhatItPushes m (so_many 0) row → RowKeeps [] m row
 index_keeps m (Ok t) writes = λ x even none. writes x even (⊎_elim (λ l. inl l) (λ l. inr (omega (arith, l))) (cases_lt x t.1))
 index_keeps m (Err e) writes = tt
 
--- The length of a text is its length byte, or 1 for a single character.
+-- If the text that the word `e` names is read, then its length is its length byte, or 1 for a single character.
 text_count : (m s : List ℕ) (e : ℕ) → IsMemory m → source_at m e ≡ Ok s → length s ≡ text_length m e
 text_count m s e memory found = elim (cases_Bool (nat_lt e 256)) [
   | inl h ↦ rw h (ap (λ (l : List ℕ). length l) (sym (ok_same (e ∷ []) s (rw h at found))))

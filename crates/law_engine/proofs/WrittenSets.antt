@@ -1,4 +1,4 @@
--- The number of words that a row on sets pushes.
+-- Lemmas for the number of words that a row on sets pushes.
 use Rattle.std.proofs.Common.{◌≡◌, ◌≤◌, inl, inr, ℕ, ◌+◌, ◌-◌, ◌*◌, ◌/◌, ◌&&◌, ◌||◌, Bool, true, false, not, max, min, cond, nat_le}
 use Rattle.std.proofs.Common.{List, [], length, Ok, refl, sym, ap, ◌∙◌, arith}
 use Rattle.std.specs.Prelude.{int_lt, if◌then◌else◌}
@@ -21,7 +21,7 @@ use Rattle.law_engine.proofs.EffectLaws.{below_word, first, set_off}
 use Rattle.law_engine.proofs.StoredWords.{popped}
 use Rattle.law_engine.proofs.Stretches.{IfMade, made}
 
--- The top of the stack is a set of `k` words, its count included.
+-- The top of the stack `t` is a set of `k` words, its count included.
 abbrev pub HasCount : ℕ → List ℕ × ℕ → Type 0
 HasCount k t = word_at t.0 t.1 + 1 ≡ k
 
@@ -36,7 +36,7 @@ counted m ws sp np k memory low count = made (HasCount k) (demand (nat_le (np + 
     first m ws (sp - 2 * length (with_length ws)) (length ws) (omega (arith, low, size)) in
     omega (arith, top, count))
 
--- The number of words of a set on the stack.
+-- If a set is popped, then the number of its words, without its count, is the word at `sp`.
 members : (m : List ℕ) (sp : ℕ) (s : StackSet) → IsMemory m → pop_set m sp ≡ Ok s → length s.members ≡ word_at m sp
 unfolding pop_set
 members m sp s memory h =
@@ -61,7 +61,7 @@ two_counts count test m sp np memory =
     (ap (λ n. 1 + n) (length-set_from (count (length s.members) (length t.members)) 0 (λ e. test (is_member s.members e) (is_member t.members e))
     ∙ ap (λ n. count n (length t.members)) lower ∙ ap (λ n. count (lower_words m sp) n) upper))))
 
--- An interval has the words that contain its last number.
+-- The set of the numbers from `low` to `high` has `2 + high / 16` words, its count included.
 interval_count : (low high : ℕ) → 1 + length (interval low high) ≡ 2 + high / 16
 interval_count low high = ap (λ n. 1 + n) (length-set_from (high / 16 + 1) 0 _) ∙ omega arith
 
@@ -73,7 +73,8 @@ singleton_count m sp np memory =
     let is = (popped m sp a h).word in
     counted m (interval a.word a.word) a.above np k memory (below_word m sp a h) (interval_count a.word a.word ∙ ap (λ w. 2 + w / 16) is)))
 
--- The words of a subrange, which has none if its ends are in the wrong order.
+-- If the subrange from `a` to `b` is computed, then it has 1 word if `b` is less than `a` as signed numbers, and else
+-- `2 + b / 16` words, its count included.
 subrange_members : (a b : ℕ) (ws : List ℕ)
     → cond (int_lt (signed b) (signed a)) (Ok []) (demand (nat_le a 4079 && nat_le b 4079) InvalidIndex >>= λ u. Ok (interval a b)) ≡ Ok ws
     → 1 + length ws ≡ (if int_lt (signed b) (signed a) then 1 else 2 + b / 16)

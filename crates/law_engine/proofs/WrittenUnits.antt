@@ -1,4 +1,5 @@
--- Standard procedures on units write only the words that they name.
+-- Lemmas: standard procedures on units write only words that share a byte with the ranges that `pm_machine` defines for
+-- them.
 use Rattle.std.proofs.Common.{◌≡◌, ◌<◌, ◌≤◌, ◌⊎◌, inl, inr, ℕ, ◌+◌, ◌-◌, ◌*◌, ◌/◌, ◌%◌, ◌&&◌, Bool, true, false}
 use Rattle.std.proofs.Common.{nat_lt, List, [], ◌∷◌, length, take, drop, slice_range, Option, Some, None, Result, Ok, Err, refl, sym, ap, ◌∙◌}
 use Rattle.std.proofs.Common.{subst, arith}
@@ -32,7 +33,7 @@ use Rattle.law_engine.proofs.WrittenMemory.{place_is, word_pushed}
 
 -- ---- bytes that the units have
 
--- The images on the disks consist of bytes, and so does the queue.
+-- All images of the disks consist of bytes, and the input queue consists of bytes.
 pub record HoldsBytes (d : Devices) : Type 0 where
   pub disks : (k : ℕ) (image : List ℕ) → image_at d k ≡ Some image → AreBytes image
   pub queue : AreBytes d.queue
@@ -82,7 +83,7 @@ read_keeps Console t m d memory holds room = queue_keeps true t m d memory holds
 read_keeps Terminal t m d memory holds room = queue_keeps false t m d memory holds room
 read_keeps (Disk k) t m d memory holds room = disk_keeps (image_at d k) t m d memory (λ bs e. holds.disks k bs e) room
 
--- The bytes at the address of an order are in memory.
+-- If an order is popped, then the bytes of its transfer end within memory.
 pub order_lies : (m : List ℕ) (sp : ℕ) (o : Order) → ordered m sp ≡ Ok o → o.transfer.address + o.transfer.count ≤ 65536
 unfolding ordered
 order_lies m sp o h =
@@ -96,7 +97,7 @@ order_lies m sp o h =
     let same = ok_same _ o lies.1 in
     subst (λ (q : Order). q.transfer.address + q.transfer.count ≤ 65536) same room
 
--- They are the bytes that the words on the stack name.
+-- If an order is popped, then the bytes of its transfer are those that the words on the stack name.
 pub order_names : (m : List ℕ) (sp : ℕ) (o : Order) → ordered m sp ≡ Ok o → stretch o.transfer.address o.transfer.count ≡ transfer_stretch m sp
 unfolding ordered
 order_names m sp o h =
@@ -155,7 +156,7 @@ time_keeps s =
     (subst (λ i. Kept (stretch i 2 ∷ []) m high) lower (stored_kept m a.word (s.devices.clock / 65536)))
     (subst (λ i. Kept (stretch i 2 ∷ []) high both) upper (stored_kept high b.word (s.devices.clock % 65536))))))
 
--- Writing to a unit changes no memory.
+-- Writing to a disk changes no word of memory.
 to_disk_keeps : (k : ℕ) (image : Option (List ℕ)) (t : Transfer) (m : List ℕ) (d : Devices) → Kept [] m (to_disk k image t m d).memory
 to_disk_keeps k None t m d = all_kept [] m
 to_disk_keeps k (Some bs) t m d = elim (cases_Bool (can_move bs t)) [ inl e ↦ rw e (all_kept [] m) | inr e ↦ rw e (all_kept [] m) ]

@@ -1,4 +1,4 @@
--- What a session shows of the console, one command after the other.
+-- Lemmas for what a session shows of the console output, one command after the other.
 use Rattle.std.proofs.Common.{◌≡◌, ℕ, Bool, true, false, List, [], ◌∷◌, ◌++◌, length, drop, Option, None, Some, Result, Ok, Err, refl, sym, ap, ◌∙◌}
 use Rattle.std.proofs.Common.{append-nil, append_assoc}
 use Rattle.std.specs.Prelude.{if◌then◌else◌}

@@ -1,4 +1,4 @@
--- The job that writes all faults of a text ends as the job that assembles it.
+-- Lemmas: the job that writes all faults of a text has the same exit and message as the job that assembles the text.
 use Rattle.std.proofs.Common.{◌≡◌, false, List, [], ◌∷◌, Ok, Err, refl}
 use Rattle.pm_reader.specs.Firsts.{first_of}
 use Rattle.pm_source.specs.declared.fault.AsmFault.{AsmFault}

@@ -1,4 +1,4 @@
--- The lines that are shown are those of the trace.
+-- Lemmas: each line that is shown is a line of the trace, with or without text before it.
 use Rattle.std.proofs.Common.{◌≡◌, ◌⊎◌, ℕ, Bool, true, false, List, [], ◌∷◌, ◌++◌, inl, inr, refl, arith, nat_le, if◌then◌else◌}
 use Rattle.std.proofs.lemmas.Bool.Decides.{nat_tests}
 use Rattle.pm_trace.specs.Trace.{trace_line}

@@ -88,7 +88,7 @@ record IsNoted (line name : List ℕ) : Type 0 where
 digit_good : (d : ℕ) → is_digit d ≡ true → (is_character d ≡ true) × ((d == 34) ≡ false)
 digit_good d h = (grind (arith, nat_tests), grind (arith, nat_tests))
 
--- The digits of a number: quotes are closed after them, and all are valid characters.
+-- Quotes are closed after `digits`, and all characters of `digits` are valid.
 record AreGood (digits : List ℕ) : Type 0 where
   closed : is_open false digits ≡ false
   good : list_all is_character digits ≡ true
@@ -156,7 +156,7 @@ call line name e = by (standard_called line) refl e
 
 -- ---- a line of a segment, or of native code
 
--- A line before a comment: quotes are closed after it, and all its characters are valid.
+-- Quotes are closed after `line`, and all characters of `line` are valid.
 record IsPlain (line : List ℕ) : Type 0 where
   closed : is_open false line ≡ false
   good : list_all is_character line ≡ true

@@ -124,7 +124,7 @@ module _ (d : Session) (depth : Depth) (watched : List WatchedWord) where
   abbrev part : ℕ → ℕ → State → Gone
   part made n s = counted made (gone_from d.breaks watched (is_there depth) 0 n s)
 
-  -- Returns the result of this run and of its continuations after the breakpoints that it ignores.
+  -- Returns the result of the run `part` and of its continuations after the breakpoints that it ignores.
   abbrev whole : ℕ → ℕ → ℕ → State → Passed
   whole made n p s = all_passed d.breaks (made + n) p (left_behind depth watched (part made n s)) (part made n s)
 
@@ -132,7 +132,7 @@ module _ (d : Session) (depth : Depth) (watched : List WatchedWord) where
   abbrev goes : Passed → ℕ → Option Passed
   goes p m = passing_on (after_passing d p) m (gone_on d.breaks p.left m p.run.machine)
 
-  -- A run tests before a step that follows others, for any number of steps executed before these.
+  -- If at least one step precedes a run, then `made` more steps before it only add `made` to the count of the result.
   shifted : (made n m : ℕ) (t : State) → run_from (later At) (made + suc n) m t ≡ behind_made made (run_from (later At) (suc n) m t)
   shifted made n m t =
       goes_on_behind (later At) (made + suc n) m t
@@ -295,7 +295,7 @@ module _ (d : Session) (depth : Depth) (watched : List WatchedWord) where
       few : run.count < n
       few = stopped_within (later At) n s (told_break d.breaks watched run.end u e)
 
-      -- The whole run up to this breakpoint, with this limit and with the greater one.
+      -- The whole run, split at this breakpoint, for the limit `n` and for the greater limit `n + m`.
       now : whole made n (suc q) s ≡ all_passed d.breaks (made + n) (suc q) (AtBreak depth c watched) (part made n s)
       now = ap (λ r. all_passed d.breaks (made + n) (suc q) (left_so depth watched c r) (part made n s)) e
 

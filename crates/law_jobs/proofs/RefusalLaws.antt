@@ -1,4 +1,4 @@
--- The first fault of a text is the one that is reported.
+-- Lemmas for the first fault of a line, of a jump and of a text.
 use Rattle.std.proofs.Common.{◌≡◌, ◌⊎◌, inl, inr, ◌+◌, if◌then◌else◌, Bool, true, false, not, ◌&&◌, ◌||◌, List, [], ◌++◌, refl, ap, ◌∙◌}
 use Rattle.std.specs.List.{list_any}
 use Rattle.pm_source.specs.Faults.{all_label_faults, ends, faults, faults_of_lines, is_again, is_begin, is_far, is_in_place, is_miscounted, is_out_of_range}

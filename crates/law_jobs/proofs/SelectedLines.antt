@@ -1,4 +1,4 @@
--- The lines that are requested are those that are selected.
+-- Lemmas: a line is shown if and only if it is requested.
 use Rattle.std.proofs.Common.{◌≡◌, ◌≤◌, ℕ, Bool, true, false, List, [], ◌∷◌, ◌++◌, Option, Some, None, refl, arith, nat_le}
 use Rattle.std.specs.Prelude.{◌==◌, ◌%◌, ◌&&◌, ◌||◌, not, if◌then◌else◌, ⊤}
 use Rattle.pm_opcode.specs.Table.{groups, mnemonic_of}

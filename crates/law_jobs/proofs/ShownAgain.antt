@@ -1,4 +1,4 @@
--- The text of an assembled file is assembled to the same file.
+-- Lemmas: the text of an assembled file is assembled to the same file.
 use Rattle.std.proofs.Common.{◌≤◌, List, [], ◌∷◌, length, refl, sym, ◌∙◌, subst}
 use Rattle.std.specs.List.{AllZip}
 use Rattle.pm_code.specs.Laws.{IsSameSegment}
@@ -15,7 +15,7 @@ use Rattle.pm_asm.proofs.Outcomes.{assembled_is_spelled}
 use Rattle.pm_asm.specs.Lengths.{AreShort}
 use Rattle.pm_asm.specs.declared.lengths.TheConstants.{LONGEST}
 
--- Segments with the same bytes are equally short.
+-- If the segments `ts` have the same bytes as the segments `ss`, and `ss` are short, then `ts` are short.
 same_short : (ss ts : List Segment) → AllZip IsSameSegment ss ts → AreShort ss → AreShort ts
 same_short [] [] z h = tt
 same_short (s ∷ ss) (t ∷ ts) z h = (subst (λ bs. length bs ≤ LONGEST) (sym z.0.bytes) h.0, same_short ss ts z.1 h.1)

@@ -15,7 +15,7 @@ use Rattle.pm_session.specs.Words.{pieces_between, without_empty, without_return
 use Rattle.law_jobs.specs.Breakpoints.{ConditionIsRead, WordsAreRead}
 use Rattle.law_jobs.specs.Typed.{InputIsTyped, IsOneLine, TypesAreKeys}
 
--- Each of the lines is read as its command.
+-- Worked examples: each of these lines is read as its command.
 text_typed : order_of (codes "type \"AB\"") ≡ Some (Types (65 ∷ 66 ∷ []))
 unfolding typed without_return
 text_typed = refl

@@ -74,7 +74,8 @@ module _ (segment : List ℕ) where
       line_covers number at 2 end (entry_line place) (stored_entries segment number (at + 2) places ++ rest) short
       (entries_cover number (at + 2) end places rest short (subst (λ n. Covers segment n end rest) (omega arith) c))
 
--- A procedure whose code has bytes left with this count of entries, and what follows its table.
+-- If the lines `rest` begin after the table of a procedure, then the lines of the procedure with `count` entries and
+-- `rest` follow each other from its first byte on.
 module _ (segment : List ℕ) (a : Attributes) (b : AllByRecursion IsByte segment) (t : IsTable segment a) (end : ℕ) (rest : List Listed)
     (short : end ≤ length segment) (c : Covers segment (a.jtab + 2) end rest) where
   with_covers : (allowed : Bool) (count : ℕ) → a.enter + 8 + 2 * count ≤ a.jtab
@@ -114,7 +115,7 @@ module _ (segment : List ℕ) (a : Attributes) (b : AllByRecursion IsByte segmen
   unfolding procedure_of
   procedure_covers = count_covers (least_from segment a 0 61) (least_fits segment a 0 61)
 
--- The text of the procedure is that of its lines.
+-- The listed text of a procedure is the text of its lines.
 procedure_text : (slot : ℕ) (segment : List ℕ) (n : ℕ) (a : Attributes) → a.enter ≤ a.exit
     → table_listing_or slot segment n (Some a) ≡ listed_lines slot (stored_procedure segment a (procedure_of segment a))
 procedure_text slot segment n a after =

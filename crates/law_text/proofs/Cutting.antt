@@ -15,7 +15,7 @@ and_parts false b e = absurd (cc)
 pub and_turned : (a b : Bool) → a ≡ true → b ≡ true → (a && b) ≡ true
 and_turned a b e f = rw (e, f) refl
 
--- A character of a word: it is valid, and it is not a space, a tab, or a character with a special meaning.
+-- The character `c` is valid, and it is not a space, a tab, or a character with a special meaning.
 pub record IsWordly (c : ℕ) : Type 0 where
   pub character : is_character c ≡ true
   pub blank : is_blank c ≡ false
@@ -89,7 +89,7 @@ by_cut n text w tail c =
     ∙ ap (λ b. line_by n b (cut text)) c.characters
     ∙ ap (line_by n true) c.parts
 
--- A word that can begin a line and is not a label.
+-- The word `w` can begin a line and is not a label.
 pub record IsFront (w : List ℕ) : Type 0 where
   pub some : is_empty w ≡ false
   pub plain : list_all is_name_character w ≡ true

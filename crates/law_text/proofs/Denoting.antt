@@ -89,7 +89,7 @@ ended number l rest =
         ∙ sym (append_assoc b (32 ∷ c ++ (d ++ (32 ∷ 32 ∷ e))) (10 ∷ rest)))
         ∙ sym (append_assoc a (32 ∷ b ++ (32 ∷ c ++ (d ++ (32 ∷ 32 ∷ e)))) (10 ∷ rest))
 
--- A line whose numbers are those of a machine, and whose characters are valid in a text.
+-- The numbers of the line `l` are less than 2 ^ 64, its bytes are bytes, and the characters of its text are valid.
 record IsLine (l : Listed) : Type 0 where
   procedure : l.procedure < 2 ^ 64
   at : l.at < 2 ^ 64
@@ -159,7 +159,7 @@ lines_characters : (number : ℕ) (ls : List Listed) (texts : List (List ℕ)) �
 lines_characters number [] texts n h k = k
 lines_characters number (l ∷ ls) texts n h k = (line_characters number l n h.0, lines_characters number ls texts n h.1 k)
 
--- The text after the bytes of each line.
+-- The number of the procedure of `l` is less than 2 ^ 64, and the characters of the text after its bytes are valid.
 record IsNamed (l : Listed) : Type 0 where
   procedure : l.procedure < 2 ^ 64
   what : list_all is_character l.what ≡ true
@@ -199,7 +199,7 @@ procedures_named number [] rest n w k = k
 procedures_named number (p ∷ ps) rest n w k =
     procedure_named number p (listed_procedures (number + 1) ps rest) (omega (arith, n)) w.0 (procedures_named (number + 1) ps rest (omega (arith, n)) w.1 k)
 
--- The bytes of each line are bytes, and its offset is before the end.
+-- If a list consists of bytes, then both parts of the list consist of bytes.
 append_bytes : (xs ys : List ℕ) → AreBytes (xs ++ ys) → AreBytes xs × AreBytes ys
 append_bytes [] ys h = (tt, h)
 append_bytes (x ∷ xs) ys h = let more = append_bytes xs ys h.1 in ((h.0, more.0), more.1)
@@ -246,7 +246,7 @@ listing_is_read ss h short =
     ∙ ap (map line_value) (lines_joined (texts_of ss) (program_characters ss w short))
     ∙ program_again ss w short
 
--- The lines of one segment.
+-- If `ls` are lines of segment `n`, then all of them remain if the lines of segment `n` are selected.
 of_same : (n : ℕ) (ls : List Listed) (ds : List Denoted) → of_segment n (map (denoted_line n) ls ++ ds) ≡ map (denoted_line n) ls ++ of_segment n ds
 of_same n [] ds = refl
 of_same n (l ∷ ls) ds = let same = itself n in rw same (ap (λ more. denoted_line n l ∷ more) (of_same n ls ds))

@@ -1,4 +1,4 @@
--- Assembling returns the first of all faults.
+-- Lemmas: assembling returns the first of all faults.
 use Rattle.std.proofs.Common.{◌≡◌, ℕ, ◌+◌, List, [], ◌∷◌, ◌++◌, Option, Some, None, refl}
 use Rattle.std.specs.Prelude.{if◌then◌else◌}
 use Rattle.std.specs.Option.{option_to_list}

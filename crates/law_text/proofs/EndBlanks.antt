@@ -36,7 +36,7 @@ no_comma c h = grind (arith, nat_tests)
 a_character : (c : ℕ) → is_blank c ≡ true → is_character c ≡ true
 a_character c h = grind (arith, nat_tests)
 
--- In a comment the character is removed with the comment.
+-- If a space or tab ends a line, then it ends the line without its comment, or it is removed with the comment.
 uncommented_end : (c : ℕ) (quoted : Bool) (line : List ℕ) → is_blank c ≡ true → Ends c (uncommented quoted (line ++ c ∷ [])) (uncommented quoted line)
 uncommented_end c quoted [] h = let no = no_comment c h in inr (rw no refl)
 uncommented_end c quoted (x ∷ xs) h = by ((x == 59) && not quoted) (uncommented_end c (if x == 34 then not quoted else quoted) xs h)
@@ -56,7 +56,7 @@ unindented_end c (x ∷ xs) h = by (is_blank x) (unindented_end c xs h)
     by true more = more
     by false more = inr refl
 
--- The first word is the same. The text after it ends with the space or tab, or is the same.
+-- The first words of `a` and `b` are the same. The rest of `a` is the rest of `b`, or this rest followed by `c`.
 record Cuts (c : ℕ) (a b : Cut) : Type 0 where
   word : a.word ≡ b.word
   rest : Ends c a.rest b.rest

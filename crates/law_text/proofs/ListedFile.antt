@@ -13,7 +13,7 @@ use Rattle.pm_source.proofs.Programs.{spelled_is_program}
 use Rattle.pm_asm.specs.Assembled.{AssembledIsListed, Assembles}
 use Rattle.pm_asm.proofs.Outcomes.{assembled_is_spelled}
 
--- The bytes of a segment, or no bytes if there is no segment.
+-- The bytes of a slot are the bytes of its segment, or no bytes if the slot has no segment.
 bytes_or_none : (o : Option Segment) → bytes_of_segment o ≡ unwrap_or (option_map segment_bytes o) []
 bytes_or_none None = refl
 bytes_or_none (Some s) = refl

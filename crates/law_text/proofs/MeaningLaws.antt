@@ -726,7 +726,8 @@ values_count (Tree p missing operands before) s ws h =
     let last : length (parts_of operands ++ p ∷ []) ≡ length (parts_of operands) + 1 = length-append (parts_of operands) (p ∷ []) in
     rw (sym e) (omega (arith, fewer, both, last))
 
--- The part of a tree, after its operands.
+-- If the value of a part is on the stack in the state `t`, or its error has halted `t`, then the same holds for the
+-- list of this value and `others`.
 value_ends : (s t : State) (ipc next : ℕ) (others vs : List ℕ) (x : Said ℕ) → ipc ≡ next → NodeEnds s (others ++ vs) ipc x t
     → ForestEnds s vs next (then_said x (λ w. Gives (w ∷ others))) t
 value_ends s t ipc next others vs Unsaid e h = tt
@@ -749,7 +750,7 @@ part_ends s u origin at p others vs (Gives ws) ready even st more h =
     (p ∷ [])) % 65536) others vs (value_said s (operation_at p) ws)
     (ap (λ a. (origin + (a + size a p.item)) % 65536) st.0) ends
 
--- The operands and the part of a tree, after the trees before it.
+-- If `n` steps execute the operands of the part `p`, then `n + 1` steps execute the operands and `p`.
 operands_end : (s t : State) (origin at : ℕ) (p : Part) (n : ℕ) (operands : Forest) (others vs : List ℕ) → Ready s → origin % 2 ≡ 0
     → StandFrom s origin at (p ∷ []) → s.registers.np + 2 * (length (others ++ vs) + 1) ≤ s.registers.sp
     → ForestEnds s (others ++ vs) ((origin + at) % 65536) (values_said s operands) (after_steps n t)
@@ -825,7 +826,7 @@ like_done (Writes a w) s m size like = like_written s m a w size like
 like_done (Jumps ipc) s m size like = like
 like_done GoesOn s m size like = like
 
--- What the last operation does to memory and registers: it pops all operands.
+-- Returns the memory and the registers after the last operation, which pops all operands up to the address `above`.
 abbrev done_to : List ℕ → Registers → ℕ → Done → List ℕ × Registers
 done_to m r above d = (memory_behind d m, record r { sp = above; ipc = ipc_behind d r.ipc })
 
@@ -867,7 +868,7 @@ finishes s u i ws origin at (Gives d) r ready size h there does agrees =
 
 -- ---- stores
 
--- The result of a rule on the stack, together with the registers.
+-- Returns the result of a rule on the stack with the registers `r`, in which SP is the SP of the result.
 abbrev with_sp : Registers → Result (List ℕ × ℕ) ExecError → Result (List ℕ × Registers) ExecError
 with_sp r row = row >>= λ t. Ok (t.0, record r { sp = t.1 })
 

@@ -38,12 +38,12 @@ unfolding names_from named_in
 named_by_table name op zero = refl
 named_by_table name op (suc count) = ap (λ rest. if bytes_eq name (mnemonic_of op) then Some op else rest) (named_by_table name (op + 1) count)
 
--- Whether the number of an opcode is in the range of the first opcode of its name, and represents it.
+-- Returns whether the number `n` is in the range of the opcode `first` and leads from `first` to the opcode `op`.
 gives : ℕ → ℕ → ℕ → Option (ℕ × ℕ) → Bool
 gives op first n None = false
 gives op first n (Some range) = nat_le range.0 n && (nat_le n range.1 && (nat_le n 127 && (first + (n - range.0) == op)))
 
--- Whether the first opcode of a name is read as the opcode, given the number in the name.
+-- Returns whether the first opcode of a name, with the number in the name, is read as the opcode `op`.
 found : ℕ → Option ℕ → Option ℕ → Bool
 found op number None = false
 found op None (Some first) = (first == op) && is_none (short_range op)
@@ -91,7 +91,7 @@ pub or_false : (a b : Bool) → a ≡ false → (a || b) ≡ true → b ≡ true
 or_false false b e h = h
 or_false true b e h = absurd (cc)
 
--- The facts that are known about the name of an opcode.
+-- The name of the opcode `op` can begin a line, is read as a keyword, and leads to `op` again.
 record IsKnown (op : ℕ) : Type 0 where
   front : IsFront (mnemonic_of op)
   keyword : keyword_of (mnemonic_of op) ≡ mnemonic_keyword (named_from (mnemonic_of op) 0 256)
@@ -118,7 +118,7 @@ known op l u =
       found = ap (found op (implied op)) (named_by_table word 0 256) ∙ four.1;
     }
 
--- A name of one opcode, without a number.
+-- The name of the opcode `op` can begin a line and is read as `op`. No range of numbers belongs to `op`.
 pub record IsNamed (op : ℕ) : Type 0 where
   pub front : IsFront (mnemonic_of op)
   pub keyword : keyword_of (mnemonic_of op) ≡ Some (Mnemonic op)

@@ -1,4 +1,4 @@
--- The notes for the segments and procedures of programs.
+-- Lemmas for the notes on the segments and procedures of programs.
 use Rattle.std.proofs.Common.{◌≡◌, ◌<◌, ◌≤◌, ℕ, zero, suc, ◌+◌, ◌-◌, ◌*◌, Bool, true, false, List, [], ◌∷◌, ◌++◌, length, map}
 use Rattle.std.proofs.Common.{replicate, get_or, refl, sym, ap, subst, ◌∙◌, arith, append_assoc, length-append, Option, Some, None}
 use Rattle.std.specs.Prelude.{◌==◌, ◌&&◌, nat_le, nat_lt, if◌then◌else◌, codes, option_map, slice_index, not, reverse}
@@ -50,7 +50,8 @@ below_sixteen P a b c d e f g h i j k l m o p q (suc (suc (suc (suc (suc (suc (s
     upper (suc (suc (suc (suc (suc (suc (suc zero))))))) s = q
     upper (suc (suc (suc (suc (suc (suc (suc (suc n)))))))) s = absurd (omega arith)
 
--- A line of a segment, as each note sees it.
+-- The line of segment `n` names no called procedure and is not native code. It states the slot `n` if it is unquoted,
+-- and else no slot.
 record IsSegmentLine (n : ℕ) (name : List ℕ) : Type 0 where
   calls : name_called (segment_line n name) ≡ None
   native : is_native (segment_line n name) ≡ false
@@ -231,7 +232,7 @@ others_told file (d ∷ ds) rest h = let no : (d == 48) ≡ false = not_zero d h
     not_zero : (d : ℕ) → 48 < d → (d == 48) ≡ false
     not_zero d h = grind (arith, nat_tests)
 
--- The text after the number of a procedure.
+-- Returns the text after the number of a procedure.
 abbrev behind_number : ℕ → ℕ → ℕ → List ℕ
 behind_number level parameters locals = words_text (level_text level ∷ decimal parameters ∷ decimal locals ∷ [])
 

@@ -138,7 +138,7 @@ label_name n h =
     let digits = digit_continues (padded 5 n) (padded_digits 5 n (omega arith)) in
     rw (five, digits) refl
 
--- Numbers as operands.
+-- If a byte is shown in decimal, then it is read again as an operand with the same value.
 pub byte_shown : (b : ℕ) → b < 256 → byte_operand (decimal b) ≡ Some (b, true)
 byte_shown b h =
     let read = number_shown b (omega arith) in

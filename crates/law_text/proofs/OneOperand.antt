@@ -30,7 +30,7 @@ use Rattle.law_text.proofs.Numbers.{number_shown}
 use Rattle.law_text.proofs.Quoting.{all_but_last, marked, one_less}
 use Rattle.law_text.proofs.Operanded.{append_nil, first_of_words}
 
--- Zeros before the digits, and hexadecimal digits.
+-- A zero before the digits of a number does not change its value.
 pub number_without_zero : NumberWithoutZero
 number_without_zero c digits h =
     let minus : (c == 45) ≡ false = grind (arith, nat_tests) in
@@ -151,7 +151,7 @@ is_number (c ∷ cs) h = by (c == 45) (c == 36) refl refl h
         let parts = and_parts (is_ascii_digit c) (list_all is_ascii_digit cs) (decimals false (c ∷ cs) k).1 in
         record { first = c; others = cs; text = refl; begins = digit parts.0; all = of_digits cs parts.1 }
 
--- Characters that the text of a number does not have.
+-- If each character of `cs` can be in the text of a number, then no character of `cs` is an exclamation mark.
 unmarked_from : (cs : List ℕ) (i : ℕ) → list_all is_numberly cs ≡ true → (slice_index cs i == 33) ≡ false
 unmarked_from [] i h = refl
 unmarked_from (c ∷ cs) zero h = one c (and_parts _ _ h).0
@@ -213,7 +213,7 @@ IsSame t u = (is_some (number t) ≡ true) × (number t ≡ number u)
 other_number : (t u : List ℕ) → IsSame t u → IsRead u
 other_number t u h = read_number u (ap is_some (sym h.1) ∙ h.0)
 
--- Each kind of operand.
+-- If `t` and `u` are equal operands, or numbers of the same value, then they are read as the same number.
 number_one : (t u : List ℕ) → IsOneOperand t u → number t ≡ number u
 number_one t u (inl e) = ap number e
 number_one t u (inr h) = h.1
@@ -253,7 +253,8 @@ all_one operand k (t ∷ ts) (u ∷ us) z =
 all_one operand k [] (u ∷ us) z = absurd z
 all_one operand k (t ∷ ts) [] z = absurd z
 
--- Functions of one operand, or of two.
+-- If `f` gives the same result for lists of one operand with the same value, and for all lists of two or more operands,
+-- then `f` gives the same result for `ts` and `us`.
 single : {A : Type 0} (f : List (List ℕ) → A) → ((t u : List ℕ) → IsOneOperand t u → f (t ∷ []) ≡ f (u ∷ []))
     → ((t s u r : List ℕ) (ts us : List (List ℕ)) → f (t ∷ s ∷ ts) ≡ f (u ∷ r ∷ us)) → (ts us : List (List ℕ)) → AllZip IsOneOperand ts us → f ts ≡ f us
 single f one more [] [] z = refl
@@ -391,7 +392,8 @@ procedures_one (a ∷ b ∷ c ∷ d ∷ x ∷ xs) (e ∷ f ∷ g ∷ h ∷ []) z
 segments_one : (n m name : List ℕ) → IsOneOperand n m → segment_operands (n ∷ name ∷ []) ≡ segment_operands (m ∷ name ∷ [])
 segments_one n m name h = let e = number_one n m h in rw e refl
 
--- A number as a part of an operand.
+-- If `n` and `m` are equal operands, or numbers of the same value, then they are read alike with the mark `!` after
+-- them.
 marked_one : (n m : List ℕ) → IsOneOperand n m → number_operand (n ++ 33 ∷ []) ≡ number_operand (m ++ 33 ∷ [])
 marked_one n m h = part n ∙ ap (λ o. o >>= λ v. Some ((v.0, true), v.1)) (numeral_one 0 127 65536 n m h) ∙ sym (part m)
   where

@@ -85,7 +85,7 @@ all_trimmed : (ts : List (List ℕ)) → AllByRecursion IsOperand ts → map tri
 all_trimmed [] h = refl
 all_trimmed (t ∷ ts) h = ap (λ u. u ∷ map trimmed (map (λ t. 32 ∷ t) ts)) (back_trimmed t h.0) ∙ ap (λ us. t ∷ us) (all_trimmed ts h.1)
 
--- The pieces of operands, each after a space.
+-- If a space and an operand are before a text, then they become the beginning of its first piece.
 one_piece : (t rest p : List ℕ) (ps : List (List ℕ)) → IsOperand t → pieces false rest ≡ p ∷ ps → pieces false (32 ∷ t ++ rest) ≡ (32 ∷ t ++ p) ∷ ps
 one_piece t rest p ps o e = ap (onto_first 32) (o.piece rest p ps e)
 

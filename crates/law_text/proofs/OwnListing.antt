@@ -59,7 +59,8 @@ entries_are segment number at [] = refl
 entries_are segment number at (place ∷ places) =
     ap (λ ls. stored segment number at 2 (entry_line place) ∷ ls) (entries_are segment number (at + 2) places)
 
--- The lines of a procedure, and those of what follows it.
+-- The restored lines of a procedure and of `rest` are the stored lines of the procedure, followed by the restored
+-- `rest`.
 procedure_is : (segment : List ℕ) (number : ℕ) (p : Procedure) (rest : List Listed)
     → map (restored segment) (listed_procedure number p rest)
     ≡ stored_procedure segment (attributes_of number p) p ++ map (restored segment) rest
@@ -78,7 +79,7 @@ procedure_is segment number p rest =
     ∙ sym (append_assoc items (entries ++ last ∷ []) (map f rest))
     ∙ ap (λ n. (items ++ (stored_entries segment number n (reverse p.entries) ++ last ∷ [])) ++ map f rest) (sym at)
 
--- Each procedure is read as itself.
+-- Each of the procedures is read from the segment as itself.
 abbrev AllOwn : List ℕ → ℕ → List Procedure → Type 0
 AllOwn segment number [] = Unit {0}
 AllOwn segment number (p ∷ ps) = (procedure_of segment (attributes_of number p) ≡ p) × AllOwn segment (number + 1) ps

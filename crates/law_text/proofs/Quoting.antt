@@ -122,7 +122,7 @@ pub target_word : (t : Target ℕ) → IsWritable t → IsWord (target_text t)
 target_word (To place) h = label_word place (omega arith)
 target_word (Through k) h = let w : IsWord (decimal k) = decimal_word k (omega arith) in record { some = refl; plain = w.plain }
 
--- Lists of numbers and of labels.
+-- If words are shown in decimal, then they are read again as the same words.
 pub words_again : (ws : List ℕ) → AllByRecursion (λ w. w < 65536) ws → all_operands word_operand (map decimal ws) ≡ Some (ws, true)
 words_again [] h = refl
 words_again (w ∷ ws) h =
@@ -147,7 +147,7 @@ pub same_count : (places : List ℕ) → length (map label_text places) ≡ leng
 same_count [] = refl
 same_count (p ∷ places) = omega (arith, same_count places)
 
--- Quoted text.
+-- If a hexadecimal digit is written in quoted text, then it is read again as its value.
 unhex : (d : ℕ) → d < 16 → lower_hex (hex_digit d) ≡ Some d
 unhex d h = grind (arith, nat_tests)
 

@@ -1,4 +1,4 @@
--- A procedure is shown as one with the same bytes.
+-- Lemmas: a procedure is shown as a procedure with the same bytes.
 use Rattle.std.proofs.Common.{◌≡◌, ◌≤◌, ℕ, zero, suc, ◌+◌, ◌-◌, ◌*◌, Bool, true, eqb, List, [], ◌∷◌, ◌++◌, length}
 use Rattle.std.proofs.Common.{take, drop, reverse, refl, sym, ap, ◌∙◌, arith, append_assoc, length-append, drop-drop}
 use Rattle.std.specs.Prelude.{◌&&◌, nat_le, ◌==◌}
@@ -22,7 +22,7 @@ use Rattle.pm_disasm.proofs.Stored.{entries_again, length-entry_places}
 use Rattle.pm_code.proofs.Stored.{length-entry_bytes}
 use Rattle.law_text.proofs.OwnCount.{code_there, behind_code, level_again}
 
--- The conditions for a count of entries with which a procedure is shown.
+-- The count `t` of entries satisfies the conditions under which the procedure `p` is shown with `t` entries.
 pub record Counted (segment : List ℕ) (number : ℕ) (p : Procedure) (allowed : Bool) (t : ℕ) : Type 0 where
   pub room : p.start + 8 + 2 * t ≤ jtab_of p
   pub exit : p.exit ≤ end_with (attributes_of number p) t
@@ -49,7 +49,7 @@ fits_counted segment number p t h =
     let places = passed_below (end_with a t) (p.exit ∷ q.entries) four.0 in
     record { room = leb-true _ _ one.0; exit = places.0; after = three.0; within = places.1; used = eqb-true _ _ four.1 }
 
--- The bytes from the beginning of a procedure on.
+-- The segment has at least the bytes from the beginning of the procedure `p` to the end of the word at its JTAB.
 long_enough : (segment : List ℕ) (number : ℕ) (p : Procedure) (s : StandsIn segment number p) → jtab_of p + 2 ≤ p.start + length (drop p.start segment)
 long_enough segment number p s =
     let entries : List ℕ = entry_bytes (code_end p) (reverse p.entries) in
@@ -63,13 +63,13 @@ long_enough segment number p s =
       length-code p.start p.items,
     )
 
--- The end of the code for a count.
+-- If the procedure `p` is read with the count `t`, then its code ends at `end_with (attributes_of number p) t`.
 taken_length : (segment : List ℕ) (number : ℕ) (p : Procedure) (t : ℕ) (s : StandsIn segment number p) → p.start + 8 + 2 * t ≤ jtab_of p
     → p.start + length (code_with segment (attributes_of number p) t) ≡ end_with (attributes_of number p) t
 taken_length segment number p t s room =
     omega (arith, length-take (jtab_of p - 8 - 2 * t - p.start) (drop p.start segment), long_enough segment number p s, room)
 
--- The code and the jump table of a procedure, in the segment.
+-- In the segment, the code of the procedure `p` is followed by the bytes of its jump table entries.
 front_there : (segment : List ℕ) (number : ℕ) (p : Procedure) (s : StandsIn segment number p)
     → take (jtab_of p - 8 - p.start) (drop p.start segment) ≡ code_of p ++ entry_bytes (code_end p) (reverse p.entries)
 front_there segment number p s =
@@ -95,7 +95,8 @@ after_all segment enter jtab k (suc t) h =
     let both = and_parts (nat_le (enter + word_in segment at) at) (are_after segment enter jtab (k + 1) t) h in
     (omega (arith, leb-true _ _ both.0), after_all segment enter jtab (k + 1) t both.1)
 
--- Offsets among the forced ones, in the code, are boundaries.
+-- If each forced offset from `start` to `end` is in `bounds`, and `xs` consists of such offsets, then all offsets in
+-- `xs` are in `bounds`.
 all_bound : (forced bounds xs : List ℕ) (start end : ℕ) → ((place : ℕ) → IsIn forced place → start ≤ place → place ≤ end → IsIn bounds place)
     → ((place : ℕ) → IsIn xs place → IsIn forced place) → AllByRecursion (λ place. start ≤ place) xs → AllByRecursion (λ place. place ≤ end) xs
     → AllByRecursion (IsIn bounds) xs
@@ -104,7 +105,7 @@ all_bound forced bounds (x ∷ xs) start end f sub low high =
     let first : IsIn (x ∷ xs) x = (let t : eqb x x ≡ true = eq-eqb x x refl in rw t refl) in
     (f x (sub x first) low.0 high.0, all_bound forced bounds xs start end f (λ place i. sub place (or_right (eqb x place) (is_among xs place) i)) low.1 high.1)
 
--- A procedure with the same bytes at the same offset.
+-- The procedure `q` is valid, and has the same JTAB and the same bytes as `p`.
 pub record SameBytes (number : ℕ) (p q : Procedure) : Type 0 where
   pub procedure : IsProcedure q
   pub jtab : jtab_of q ≡ jtab_of p

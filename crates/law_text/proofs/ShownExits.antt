@@ -39,7 +39,7 @@ exit_passed n used exit at rows e =
     ap (λ b. exit_place at (put_if (is_among used at) (Items n (Some (label_text at)) []) (put_if b Exit rows))) e
     ∙ there (is_among used at) n at (label_text at) rows
 
--- The exit is at its offset.
+-- If the exit is at a boundary of the items, then the rows have the exit at its offset.
 pub exit_stands : (n : ℕ) (used : List ℕ) (exit at : ℕ) (items : List (Item ℕ)) → IsIn (boundaries at items) exit
     → exit_place at (rows_of n used exit at items) ≡ exit
 exit_stands n used exit at [] i = go (eqb exit at) refl
@@ -81,7 +81,7 @@ no_exits n used exit at (item ∷ items) h =
     no_exit_at n used exit at (Items m None (labelled_item item ∷ []) ∷ more) (below exit at h)
     ∙ no_exits (m + 1) used exit (at + size at item) items (omega (arith, h))
 
--- The exit occurs once.
+-- If the exit is at a boundary of the items, then the rows contain one exit.
 pub one_exit : (n : ℕ) (used : List ℕ) (exit at : ℕ) (items : List (Item ℕ)) → IsIn (boundaries at items) exit → exits_of (rows_of n used exit at items) ≡ 1
 one_exit n used exit at [] i = go (eqb exit at) refl
   where
@@ -141,7 +141,7 @@ no_names : IsDistinct bytes_eq []
 unfolding IsDistinct
 no_names = tt
 
--- No label occurs twice.
+-- No label occurs twice in the rows.
 pub labels_distinct : (n : ℕ) (used : List ℕ) (exit at : ℕ) (items : List (Item ℕ)) → end_of at items < 2 ^ 64
     → IsDistinct bytes_eq (labels_of (rows_of n used exit at items))
 labels_distinct n used exit at [] l =

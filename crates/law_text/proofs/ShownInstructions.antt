@@ -25,7 +25,7 @@ use Rattle.law_text.proofs.Numbers.{decimal_word, byte_shown, word_shown}
 use Rattle.law_text.proofs.Quoting.{number_text_shown, marked_word, words_again, words_operands, quoted_operand, text_shown}
 use Rattle.law_text.proofs.Mnemonics.{is_plain}
 
--- The facts about an instruction whose operands have a form.
+-- The operands of the instruction `i` are in the ranges of the form `form`, and `named` are its operand bytes.
 pub record IsOfForm (form : Form) (i : Instr) (named : List ℕ) : Type 0 where
   pub ranges : in_range form i ≡ true
   pub word : i.a < 65536
@@ -54,7 +54,7 @@ none_named : (named : List ℕ) (n : ℕ) → length named ≡ n → 0 ≡ n →
 none_named [] n e f = refl
 none_named (b ∷ named) n e f = absurd (omega (arith, e, f))
 
--- An instruction without operand bytes.
+-- If an instruction has no operand bytes, then its meaning is the one with an empty list of operand bytes.
 pub unnamed : (i j : Instr) (named : List ℕ) → j ≡ i → length named ≡ i.count → j.count ≡ 0 → said_plain j [] ≡ said_plain i named
 unnamed i j named e l z = ap (λ k. said_plain k []) e ∙ ap (said_plain i) (none_named named i.count l (sym z ∙ ap (λ k. k.count) e))
 
@@ -144,7 +144,7 @@ chars_is i named h =
     at_most : (n : ℕ) → n < 256 → nat_le n 255 ≡ true
     at_most n h = grind (arith, nat_tests)
 
--- The words of bytes.
+-- The list `ws` consists of words, and `bytes` are the bytes of these words.
 record AreWordsOf (bytes ws : List ℕ) : Type 0 where
   flat : flat_words ws ≡ bytes
   ranges : AllByRecursion (λ w. w < 65536) ws
@@ -187,7 +187,7 @@ words_is i named h =
     at_most : (n : ℕ) → n < 256 → nat_le n 255 ≡ true
     at_most n h = grind (arith, nat_tests)
 
--- A comparison of a type, with the rest of its size and mark.
+-- Returns the comparison `op` of the type `type`. The size and the mark are set only if the type has a size.
 abbrev compared : ℕ → ℕ → Bool → ℕ → Instr
 compared op size long type =
     record (bare op) { a = type; b = if is_sized type then size else 0; long = if is_sized type then long && nat_lt size 128 else false }
@@ -203,7 +203,7 @@ unsized_is : (op size : ℕ) (long : Bool) (type : ℕ) (w : List ℕ) → type_
     → comparison op (w ∷ []) ≡ said_plain (compared op size long type) [] → IsType op size long type
 unsized_is op size long type w t h e = (subst IsOperand (sym t) (of_word w h), ap (λ u. comparison op (words u)) t ∙ ap (comparison op) (word_of w h) ∙ e)
 
--- The parts of a type and its size.
+-- If a text has two words with a space between them, then these words are read.
 two_words_of : (a b : List ℕ) → IsWord a → IsWord b → words (a ++ 32 ∷ b) ≡ a ∷ b ∷ []
 two_words_of a b h k = first_of_words a (32 ∷ b) h.some h.plain refl ∙ ap (λ ws. a ∷ ws) (word_of b k)
 
@@ -266,7 +266,7 @@ typed_is i named h =
     as_clear true = refl
     as_clear false = refl
 
--- The operands of each form that names no offset, except the form without operands.
+-- If a form names no offset and has operands, then the operands of an instruction of this form are read again.
 pub read_as : (form : Form) (i : Instr) (named : List ℕ) → names_place form ≡ false → is_plain form ≡ false → IsOfForm form i named → IsReadAs form i named
 read_as forms.Plain i named p q h = absurd (cc)
 read_as forms.Ub i named p q h = one_byte_is i named h

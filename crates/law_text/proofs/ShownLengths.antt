@@ -1,4 +1,4 @@
--- Where the code of procedures ends, and the length of their bytes.
+-- Lemmas for where the code of procedures ends, and for the length of their bytes.
 use Rattle.std.proofs.Common.{◌≡◌, ◌≤◌, ℕ, ◌+◌, ◌*◌, List, [], ◌∷◌, ◌++◌, length, reverse, refl, arith}
 use Rattle.std.specs.List.{AllByRecursion}
 use Rattle.std.proofs.lemmas.List.{length-append, length-reverse}

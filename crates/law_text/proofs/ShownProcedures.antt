@@ -22,7 +22,7 @@ use Rattle.law_text.proofs.SpokenLines.{labelled_item, IsWritableItem, jump_entr
 use Rattle.law_text.proofs.ShownRows.{rows_of, Show, shows, line_after, lines_then, shows_code, code_then, rows_items, rows_end, place_of_label, end_above}
 use Rattle.law_text.proofs.ShownExits.{exit_stands, one_exit, labels_distinct}
 
--- A procedure of a program that is short enough for the names of its labels.
+-- The procedure `p` is valid, and its code ends before the offset 100,000.
 pub record IsWhole (p : Procedure) : Type 0 where
   pub procedure : IsProcedure p
   pub short : code_end p < 100000
@@ -38,7 +38,7 @@ entries_after n (place ∷ places) = entries_after (n + 1) places
 abbrev pub used_of : Procedure → List ℕ
 used_of p = named_places p.items ++ p.entries
 
--- The procedure with its labels, whose first line has the number `n`, and the line after it.
+-- Returns the number of the line after the code of `p`, if the first line of `p` has the number `n`.
 abbrev pub entries_at : ℕ → Procedure → ℕ
 entries_at n p = line_after (n + 1) (used_of p) p.exit p.start p.items
 
@@ -65,7 +65,7 @@ shows_entries n (place ∷ places) texts said h s =
     shows n (entry_line place) (Entry n (label_text place)) (map entry_line places ++ texts) (map entry_statement (shown_entries (n + 1) places) ++ said)
     (jump_entry_line n place h.0) (shows_entries (n + 1) places texts said h.1 s)
 
--- An offset in the code.
+-- If `q` is a boundary of the items, then it is at most the offset at which the items end.
 within : (at : ℕ) (items : List (Item ℕ)) (q : ℕ) → IsIn (boundaries at items) q → q ≤ end_of at items
 within at [] q h = go (eqb at q) refl h
   where
@@ -191,7 +191,7 @@ same_entries : (n : ℕ) (entries : List ℕ) → length (shown_entries n entrie
 same_entries n [] = refl
 same_entries n (e ∷ entries) = omega (arith, same_entries (n + 1) entries)
 
--- A size does not change if the offset changes by an even number.
+-- If the offset of an item changes by an even number, then the size of the item does not change.
 shifted_size : (d at : ℕ) (item : Item ℕ) → d % 2 ≡ 0 → size (d + at) item ≡ size at item
 shifted_size d at item e = go item
   where
@@ -215,7 +215,7 @@ shifted_end d at (item ∷ items) e =
     next : (d at m n : ℕ) → m ≡ n → d + at + m ≡ d + (at + n)
     next d at m n e = omega (arith, e)
 
--- The offsets that labels name are in the code.
+-- Each offset that a label of `p` names is a boundary in the code of `p`.
 used_within : (p : Procedure) → IsWhole p → AllByRecursion (IsIn (places_of p)) (used_of p)
 used_within p w = all_append (IsIn (places_of p)) (named_places p.items) p.entries (named_within (places_of p) p.items w.procedure.jumps) w.procedure.entries
 
@@ -265,7 +265,7 @@ source_sound n p w = record {
       ∙ ap entries_needed (sym (rows_items (n + 1) (used_of p) p.exit p.start p.items));
 }
 
--- The statements that the lines of a procedure spell.
+-- The lines of the procedure `p` spell the statements of its head and its code, followed by `End`.
 pub shows_procedure : (n k : ℕ) (p : Procedure) (texts : List (List ℕ)) (said : List Statement) → IsWhole p → k < 256 → Show (procedure_after n p) texts said
     → Show n (procedure_lines k p ++ texts) (head_statements k (shown_source n p) ++ End ∷ said)
 shows_procedure n k p texts said w l s =

@@ -28,7 +28,7 @@ use Rattle.law_text.proofs.ShownRows.{Show, shows}
 use Rattle.law_text.proofs.ShownLengths.{ends_within}
 use Rattle.law_text.proofs.ShownProcedures.{IsWhole, shown_source, procedure_after, source_means, source_sound, shows_procedure}
 
--- The lines of joined lines.
+-- If all characters of `l` are valid, then `l`, a line feed and `rest` are split into `l` and the lines of `rest`.
 one_line : (l rest : List ℕ) → list_all is_character l ≡ true → slice_split (λ b. b == 10) (l ++ (10 ∷ rest)) ≡ l ∷ slice_split (λ b. b == 10) rest
 one_line [] rest h = refl
 one_line (c ∷ l) rest h =
@@ -65,7 +65,7 @@ all_stripped (l ∷ m ∷ ls) h = ap (λ u. u ∷ lines_of_parts ((m ∷ ls) ++ 
 pub lines_joined : (ls : List (List ℕ)) → AreCharacters ls → lines (joined ls) ≡ ls
 lines_joined ls h = ap lines_of_parts (parts_of ls h) ∙ all_stripped ls h
 
--- A line that has a meaning contains only valid characters.
+-- If a line has a meaning, then it contains only valid characters.
 pub said_line : (n : ℕ) (l : List ℕ) (s : Statement) → line_of n l ≡ Says s NoFlaw → list_all is_character l ≡ true
 unfolding line_of
 said_line n l s h = go (list_all is_character l) refl
@@ -77,7 +77,7 @@ said_line n l s h = go (list_all is_character l) refl
         let wrong : line_of n l ≡ Wrong last = rw e refl in
         absurd (cc)
 
--- The statements that the lines after a line spell.
+-- The lines spell the statements `said`.
 record Rest (lines : List Line) : Type 0 where
   said : List Statement
   rest : AreSaid lines said
@@ -89,7 +89,7 @@ rest_said Strange lines said h = absurd h
 rest_said (Says s flaw) lines [] h = absurd h
 rest_said (Says s flaw) lines (t ∷ said) h = record { said = said; rest = h.1.1 }
 
--- Lines that have a meaning contain only valid characters.
+-- If lines have a meaning, then they contain only valid characters.
 said_characters : (n : ℕ) (ls : List (List ℕ)) (said : List Statement) → Show n ls said → AreCharacters ls
 unfolding line_of
 said_characters n [] said h = tt
@@ -105,7 +105,7 @@ said_characters n (l ∷ ls) said h =
     go false e = absurd (let last : Bool = bytes_eq (cut (uncommented false l)).word (codes ".END") in let strange : line_of n l
         ≡ Wrong last = rw e refl in wrong (line_of n l) last strange h)
 
--- The source of shown procedures and segments, and the lines after them.
+-- Returns the sources of the shown procedures, of which the first begins at line `n`.
 shown_sources : ℕ → List Procedure → List Source
 shown_sources n [] = []
 shown_sources n (p ∷ ps) = shown_source n p ∷ shown_sources (procedure_after n p) ps
@@ -136,7 +136,7 @@ shows_procedures n k (p ∷ ps) texts said w l s =
     (subst (λ ss. Show n (procedure_lines k p ++ (procedures_lines (k + 1) ps ++ texts)) ss)
     (sym (append_assoc (head_statements k (shown_source n p)) (End ∷ statements_from (k + 1) (shown_sources m ps)) said)) first)
 
--- A segment of a program whose procedures are not too long.
+-- The segment `s` is valid, and each of its procedures is valid and ends before the offset 100,000.
 pub record IsWholeSegment (s : program.Segment) : Type 0 where
   pub segment : IsSegment s
   pub procedures : AllByRecursion IsWhole s.procedures
@@ -154,7 +154,7 @@ shows_segments n (s ∷ ss) w =
     (statements_from 1 (shown_sources (n + 1) s.procedures) ++ statements (shown_segments m ss))
     (segment_line_again n s.number s.name w.0.segment.number w.0.segment.name) procedures
 
--- The meaning of the source, and that it is sound.
+-- If the procedures `ps` are valid and not too long, then their shown sources mean `ps`.
 sources_mean : (n : ℕ) (ps : List Procedure) → AllByRecursion IsWhole ps → AllZip MeansProcedure (shown_sources n ps) ps
 unfolding shown_sources
 sources_mean n [] w = tt
@@ -179,7 +179,7 @@ unfolding shown_segments
 segments_sound n [] w = tt
 segments_sound n (s ∷ ss) w = (sources_sound (n + 1) s.procedures w.0.procedures, segments_sound (sources_after (n + 1) s.procedures) ss w.1)
 
--- Source segments with ascending numbers, each at least `least`.
+-- The numbers of the segments ascend, and the first is at least `least`.
 abbrev Ascends : ℕ → List SourceSegment → Type 0
 Ascends least [] = Unit {0}
 Ascends least (s ∷ ss) = (least ≤ s.number) × Ascends (s.number + 1) ss
@@ -222,7 +222,8 @@ dropped n zero s ss l = refl
 dropped n (suc count) s ss l =
     let other = differ s.number n l in rw other (ap (λ rest. option_to_list (segment_with n ss) ++ rest) (dropped (n + 1) count s ss (omega (arith, l))))
 
--- Segments with ascending numbers are themselves in this order.
+-- If the numbers of segments ascend from `n` on and are less than `n + count`, then sorting by number returns the same
+-- list.
 in_order : (n count : ℕ) (ss : List SourceSegment) → Ascends n ss → AllByRecursion (IsBelow (n + count)) ss → segments_from n count ss ≡ ss
 in_order n zero [] h b = refl
 in_order n zero (s ∷ ss) h b = absurd (omega (arith, h.0, b.0))
@@ -250,7 +251,7 @@ in_order n (suc count) (s ∷ ss) h b =
         let none : segment_with n ss ≡ None = none_with n (s.number + 1) ss (omega (arith, less)) h.1 in
         rw e (rw none (g (omega (arith, less), h.1) (raised (s ∷ ss) b)))
 
--- The procedures of a program whose segments are short.
+-- If procedures are valid and end at most at `last`, which is less than 100,000, then they are not too long.
 wholes : (ps : List Procedure) (last : ℕ) → last < 100000 → AllByRecursion IsProcedure ps → AllByRecursion (λ p. code_end p ≤ last) ps
     → AllByRecursion IsWhole ps
 wholes [] last l h e = tt

@@ -32,7 +32,7 @@ next_if b n = if b then n + 1 else n
 abbrev pub rows_at : ℕ → List ℕ → ℕ → ℕ → List Row → List Row
 rows_at n used exit at rest = put_if (is_among used at) (Items n (Some (label_text at)) []) (put_if (exit == at) Exit rest)
 
--- The number of the line after those of an offset.
+-- Returns the number of the line after the lines for the label and the exit at an offset.
 abbrev pub line_behind : ℕ → List ℕ → ℕ → ℕ → ℕ
 line_behind n used exit at = next_if (exit == at) (next_if (is_among used at) n)
 
@@ -108,7 +108,7 @@ code_then used exit at (item ∷ items) texts =
     at_then used exit at ((32 ∷ 32 ∷ shown_item item) ∷ code_lines used exit (at + size at item) items) texts
     ∙ ap (λ ls. lines_at used exit at ((32 ∷ 32 ∷ shown_item item) ∷ ls)) (code_then used exit (at + size at item) items texts)
 
--- The contents of the rows: the items, where they end, the exit and the offsets of labels.
+-- Rows for a label or for the exit do not change the items of the rows after them.
 same_items : (b c : Bool) (n : ℕ) (name : Name) (rows : List Row) → items_of (put_if b (Items n (Some name) []) (put_if c Exit rows)) ≡ items_of rows
 same_items true true n name rows = refl
 same_items true false n name rows = refl
@@ -135,7 +135,7 @@ same_end true false n at name rows = refl
 same_end false true n at name rows = refl
 same_end false false n at name rows = refl
 
--- Where the rows end, for any offset at which they begin.
+-- The rows end where the items end, for any offset `from` at which the rows begin.
 pub rows_end : (n : ℕ) (used : List ℕ) (exit at from : ℕ) (items : List (Item ℕ)) → code_end from (rows_of n used exit at items) ≡ end_of from items
 rows_end n used exit at from [] = same_end (is_among used at) (exit == at) n from (label_text at) []
 rows_end n used exit at from (item ∷ items) =
@@ -168,7 +168,7 @@ place_here n used exit at rows q u e =
     let same : bytes_eq (label_text at) (label_text q) ≡ true = (bytes_eq-Decides (label_text at) (label_text q)).1 (ap label_text e) in
     rw there (rw same (ap Some e))
 
--- The labels of other offsets are skipped.
+-- If `label` and `name` are different, then a row with `label` does not change the offset of `name`.
 passed : (b c : Bool) (n at : ℕ) (label name : Name) (rows : List Row) → bytes_eq label name ≡ false
     → place_of at (put_if b (Items n (Some label) []) (put_if c Exit rows)) name ≡ place_of at rows name
 passed true true n at label name rows e = rw e refl

@@ -21,7 +21,7 @@ use Rattle.law_text.proofs.Standing.{AllStand, all_stand, dictionary_there}
 use Rattle.pm_code.proofs.Laid.{are_segment_bytes, dictionary_reversed, tables_before}
 use Rattle.law_text.proofs.FoundTables.{table_found, stored_byte}
 
--- The procedures that are shown for procedures numbered from `number` on.
+-- Returns the procedures that are shown for the given procedures, which are numbered from `number` on.
 abbrev pub shown_from : List ℕ → ℕ → List Procedure → List Procedure
 shown_from segment number [] = []
 shown_from segment number (p ∷ ps) = procedure_of segment (attributes_of number p) ∷ shown_from segment (number + 1) ps
@@ -45,7 +45,7 @@ all_found segment rest at number k (p ∷ ps) t e few s b =
           (other_words segment at (length segment + 6) k (jtab_of p) (map jtab_of ps) rest t) (omega (arith, e)) (omega (arith, few)) s.1 b.1,
     )
 
--- The count of procedures is the last byte.
+-- The count of procedures that is read from the bytes of a segment is the number of its procedures.
 count_there : (s : Segment) → IsSegment s → procedures_in (segment_bytes s) ≡ length s.procedures
 count_there s h =
     let segment : List ℕ = segment_bytes s in
@@ -71,7 +71,7 @@ tables_shown segment number (p ∷ ps) s f =
     ap (λ ls. ls ++ tables_lines segment (number + 1) (length ps)) one
     ∙ ap (λ ls. procedure_lines number (procedure_of segment a) ++ ls) (tables_shown segment (number + 1) ps s.1 f.1)
 
--- The procedures that are shown for the procedures of a segment.
+-- The procedures that are shown for `ps` are valid, and have the same count, JTABs, bytes and end as `ps`.
 record AreShownAs (segment : List ℕ) (number at : ℕ) (ps : List Procedure) : Type 0 where
   procedures : AllByRecursion IsProcedure (shown_from segment number ps)
   count : length (shown_from segment number ps) ≡ length ps
@@ -98,7 +98,7 @@ are_shown_as segment number at (p ∷ ps) s =
       same = λ i. ap (λ p. p ∷ qs) (one.same i.0) ∙ ap (λ ps. p ∷ ps) (more.same i.1);
     }
 
--- The segment that is shown.
+-- The segment that is shown for `s` is valid and has the same bytes as `s`. The tables of its procedures are found.
 pub record ShownWell (s : Segment) : Type 0 where
   pub segment : IsSegment (shown_segment s)
   pub same : IsSameSegment s (shown_segment s)

@@ -45,7 +45,7 @@ IsWritableItem (Jump op target) = IsWritable target
 IsWritableItem (Case low high otherwise places) = IsWritable otherwise × AllByRecursion (λ p. p < 100000) places
 IsWritableItem _ = Unit {0}
 
--- The names of directives.
+-- The names of the directives are read as their keywords.
 bytes_word : keyword_of (codes ".BYTE") ≡ Some OfBytes
 unfolding keyword_of directives
 bytes_word = refl
@@ -70,7 +70,7 @@ end_word : keyword_of (codes ".END") ≡ Some OfEnd
 unfolding keyword_of directives
 end_word = refl
 
--- A line of an item, by the facts about its operands.
+-- If the operands `ts` are read as the statement `s`, then the line with the name `front` and `ts` is read as `s`.
 spoken_item : (n : ℕ) (front : List ℕ) (ts : List (List ℕ)) (keyword : Keyword) (s : Statement) → IsFront front → keyword_of front ≡ Some keyword
     → AllByRecursion IsOperand ts → said n keyword (operands_text ts) ≡ Some (s, NoFlaw)
     → line_of n (32 ∷ 32 ∷ front ++ operands_text ts) ≡ Says s NoFlaw
@@ -108,7 +108,7 @@ assigned forms.Unassigned i h = absurd (cc)
 abbrev PlainLine : ℕ → Instr → List ℕ → List (List ℕ) → Type 0
 PlainLine n i named ts = line_of n (32 ∷ 32 ∷ mnemonic_of i.op ++ operands_text ts) ≡ Says (Code (Items n None (Plain i named ∷ []))) NoFlaw
 
--- An instruction without operands, or with a number in its opcode.
+-- If an instruction has the form `Plain`, then its line is read again.
 bare_line : (n : ℕ) (i : Instr) (named : List ℕ) → i.op < 256 → form_of i.op ≡ forms.Plain → IsOfForm forms.Plain i named
     → PlainLine n i named (operand_texts forms.Plain i named)
 bare_line n i named l f h = go (implied i.op) refl
@@ -217,7 +217,7 @@ item_line n at (Jump op target) h w = jump_line n op target h.0 h.1 w
 item_line n at (Case low high otherwise places) h w = case_line n at low high otherwise places h w.0 w.1
 item_line n at (OneByte b) h w = byte_line n b h
 
--- A line of a directive, by the facts about its parts.
+-- If the words `ws` are read as the statement `s`, then the line with the directive `front` and `ws` is read as `s`.
 directive_line : (n : ℕ) (front : List ℕ) (ws : List (List ℕ)) (keyword : Keyword) (s : Statement) → IsFront front → keyword_of front ≡ Some keyword
     → AllByRecursion IsWord ws → said n keyword (words_text ws) ≡ Some (s, NoFlaw)
     → line_of n (front ++ words_text ws) ≡ Says s NoFlaw
@@ -254,7 +254,7 @@ begin_line n number level parameters locals hn hl hp ep hs es =
     directive_line n (codes ".PROC") ws OfProcedure (Begin number level parameters locals)
     (record { some = refl; plain = refl; unmarked = refl }) procedure_word w (rw again (rw (a, b, c, d) refl))
 
--- A line of a label.
+-- The line of a label is read again as this label.
 pub label_line : (n place : ℕ) → place < 100000 → line_of n (label_text place ++ 58 ∷ []) ≡ Says (Code (Items n (Some (label_text place)) [])) NoFlaw
 unfolding cut
 label_line n place h =

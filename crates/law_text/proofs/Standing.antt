@@ -26,7 +26,7 @@ all_stand segment rest at number (p ∷ ps) b e h k =
     ∙ drop-append_seam one more in
     (record { procedure = k.0; rest = more; there = here; bytes = b }, all_stand segment rest (jtab_of p + 2) (number + 1) ps b next h.1 k.1)
 
--- The dictionary of a segment.
+-- The dictionary of a segment follows its procedures.
 pub dictionary_there : (s : Segment) (h : IsSegment s) → Table (segment_bytes s) (procedures_end 0 s.procedures) (length (segment_bytes s) + 6) 0
     (map jtab_of s.procedures) (s.number ∷ length s.procedures ∷ [])
 dictionary_there s h =

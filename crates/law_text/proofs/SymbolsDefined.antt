@@ -85,7 +85,7 @@ labelled (Items line (Some label) items ∷ rows) at name place h = elim (cases_
 
 -- ---- one procedure
 
--- The facts about a symbol of a procedure.
+-- The symbol `x` belongs to the procedure `p`, which has the number `procedure` in `segment` and begins at `start`.
 record IsOf (segment procedure start : ℕ) (p : Source) (x : Symbol) : Type 0 where
   owner : x.segment ≡ segment
   number : x.procedure ≡ procedure
@@ -128,7 +128,7 @@ tells segment procedure start p x h = by x.label refl h.stands
 
 -- ---- the procedures of a segment
 
--- A symbol of the procedures of a segment that are numbered from `n` on, the first of which begins at offset `at`.
+-- The symbol `x` belongs to one of the procedures `ps`, which are numbered from `n` on and begin at the offset `at`.
 record IsAmong (segment n at : ℕ) (ps : List Source) (x : Symbol) : Type 0 where
   before : List Source
   procedure : Source
@@ -177,7 +177,8 @@ among segment n at (p ∷ ps) x h =
           }
     ]
 
--- The procedure of a text, and that of the program at the same position.
+-- If a symbol belongs to the procedure `p` after the procedures `before`, then it is one of the symbols of all
+-- procedures.
 from_parts : (segment n at : ℕ) (before : List Source) (p : Source) (after : List Source) (front : List Procedure) (q : Procedure)
     (back : List Procedure) (x : Symbol)
     → found_procedures at (before ++ p ∷ after) ≡ front ++ q ∷ back → length front ≡ length before → IsOf segment (n + length before) q.start p x

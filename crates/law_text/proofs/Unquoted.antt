@@ -1,4 +1,4 @@
--- Characters after which a comment may follow.
+-- Lemmas for texts after which a comment can follow.
 use Rattle.std.proofs.Common.{◌≡◌, ℕ, zero, suc, ◌/◌, ◌%◌, ◌<◌, Bool, true, false, List, [], ◌∷◌, ◌++◌, refl, ◌∙◌, arith}
 use Rattle.std.specs.Prelude.{◌==◌, ◌&&◌, if◌then◌else◌, nat_le, nat_lt, not, ◌-◌}
 use Rattle.std.specs.Fmt.{decimal, digit_glyph, digits, digits_onto}

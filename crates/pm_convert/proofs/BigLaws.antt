@@ -1,15 +1,15 @@
 -- If an image is converted to the order `big` and back, or from the order `big` and back, it is unchanged.
-use Rattle.std.proofs.Common.{◌≡◌, ◌∙◌, ◌+◌, ◌-◌, ◌*◌, ◌/◌, ◌%◌, ◌<◌, ◌≤◌, ◌⊎◌, inl, inr, ℕ, Bool, true, false}
-use Rattle.std.proofs.Common.{List, [], ◌∷◌, ◌++◌, length, map, take, drop, get_or, refl, sym, ap, arith, eqb, ltb, leb, cond}
-use Rattle.std.specs.Prelude.{◌==◌, ◌&&◌, ◌||◌, nat_le, nat_lt, slice_index, slice_range}
+use Rattle.std.proofs.Common.{◌≡◌, ◌∙◌, ◌+◌, ◌-◌, ◌*◌, ◌/◌, ◌%◌, ◌<◌, ◌≤◌, inl, inr, ℕ, Bool, true, false}
+use Rattle.std.proofs.Common.{List, length, map, drop, refl, sym, ap, arith, ltb, leb, cond}
+use Rattle.std.specs.Prelude.{◌==◌, ◌&&◌, ◌||◌, nat_le, nat_lt, slice_index}
 use Rattle.std.specs.List.{list_any, range_with_len}
-use Rattle.std.proofs.lemmas.Bool.{agree_below_at, and_from, and_left, and_parts, and_right, cases_lt, cond_both, cond-true, cond-false, le-leb, le-ltb, lt-leb, leb-true, lt-ltb, ltb-true}
+use Rattle.std.proofs.lemmas.Bool.{agree_below_at, and_from, and_parts, cases_lt, cond_both, cond-true, cond-false, le-leb, le-ltb, lt-leb, leb-true, lt-ltb, ltb-true}
 use Rattle.std.proofs.lemmas.List.{get_or-drop, get_or-take}
-use Rattle.std.proofs.lemmas.List.FromFn.{fill_by_all, get_or-map-range_with_len, length-map-range_with_len}
+use Rattle.std.proofs.lemmas.List.FromFn.{fill_by_all, get_or-map-range_with_len}
 use Rattle.pm_check.specs.Orders.{place_in_word}
 use Rattle.pm_convert.specs.Big.{IsClear, big_place, big_with, code_blocks, directory_front, directory_place, exchanged_front, exchanged_with}
 use Rattle.pm_convert.specs.Big.{from_big, is_dictionary_word, is_directory_word, is_exchanged, is_in_directory, to_big, turned_directory}
-use Rattle.pm_convert.proofs.BigSteps.{exchanged_size, turned_directory_size}
+use Rattle.pm_convert.proofs.BigSteps.{exchanged_size}
 use Rattle.pm_volume.specs.Directory.{directory_of, files_begin}
 use Rattle.pm_volume.specs.declared.fields.TheConstants.{PAST_SECOND}
 use Rattle.pm_volume.proofs.WrittenLaws.{length-directory}
@@ -17,15 +17,15 @@ use Rattle.pm_volume.proofs.WrittenLaws.{length-directory}
 -- Two tests are equal if both are true, or both are false.
 same_lt : (a b c d : ℕ) → (a < b → c < d) → (b ≤ a → d ≤ c) → ltb a b ≡ ltb c d
 same_lt a b c d below above = elim (cases_lt a b) [
-    inl h ↦ lt-ltb a b h ∙ sym (lt-ltb c d (below h))
-    | inr h ↦ le-ltb a b h ∙ sym (le-ltb c d (above h))
-    ]
+  | inl h ↦ lt-ltb a b h ∙ sym (lt-ltb c d (below h))
+  | inr h ↦ le-ltb a b h ∙ sym (le-ltb c d (above h))
+]
 
 same_le : (a b c d : ℕ) → (b < a → d < c) → (a ≤ b → c ≤ d) → leb a b ≡ leb c d
 same_le a b c d below above = elim (cases_lt b a) [
-    inl h ↦ lt-leb a b h ∙ sym (lt-leb c d (below h))
-    | inr h ↦ le-leb a b h ∙ sym (le-leb c d (above h))
-    ]
+  | inl h ↦ lt-leb a b h ∙ sym (lt-leb c d (below h))
+  | inr h ↦ le-leb a b h ∙ sym (le-leb c d (above h))
+]
 
 -- ---- the two bytes of a word
 
@@ -47,8 +47,10 @@ in_same half place = go (nat_le (2 * half) place) (nat_lt place (2 * half + 2048
   where
     from : nat_le (2 * half) (place_in_word place) ≡ nat_le (2 * half) place
     from = same_le (2 * half) (place_in_word place) (2 * half) place (λ h. omega (arith, h)) (λ h. omega (arith, h))
+
     to : nat_lt (place_in_word place) (2 * half + 2048) ≡ nat_lt place (2 * half + 2048)
     to = same_lt (place_in_word place) (2 * half + 2048) place (2 * half + 2048) (λ h. omega (arith, h)) (λ h. omega (arith, h))
+
     go : (x y : Bool) → nat_le (2 * half) place ≡ x → nat_lt place (2 * half + 2048) ≡ y
         → is_in_directory (2 * half) (place_in_word place) ≡ is_in_directory (2 * half) place
     go false y e f = rw (from, e) refl
@@ -67,9 +69,9 @@ exchanged_same second blocks size place =
     let copy = in_same 1536 place in
     let rest : place_in_word place % 512 ≡ place_in_word (place % 512) = omega arith in
     let table : is_dictionary_word (place_in_word (place % 512)) ≡ is_dictionary_word (place % 512)
-        = dictionary_same (place % 512) (omega arith) in
+    = dictionary_same (place % 512) (omega arith) in
     let whole : nat_lt (place_in_word place) (size / 512 * 512) ≡ nat_lt place (size / 512 * 512)
-        = same_lt (place_in_word place) (size / 512 * 512) place (size / 512 * 512) (λ h. omega (arith, h)) (λ h. omega (arith, h)) in
+    = same_lt (place_in_word place) (size / 512 * 512) place (size / 512 * 512) (λ h. omega (arith, h)) (λ h. omega (arith, h)) in
     let block : place_in_word place / 512 ≡ place / 512 = omega arith in
     rw (first, copy, rest, table, whole, block) refl
 
@@ -86,7 +88,7 @@ big_back second blocks size place inside =
     cond_both (nat_lt place (size / 2 * 2) && is_exchanged second blocks size place) _ _
     (λ there. big_place second blocks size there ≡ place)
     (λ is. cond-true _ _ _ (and_from _ _ (lt-ltb _ _ (word_inside place (size / 2) (ltb-true _ _ (and_parts _ _ is).0)))
-      (exchanged_same second blocks size place ∙ (and_parts _ _ is).1)) ∙ word_back place)
+    (exchanged_same second blocks size place ∙ (and_parts _ _ is).1)) ∙ word_back place)
     (λ is. cond-false _ _ _ is)
 
 -- ---- an image that is converted twice
@@ -165,9 +167,9 @@ in_directory second blocks size place inside clear =
     let apart : (1024 + place) - 1024 ≡ place = omega arith in
     let none : nat_le 3072 (1024 + place) ≡ false = lt-leb 3072 (1024 + place) (omega (arith, inside)) in
     let no : list_any (λ known. known == (1024 + place) / 512) blocks ≡ false
-        = clear ((1024 + place) / 512) (omega (arith, inside)) (omega (arith, inside)) in
+    = clear ((1024 + place) / 512) (omega (arith, inside)) (omega (arith, inside)) in
     rw (from, to, apart, none, no) (go second (is_directory_word place) (is_dictionary_word ((1024 + place) % 512))
-      (nat_lt (1024 + place) (size / 512 * 512)))
+    (nat_lt (1024 + place) (size / 512 * 512)))
   where
     go : (s w d t : Bool) → (w || ((s && false) || (d && (t && false)))) ≡ w
     go s true d t = refl
@@ -198,10 +200,13 @@ converted_directory directory image long clear =
   where
     second : Bool
     second = files_begin directory == PAST_SECOND
+
     blocks : List ℕ
     blocks = code_blocks directory
+
     size : length (exchanged_with second blocks image) ≡ length image
     size = exchanged_size second blocks image
+
     at : (place : ℕ) → place < 2048
         → slice_index (directory_of (big_with directory image)) place ≡ slice_index (directory_of image) (directory_place place)
     at place inside = directory_at (big_with directory image) place inside
@@ -223,7 +228,7 @@ unfolding from_big to_big
 to_from volume long clear =
     rw (converted_directory (turned_directory (directory_of volume)) volume long clear)
     (exchanged_back (files_begin (turned_directory (directory_of volume)) == PAST_SECOND)
-      (code_blocks (turned_directory (directory_of volume))) volume)
+    (code_blocks (turned_directory (directory_of volume))) volume)
 
 pub from_size : (volume : List ℕ) → length (from_big volume) ≡ length volume
 unfolding from_big

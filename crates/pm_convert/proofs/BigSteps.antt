@@ -61,5 +61,7 @@ module _ (directory blocks : List ℕ) (n end : ℕ) where
   code_none over = let e : end - n ≡ 0 = omega arith in rw e (append-nil blocks)
 
 pub ruleset big_steps = (front_none, front_more)
+
 pub ruleset directory_steps = (directory_none, directory_more)
+
 pub ruleset code_steps = (code_here, code_other, code_none)

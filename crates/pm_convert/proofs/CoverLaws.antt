@@ -1,11 +1,11 @@
 -- The position of the volume in an image stays if the volume is replaced.
-use Rattle.std.proofs.Common.{◌≡◌, ◌∙◌, ◌+◌, ◌-◌, ◌*◌, ◌<◌, ◌≤◌, ◌≢◌, ◌⊎◌, inl, inr, ℕ, Bool, true, false}
-use Rattle.std.proofs.Common.{List, [], ◌∷◌, ◌++◌, Option, None, Some, length, take, drop, get_or, refl, sym, ap, arith, length-append, length-drop, lit<, lit≤}
+use Rattle.std.proofs.Common.{◌≡◌, ◌∙◌, ◌+◌, ◌-◌, ◌<◌, ◌≤◌, ℕ, Bool, true, false}
+use Rattle.std.proofs.Common.{List, ◌++◌, None, Some, length, take, drop, get_or, refl, sym, ap, arith, length-append, length-drop, lit<, lit≤}
 use Rattle.std.specs.Prelude.{◌==◌, ◌&&◌, nat_le, nat_lt, slice_index, slice_range, if◌then◌else◌, codes}
 use Rattle.std.specs.Str.{bytes_eq}
-use Rattle.std.proofs.lemmas.Bool.{and_parts, cond_both, leb-true, ltb-true, ltb-false, eqb-true}
-use Rattle.std.proofs.lemmas.List.{append_assoc, drop-drop, drop_at, length-take-le, take-append-drop, take-append-le, take-take, take_all, take_at}
-use Rattle.pm_bytes.specs.Words.{word_in, written}
+use Rattle.std.proofs.lemmas.Bool.{and_parts, leb-true, ltb-true, ltb-false, eqb-true}
+use Rattle.std.proofs.lemmas.List.{append_assoc, drop-drop, drop_at, length-take-le, take-append-drop, take-append-le, take-take, take_at}
+use Rattle.pm_bytes.specs.Words.{written}
 use Rattle.pm_check.specs.Forms.{front_begin, front_size, has_front, long_in}
 use Rattle.pm_convert.specs.Covers.{bare_size, bytes_at, has_disk_copy, part_in}
 use Rattle.pm_convert.specs.Made.{replaced_at}
@@ -60,13 +60,16 @@ front_facts image = go (nat_lt (length image) 64) refl
   where
     go : (short : Bool) → nat_lt (length image) 64 ≡ short
         → (if short then false else bytes_eq (take 4 image) (codes "2IMG") && nat_le 52 (front_begin image)
-          && nat_lt 0 (front_size image) && nat_le (front_begin image + front_size image) (length image)) ≡ true
+        && nat_lt 0 (front_size image) && nat_le (front_begin image + front_size image) (length image)) ≡ true
         → (64 ≤ length image) × (52 ≤ front_begin image) × (0 < front_size image) × (front_begin image + front_size image ≤ length image)
     go true is e = cc
     go false is e =
-        let a = and_parts _ _ e in let b = and_parts _ _ a.0 in let d = and_parts _ _ b.0 in
-        (ltb-false (length image) 64 is, leb-true 52 (front_begin image) d.1, ltb-true 0 (front_size image) b.1,
-          leb-true (front_begin image + front_size image) (length image) a.1)
+        let a = and_parts _ _ e in let b = and_parts _ _ a.0 in let d = and_parts _ _ b.0 in (
+          ltb-false (length image) 64 is,
+          leb-true 52 (front_begin image) d.1,
+          ltb-true 0 (front_size image) b.1,
+          leb-true (front_begin image + front_size image) (length image) a.1,
+        )
 
 module _ (image : List ℕ) (begin : ℕ) (volume : List ℕ) (behind : 52 ≤ begin) (inside : begin + length volume ≤ length image) where
   long_same : (place : ℕ) → place + 4 ≤ begin → long_in (written image begin volume) place ≡ long_in image place

@@ -1,6 +1,6 @@
 -- Laws of images with other blocks.
-use Rattle.std.proofs.Common.{◌≡◌, ◌∙◌, ◌≢◌, ◌+◌, ◌-◌, ◌≤◌, ◌<◌, ℕ, Bool, true, false, List, Option, None, Some}
-use Rattle.std.proofs.Common.{drop, length, length-drop, refl, sym, ap, arith}
+use Rattle.std.proofs.Common.{◌≡◌, ◌∙◌, ◌≢◌, ◌+◌, ◌-◌, ◌≤◌, ℕ, Bool, true, false, List, Option, None, Some}
+use Rattle.std.proofs.Common.{drop, length, length-drop, refl, ap, arith}
 use Rattle.std.specs.Prelude.{◌==◌, ◌&&◌, if◌then◌else◌}
 use Rattle.std.proofs.lemmas.Bool.{and_from, and_parts, cond-true, eq-eqb, eqb-true}
 use Rattle.std.proofs.lemmas.List.{length-take-le}
@@ -37,13 +37,16 @@ gets format image blocks made = go (part_in format.cover image) refl
     test part false is there e = cc
     test part true is there e =
         let parts = and_parts _ _ is in
-        let made_is : made ≡ replaced_at format.cover part (in_order format.order blocks) image = cc in
-        (part, record {
-          there = there;
-          same = eqb-true (length blocks) part.size parts.0;
-          fit = parts.1;
-          made_is = made_is;
-        })
+        let made_is : made ≡ replaced_at format.cover part (in_order format.order blocks) image = cc in (
+          part,
+          record {
+            there = there;
+            same = eqb-true (length blocks) part.size parts.0;
+            fit = parts.1;
+            made_is = made_is;
+          },
+        )
+
     go : (found : Option Part) → part_in format.cover image ≡ found → with_blocks_at format found image blocks ≡ Some made
         → (part : Part) × Gets format image blocks made part
     go None is e = cc
@@ -107,15 +110,16 @@ same format image blocks e inverse other = go (part_in format.cover image) refl 
         let whole : length (bytes_at part image) ≡ part.size = bytes_size part image inside in
         let fit : fits format.order (length (bytes_at part image)) ≡ true = ap (fits format.order) whole ∙ is in
         let size : length blocks ≡ part.size
-            = ap length own_is ∙ blocks_size format.order (bytes_at part image) ∙ whole in
+        = ap length own_is ∙ blocks_size format.order (bytes_at part image) ∙ whole in
         let volume : in_order format.order blocks ≡ bytes_at part image
-            = ap (in_order format.order) own_is
-            ∙ turn_forth format.order (bytes_at part image) fit (own format.order (bytes_at part image) inverse) in
+        = ap (in_order format.order) own_is
+        ∙ turn_forth format.order (bytes_at part image) fit (own format.order (bytes_at part image) inverse) in
         cond-true ((length blocks == part.size) && fits format.order part.size) _ _
         (and_from (length blocks == part.size) (fits format.order part.size) (eq-eqb (length blocks) part.size size) is)
         ∙ ap (λ volume. Some (replaced_at format.cover part volume image)) volume
         ∙ ap Some (plain format.cover part (bytes_at part image) image other)
         ∙ ap Some (written_same image part.begin part.size inside)
+
     go : (found : Option Part) → part_in format.cover image ≡ found → blocks_at format.order found image ≡ Some blocks
         → with_blocks format image blocks ≡ Some image
     go None is e = cc

@@ -1,8 +1,7 @@
 -- The blocks of a new image are the blocks that it was made for.
-use Rattle.std.proofs.Common.{◌≡◌, ◌∙◌, ◌≢◌, ◌+◌, ◌-◌, ◌*◌, ◌/◌, ◌%◌, ◌≤◌, ◌<◌, ℕ, Bool, true, false, List, [], ◌∷◌, ◌++◌, Option, None, Some}
-use Rattle.std.proofs.Common.{drop, take, get_or, length, length-append, refl, sym, ap, arith, eqb, ltb, leb, cond, lit<, lit≤}
-use Rattle.std.specs.Prelude.{◌==◌, ◌&&◌, not, if◌then◌else◌, slice_range, codes}
-use Rattle.std.specs.Str.{bytes_eq}
+use Rattle.std.proofs.Common.{◌≡◌, ◌∙◌, ◌≢◌, ◌+◌, ◌-◌, ◌<◌, ℕ, Bool, true, false, List, [], ◌∷◌, ◌++◌, None, Some}
+use Rattle.std.proofs.Common.{take, get_or, length, length-append, refl, sym, ap, arith, eqb, ltb, leb}
+use Rattle.std.specs.Prelude.{◌==◌, if◌then◌else◌, slice_range, codes}
 use Rattle.std.proofs.lemmas.Bool.{cond-false, cond-true, eq-eqb, le-leb, le-ltb, lt-ltb, ne_eqb}
 use Rattle.std.proofs.lemmas.List.{take_all}
 use Rattle.pm_bytes.specs.Words.{word_in, written}
@@ -15,7 +14,6 @@ use Rattle.pm_convert.specs.Made.{covered, disk_copy, new_image, order_number}
 use Rattle.pm_convert.specs.Sums.{checksum, high_long}
 use Rattle.pm_convert.specs.Turning.{fits, in_blocks, in_order}
 use Rattle.pm_convert.specs.Worked.{ComesBack}
-use Rattle.pm_convert.specs.declared.cover.Part.{Part}
 use Rattle.pm_convert.specs.declared.format.ByteOrder.{ByteOrder}
 use Rattle.pm_convert.specs.declared.format.Cover.{Cover}
 use Rattle.pm_convert.specs.declared.format.Cover.TheVariants as covers
@@ -151,6 +149,7 @@ made_back format blocks made e clear some small other = go (fits format.order (l
   where
     volume : List ℕ
     volume = in_order format.order blocks
+
     go : (b : Bool) → fits format.order (length blocks) ≡ b
         → (if b then Some (covered format.cover format.order (in_order format.order blocks)) else None) ≡ Some made
         → blocks_in format made ≡ Some blocks
@@ -161,7 +160,7 @@ made_back format blocks made e clear some small other = go (fits format.order (l
         ap (blocks_in format) made_is
         ∙ ap (λ found. blocks_at format.order found (covered format.cover format.order (in_order format.order blocks)))
         (new_part format.cover format.order (in_order format.order blocks) (omega (arith, size, some)) (omega (arith, size, small))
-          (λ same. other (sym size ∙ same)))
+        (λ same. other (sym size ∙ same)))
         ∙ cond-true (fits format.order (length (in_order format.order blocks))) _ _ (ap (fits format.order) size ∙ is)
         ∙ ap (λ volume. Some (in_blocks format.order volume)) (new_bytes format.cover format.order (in_order format.order blocks))
         ∙ ap Some (turn_back format.order blocks is clear)

@@ -1,5 +1,5 @@
 -- The checksum of a list of bytes, word by word.
-use Rattle.std.proofs.Common.{◌≡◌, ◌∙◌, ◌+◌, ◌*◌, ◌<◌, ◌≤◌, ℕ, zero, suc, List, [], ◌∷◌, drop, length, get_or, refl, ap, arith}
+use Rattle.std.proofs.Common.{◌≡◌, ◌+◌, ◌*◌, ◌<◌, ℕ, suc, List, [], ◌∷◌, drop, length, get_or, refl, arith}
 use Rattle.std.proofs.Common.{length-drop}
 use Rattle.std.proofs.Math.Seq.{drop-cons}
 use Rattle.pm_convert.specs.Sums.{sum_from, with_word}
@@ -14,10 +14,10 @@ pub sum_more : (sum : ℕ) (bytes : List ℕ) (n : ℕ) → 2 * n + 1 < length b
 unfolding sum_from
 sum_more sum bytes n h =
     let first : drop (2 * n) bytes ≡ get_or bytes (2 * n) 0 ∷ drop (suc (2 * n)) bytes
-        = drop-cons bytes (2 * n) 0 (omega arith) in
+    = drop-cons bytes (2 * n) 0 (omega arith) in
     let one : suc (2 * n) ≡ 2 * n + 1 = omega arith in
     let second : drop (2 * n + 1) bytes ≡ get_or bytes (2 * n + 1) 0 ∷ drop (suc (2 * n + 1)) bytes
-        = drop-cons bytes (2 * n + 1) 0 h in
+    = drop-cons bytes (2 * n + 1) 0 h in
     let two : suc (2 * n + 1) ≡ 2 * (n + 1) = omega arith in
     rw (first, one, second, two) refl
 

@@ -85,7 +85,12 @@ fn big_place(has_second: bool, blocks: &[u16], size: usize, place: usize) -> usi
 
 /// Returns `image` with exchanged bytes. The parameters are those of `is_exchanged`.
 #[tactic(auto, unfolding(crate::specs::Big::exchanged_with), using(crate::proofs::BigSteps::big_steps))]
-fn exchanged_with(alloc: Global, has_second: bool, blocks: &[u16], image: &[u8]) -> Result<Vec<u8>, AllocError>
+fn exchanged_with(
+    alloc: Global,
+    has_second: bool,
+    blocks: &[u16],
+    image: &[u8],
+) -> Result<Vec<u8>, AllocError>
     ensures image { IfOk result (λ made. made.items ≡ exchanged_with has_second blocks.now image.now) }
 {
     let mut made = Vec::new(alloc);
@@ -102,7 +107,11 @@ fn listed(directory: &[u8]) -> u16
     ensures most { result ≤ 77 }
 {
     let files = word(directory, HEADER_FILES);
-    if files > MOST_FILES { MOST_FILES } else { files }
+    if files > MOST_FILES {
+        MOST_FILES
+    } else {
+        files
+    }
 }
 
 /// Returns the first block of each code file of `directory`, whose words have the low byte first.

@@ -56,7 +56,10 @@ pub(crate) fn checksum(bytes: &[u8]) -> usize
 {
     let mut sum = 0;
     for n in 0..bytes.len() / 2 {
-        sum = with_word(sum, 256 * usize::from(bytes[2 * n]) + usize::from(bytes[2 * n + 1]));
+        sum = with_word(
+            sum,
+            256 * usize::from(bytes[2 * n]) + usize::from(bytes[2 * n + 1]),
+        );
     }
     if bytes.len() % 2 == 1 {
         sum = with_word(sum, 256 * usize::from(bytes[bytes.len() - 1]));
@@ -66,7 +69,11 @@ pub(crate) fn checksum(bytes: &[u8]) -> usize
 
 #[tactic(auto, unfolding(crate::specs::Headers::disk_copy_header))]
 /// Returns the header for a volume of `size` bytes with the checksum `sum`. The name and the tags are empty.
-pub(crate) fn disk_copy_header(alloc: Global, size: usize, sum: usize) -> Result<Vec<u8>, AllocError>
+pub(crate) fn disk_copy_header(
+    alloc: Global,
+    size: usize,
+    sum: usize,
+) -> Result<Vec<u8>, AllocError>
     ensures header { IfOk result (λ header. header.items ≡ disk_copy_header size sum) }
 {
     let mut header = Vec::new(alloc);

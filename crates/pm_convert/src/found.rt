@@ -54,7 +54,12 @@ fn opens(alloc: Global, image: &[u8], format: Format) -> Result<bool, AllocError
 }
 
 /// Appends this format if `image` opens as a volume in it.
-fn push_format(formats: &mut Vec<Format>, alloc: Global, image: &[u8], format: Format) -> Result<(), AllocError>
+fn push_format(
+    formats: &mut Vec<Format>,
+    alloc: Global,
+    image: &[u8],
+    format: Format,
+) -> Result<(), AllocError>
     ensures more { OnOk result (formats.new.items ≡ formats.old.items ++ filter (opens image.now) (format ∷ [])) }
 {
     if opens(alloc, image, format)? {
@@ -74,10 +79,22 @@ pub fn formats_of(alloc: Global, image: &[u8]) -> Result<Vec<Format>, AllocError
     ensures formats { IfOk result (λ formats. formats.items ≡ formats_of image.now) }
 {
     let cover = cover_of(image);
-    let blocks = Format { cover, order: ByteOrder::Blocks };
-    let dos = Format { cover, order: ByteOrder::Dos };
-    let swapped = Format { cover, order: ByteOrder::Swapped };
-    let big = Format { cover, order: ByteOrder::Big };
+    let blocks = Format {
+        cover,
+        order: ByteOrder::Blocks,
+    };
+    let dos = Format {
+        cover,
+        order: ByteOrder::Dos,
+    };
+    let swapped = Format {
+        cover,
+        order: ByteOrder::Swapped,
+    };
+    let big = Format {
+        cover,
+        order: ByteOrder::Big,
+    };
     let mut formats = Vec::new(alloc);
     push_format(&mut formats, alloc, image, blocks)?;
     push_format(&mut formats, alloc, image, dos)?;

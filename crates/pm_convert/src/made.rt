@@ -44,7 +44,12 @@ fn seal(image: &mut [u8], cover: Cover, volume: &[u8])
 /// # Errors
 ///
 /// `AllocError`: memory was refused.
-pub fn with_blocks(alloc: Global, image: &[u8], format: Format, blocks: &[u8]) -> Result<Option<Vec<u8>>, AllocError>
+pub fn with_blocks(
+    alloc: Global,
+    image: &[u8],
+    format: Format,
+    blocks: &[u8],
+) -> Result<Option<Vec<u8>>, AllocError>
     ensures image { IfOk result (λ made. option_map (λ made. made.items) made ≡ with_blocks format image.now blocks.now) }
 {
     let Some(part) = part_in(image, format.cover) else {
@@ -105,7 +110,11 @@ fn disk_copy(alloc: Global, volume: &[u8]) -> Result<Vec<u8>, AllocError>
 /// # Errors
 ///
 /// `AllocError`: memory was refused.
-pub fn new_image(alloc: Global, format: Format, blocks: &[u8]) -> Result<Option<Vec<u8>>, AllocError>
+pub fn new_image(
+    alloc: Global,
+    format: Format,
+    blocks: &[u8],
+) -> Result<Option<Vec<u8>>, AllocError>
     ensures image { IfOk result (λ made. option_map (λ made. made.items) made ≡ new_image format blocks.now) }
 {
     if !fits(format.order, blocks.len()) {

@@ -25,7 +25,11 @@ pub(crate) fn fits(order: ByteOrder, size: usize) -> bool
 }
 
 /// Returns `volume`, which is in this order, with its blocks in order.
-pub(crate) fn in_blocks(alloc: Global, order: ByteOrder, volume: &[u8]) -> Result<Vec<u8>, AllocError>
+pub(crate) fn in_blocks(
+    alloc: Global,
+    order: ByteOrder,
+    volume: &[u8],
+) -> Result<Vec<u8>, AllocError>
     requires fits { IsTrue (fits order (length volume.now)) }
     ensures blocks { IfOk result (λ made. made.items ≡ in_blocks order volume.now) }
 {
@@ -39,7 +43,11 @@ pub(crate) fn in_blocks(alloc: Global, order: ByteOrder, volume: &[u8]) -> Resul
 
 /// Returns `blocks`, a volume with its blocks in order, in this order.
 #[tactic(auto, using(pm_check::proofs::OrderLaws::turned_size))]
-pub(crate) fn in_order(alloc: Global, order: ByteOrder, blocks: &[u8]) -> Result<Vec<u8>, AllocError>
+pub(crate) fn in_order(
+    alloc: Global,
+    order: ByteOrder,
+    blocks: &[u8],
+) -> Result<Vec<u8>, AllocError>
     requires fits { IsTrue (fits order (length blocks.now)) }
     ensures volume { IfOk result (λ made. made.items ≡ in_order order blocks.now) }
     ensures size { IfOk result (λ made. length made.items ≡ length blocks.now) }

@@ -1,15 +1,15 @@
 -- If an image is converted to the order `big` and back, or from the order `big` and back, it is unchanged.
-use Rattle.std.proofs.Common.{◌≡◌, ◌∙◌, ◌+◌, ◌-◌, ◌*◌, ◌/◌, ◌%◌, ◌<◌, ◌≤◌, ◌⊎◌, inl, inr, ℕ, Bool, true, false}
-use Rattle.std.proofs.Common.{List, [], ◌∷◌, ◌++◌, length, map, take, drop, get_or, refl, sym, ap, arith, eqb, ltb, leb, cond}
-use Rattle.std.specs.Prelude.{◌==◌, ◌&&◌, ◌||◌, nat_le, nat_lt, slice_index, slice_range}
+use Rattle.std.proofs.Common.{◌≡◌, ◌∙◌, ◌+◌, ◌-◌, ◌*◌, ◌/◌, ◌%◌, ◌<◌, ◌≤◌, inl, inr, ℕ, Bool, true, false}
+use Rattle.std.proofs.Common.{List, length, map, drop, refl, sym, ap, arith, ltb, leb, cond}
+use Rattle.std.specs.Prelude.{◌==◌, ◌&&◌, ◌||◌, nat_le, nat_lt, slice_index}
 use Rattle.std.specs.List.{list_any, range_with_len}
-use Rattle.std.proofs.lemmas.Bool.{agree_below_at, and_from, and_left, and_parts, and_right, cases_lt, cond_both, cond-true, cond-false, le-leb, le-ltb, lt-leb, leb-true, lt-ltb, ltb-true}
+use Rattle.std.proofs.lemmas.Bool.{agree_below_at, and_from, and_parts, cases_lt, cond_both, cond-true, cond-false, le-leb, le-ltb, lt-leb, leb-true, lt-ltb, ltb-true}
 use Rattle.std.proofs.lemmas.List.{get_or-drop, get_or-take}
-use Rattle.std.proofs.lemmas.List.FromFn.{fill_by_all, get_or-map-range_with_len, length-map-range_with_len}
+use Rattle.std.proofs.lemmas.List.FromFn.{fill_by_all, get_or-map-range_with_len}
 use Rattle.pm_check.specs.Orders.{place_in_word}
 use Rattle.pm_convert.specs.Big.{IsClear, big_place, big_with, code_blocks, directory_front, directory_place, exchanged_front, exchanged_with}
 use Rattle.pm_convert.specs.Big.{from_big, is_dictionary_word, is_directory_word, is_exchanged, is_in_directory, to_big, turned_directory}
-use Rattle.pm_convert.proofs.BigSteps.{exchanged_size, turned_directory_size}
+use Rattle.pm_convert.proofs.BigSteps.{exchanged_size}
 use Rattle.pm_volume.specs.Directory.{directory_of, files_begin}
 use Rattle.pm_volume.specs.declared.fields.TheConstants.{PAST_SECOND}
 use Rattle.pm_volume.proofs.WrittenLaws.{length-directory}

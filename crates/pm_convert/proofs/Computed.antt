@@ -1,5 +1,5 @@
 -- The laws of images, and the worked examples, computed.
-use Rattle.std.proofs.Common.{◌≡◌, ℕ, Bool, true, false, List, Some, refl}
+use Rattle.std.proofs.Common.{◌≡◌, ℕ, List, Some, refl}
 use Rattle.std.specs.Prelude.{slice_index}
 use Rattle.pm_bytes.specs.Words.{word_in, written}
 use Rattle.pm_check.specs.Forms.{front_size, has_front, long_in}
@@ -18,7 +18,6 @@ use Rattle.pm_convert.specs.declared.format.ByteOrder.{ByteOrder}
 use Rattle.pm_convert.specs.declared.format.ByteOrder.TheVariants as orders
 use Rattle.pm_convert.specs.declared.format.Cover.{Cover}
 use Rattle.pm_convert.specs.declared.format.Cover.TheVariants as covers
-use Rattle.pm_convert.specs.declared.format.Format.{Format}
 use Rattle.pm_convert.proofs.ImageLaws.{back, keeps_size, same}
 use Rattle.pm_convert.proofs.NewLaws.{made_back, made_sealed}
 use Rattle.pm_convert.proofs.SealLaws.{sealed}

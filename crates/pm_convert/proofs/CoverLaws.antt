@@ -1,11 +1,11 @@
 -- The position of the volume in an image stays if the volume is replaced.
-use Rattle.std.proofs.Common.{◌≡◌, ◌∙◌, ◌+◌, ◌-◌, ◌*◌, ◌<◌, ◌≤◌, ◌≢◌, ◌⊎◌, inl, inr, ℕ, Bool, true, false}
-use Rattle.std.proofs.Common.{List, [], ◌∷◌, ◌++◌, Option, None, Some, length, take, drop, get_or, refl, sym, ap, arith, length-append, length-drop, lit<, lit≤}
+use Rattle.std.proofs.Common.{◌≡◌, ◌∙◌, ◌+◌, ◌-◌, ◌<◌, ◌≤◌, ℕ, Bool, true, false}
+use Rattle.std.proofs.Common.{List, ◌++◌, None, Some, length, take, drop, get_or, refl, sym, ap, arith, length-append, length-drop, lit<, lit≤}
 use Rattle.std.specs.Prelude.{◌==◌, ◌&&◌, nat_le, nat_lt, slice_index, slice_range, if◌then◌else◌, codes}
 use Rattle.std.specs.Str.{bytes_eq}
-use Rattle.std.proofs.lemmas.Bool.{and_parts, cond_both, leb-true, ltb-true, ltb-false, eqb-true}
-use Rattle.std.proofs.lemmas.List.{append_assoc, drop-drop, drop_at, length-take-le, take-append-drop, take-append-le, take-take, take_all, take_at}
-use Rattle.pm_bytes.specs.Words.{word_in, written}
+use Rattle.std.proofs.lemmas.Bool.{and_parts, leb-true, ltb-true, ltb-false, eqb-true}
+use Rattle.std.proofs.lemmas.List.{append_assoc, drop-drop, drop_at, length-take-le, take-append-drop, take-append-le, take-take, take_at}
+use Rattle.pm_bytes.specs.Words.{written}
 use Rattle.pm_check.specs.Forms.{front_begin, front_size, has_front, long_in}
 use Rattle.pm_convert.specs.Covers.{bare_size, bytes_at, has_disk_copy, part_in}
 use Rattle.pm_convert.specs.Made.{replaced_at}

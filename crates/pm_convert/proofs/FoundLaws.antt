@@ -1,5 +1,5 @@
 -- The formats in which an image opens.
-use Rattle.std.proofs.Common.{◌≡◌, Bool, true, false, List, [], ◌∷◌, ◌++◌, refl}
+use Rattle.std.proofs.Common.{◌≡◌, Bool, true, false, [], ◌∷◌, ◌++◌, refl}
 use Rattle.std.specs.List.{filter}
 
 -- A list of four elements is filtered one by one.

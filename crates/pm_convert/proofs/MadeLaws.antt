@@ -1,5 +1,5 @@
 -- New .2mg files, and the position of a volume after a header of DiskCopy 4.2.
-use Rattle.std.proofs.Common.{◌≡◌, ◌+◌, ◌≤◌, ℕ, Bool, true, false, List, [], ◌∷◌, ◌++◌, Option, None, Some, refl, arith, length, length-append}
+use Rattle.std.proofs.Common.{◌≡◌, ◌+◌, ℕ, Bool, true, false, List, [], None, Some, refl, length, length-append}
 use Rattle.std.specs.Prelude.{if◌then◌else◌}
 use Rattle.pm_check.specs.Headed.{filed, new_file, plain_header, span_of}
 use Rattle.pm_convert.specs.Covers.{has_disk_copy, part_in}

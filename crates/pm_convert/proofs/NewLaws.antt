@@ -1,8 +1,7 @@
 -- The blocks of a new image are the blocks that it was made for.
-use Rattle.std.proofs.Common.{◌≡◌, ◌∙◌, ◌≢◌, ◌+◌, ◌-◌, ◌*◌, ◌/◌, ◌%◌, ◌≤◌, ◌<◌, ℕ, Bool, true, false, List, [], ◌∷◌, ◌++◌, Option, None, Some}
-use Rattle.std.proofs.Common.{drop, take, get_or, length, length-append, refl, sym, ap, arith, eqb, ltb, leb, cond, lit<, lit≤}
-use Rattle.std.specs.Prelude.{◌==◌, ◌&&◌, not, if◌then◌else◌, slice_range, codes}
-use Rattle.std.specs.Str.{bytes_eq}
+use Rattle.std.proofs.Common.{◌≡◌, ◌∙◌, ◌≢◌, ◌+◌, ◌-◌, ◌<◌, ℕ, Bool, true, false, List, [], ◌∷◌, ◌++◌, None, Some}
+use Rattle.std.proofs.Common.{take, get_or, length, length-append, refl, sym, ap, arith, eqb, ltb, leb}
+use Rattle.std.specs.Prelude.{◌==◌, if◌then◌else◌, slice_range, codes}
 use Rattle.std.proofs.lemmas.Bool.{cond-false, cond-true, eq-eqb, le-leb, le-ltb, lt-ltb, ne_eqb}
 use Rattle.std.proofs.lemmas.List.{take_all}
 use Rattle.pm_bytes.specs.Words.{word_in, written}
@@ -15,7 +14,6 @@ use Rattle.pm_convert.specs.Made.{covered, disk_copy, new_image, order_number}
 use Rattle.pm_convert.specs.Sums.{checksum, high_long}
 use Rattle.pm_convert.specs.Turning.{fits, in_blocks, in_order}
 use Rattle.pm_convert.specs.Worked.{ComesBack}
-use Rattle.pm_convert.specs.declared.cover.Part.{Part}
 use Rattle.pm_convert.specs.declared.format.ByteOrder.{ByteOrder}
 use Rattle.pm_convert.specs.declared.format.Cover.{Cover}
 use Rattle.pm_convert.specs.declared.format.Cover.TheVariants as covers

@@ -1,7 +1,7 @@
 -- The checksum in an image of DiskCopy 4.2 that gets other blocks matches.
-use Rattle.std.proofs.Common.{◌≡◌, ◌∙◌, ◌+◌, ◌-◌, ◌*◌, ◌/◌, ◌%◌, ◌<◌, ◌≤◌, ℕ, Bool, true, false}
-use Rattle.std.proofs.Common.{List, [], ◌∷◌, Option, None, Some, length, get_or, refl, sym, ap, arith, lit<, lit≤}
-use Rattle.std.specs.Prelude.{◌==◌, ◌&&◌, not, slice_range}
+use Rattle.std.proofs.Common.{◌≡◌, ◌∙◌, ◌+◌, ◌*◌, ◌/◌, ◌%◌, ◌<◌, ◌≤◌, ℕ, true, false}
+use Rattle.std.proofs.Common.{List, [], ◌∷◌, Some, length, refl, sym, ap, arith, lit<, lit≤}
+use Rattle.std.specs.Prelude.{◌==◌}
 use Rattle.std.proofs.lemmas.Bool.{eq-eqb}
 use Rattle.pm_bytes.specs.Words.{written}
 use Rattle.pm_convert.specs.Covers.{has_disk_copy}
@@ -11,8 +11,7 @@ use Rattle.pm_convert.specs.Sums.{checksum, high_bytes, high_long, sum_from, wit
 use Rattle.pm_convert.specs.Turning.{in_order}
 use Rattle.pm_convert.specs.declared.format.ByteOrder.{ByteOrder}
 use Rattle.pm_convert.specs.declared.format.Cover.TheVariants as covers
-use Rattle.pm_convert.specs.declared.format.Format.{Format}
-use Rattle.pm_convert.proofs.CoverLaws.{copy_same, copy_there, disk_copy_part, long_stays, sealed_size}
+use Rattle.pm_convert.proofs.CoverLaws.{copy_same, copy_there, disk_copy_part, long_stays}
 use Rattle.pm_convert.proofs.ImageLaws.{gets}
 use Rattle.pm_convert.proofs.TurnLaws.{order_size}
 use Rattle.pm_volume.proofs.WrittenLaws.{get_written_in, length-written}

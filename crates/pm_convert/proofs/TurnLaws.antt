@@ -1,7 +1,6 @@
 -- Conversions between an order and blocks in order, there and back.
-use Rattle.std.proofs.Common.{◌≡◌, ◌≤◌, ℕ, Bool, true, List, refl, length, leb}
+use Rattle.std.proofs.Common.{◌≡◌, ℕ, true, List, refl, length}
 use Rattle.std.proofs.lemmas.Bool.{leb-true}
-use Rattle.pm_check.specs.Orders.{turned}
 use Rattle.pm_check.specs.declared.order.Order.TheVariants as turns
 use Rattle.pm_check.proofs.OrderLaws as Orders
 use Rattle.pm_convert.specs.Turning.{fits, in_blocks, in_order}

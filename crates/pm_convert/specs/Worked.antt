@@ -1,5 +1,5 @@
 -- What conversions between formats are: laws, and worked examples.
-use Rattle.std.specs.Prelude.{◌≡◌, ◌≢◌, ◌<◌, ◌≤◌, ⊤, ℕ, Bool, true, false, List, [], ◌∷◌, ◌++◌, Option, None, Some, codes}
+use Rattle.std.specs.Prelude.{◌≡◌, ◌≢◌, ◌<◌, ⊤, ℕ, Bool, true, false, List, [], ◌∷◌, ◌++◌, None, Some, codes}
 use Rattle.std.specs.Prelude.{length, map, replicate, slice_index}
 use Rattle.std.specs.List.{filter, range_with_len}
 use Rattle.pm_volume.specs.Directory.{directory_of}
@@ -142,7 +142,7 @@ pub record WorkedBig : Type 0 where
   pub dictionary : filter (λ p. is_dictionary_word p) (0 ∷ 63 ∷ 64 ∷ 191 ∷ 192 ∷ 287 ∷ 288 ∷ 511 ∷ []) ≡ 0 ∷ 63 ∷ 192 ∷ 287 ∷ []
   pub places : map (big_place false (7 ∷ []) 5120) (1023 ∷ 1024 ∷ 1025 ∷ 1030 ∷ 3072 ∷ 3583 ∷ 3584 ∷ 3585 ∷ 3648 ∷ 4096 ∷ [])
       ≡ 1023 ∷ 1025 ∷ 1024 ∷ 1030 ∷ 3072 ∷ 3583 ∷ 3585 ∷ 3584 ∷ 3648 ∷ 4096 ∷ []
-  pub second : map (big_place true [] 5120) (1024 ∷ 3072 ∷ 3073 ∷ 3078 ∷ 3584 ∷ []) ≡ 1025 ∷ 3073 ∷ 3072 ∷ 3078 ∷ 3585 ∷ []
+  pub second : map (big_place true [] 5120) (1024 ∷ 3072 ∷ 3073 ∷ 3078 ∷ 3584 ∷ 3594 ∷ []) ≡ 1025 ∷ 3073 ∷ 3072 ∷ 3078 ∷ 3584 ∷ 3595 ∷ []
   pub part : map (big_place false (7 ∷ []) 4095) (3584 ∷ 3585 ∷ []) ≡ 3584 ∷ 3585 ∷ []
   pub last : map (big_place true [] 3073) (3072 ∷ []) ≡ 3072 ∷ []
   pub directory_places : map directory_place (0 ∷ 1 ∷ 6 ∷ 14 ∷ 2027 ∷ 2028 ∷ []) ≡ 1 ∷ 0 ∷ 6 ∷ 15 ∷ 2026 ∷ 2028 ∷ []

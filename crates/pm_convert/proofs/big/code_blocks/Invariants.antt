@@ -1,4 +1,4 @@
-use Rattle.std.proofs.Common.{◌≡◌, ◌-◌, ◌+◌, ◌++◌, ◌≤◌}
+use Rattle.std.proofs.Common.{◌≡◌, ◌-◌, ◌+◌, ◌++◌}
 use Rattle.pm_volume.specs.Directory.{entries_from}
 use Rattle.pm_convert.specs.Big.{code_blocks, code_firsts, listed}
 use Rattle.pm_convert.proofs.big.code_blocks.Given as goal

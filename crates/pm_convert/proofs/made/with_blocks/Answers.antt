@@ -1,4 +1,4 @@
-use Rattle.std.proofs.Common.{◌≡◌, ◌+◌, ◌≤◌, ap, arith, length, sym}
+use Rattle.std.proofs.Common.{◌+◌, ◌≤◌, ap, arith, length, sym}
 use Rattle.pm_volume.proofs.WrittenLaws.{length-written}
 use Rattle.pm_convert.proofs.MadeLaws.{disk_copy_begin}
 use Rattle.pm_convert.proofs.made.with_blocks.Goals as goal

@@ -23,7 +23,9 @@ use Rattle.pm_jobs.specs.declared.selection.Code.TheVariants as code
 use Rattle.pm_jobs.specs.declared.selection.Selection.{Selection}
 use Rattle.pm_folder.specs.declared.folder.Wanted.{Wanted}
 use Rattle.pm_folder.specs.declared.folder.Wanted.TheVariants as wanted
+use Rattle.pm_plan.specs.ConvertWords.{IsFormat, IsTarget}
 use Rattle.pm_plan.specs.FolderWords.{AreEnds, IsText}
+use Rattle.pm_plan.specs.declared.convert_words.ConvertPlan.{ConvertPlan}
 use Rattle.pm_plan.specs.declared.folder_words.ExportPlan.{ExportPlan}
 use Rattle.pm_plan.specs.declared.folder_words.ImportPlan.{ImportPlan}
 use Rattle.pm_plan.specs.declared.file_words.FilesPlan.{FilesPlan}
@@ -355,6 +357,15 @@ pub record AsksTextFiles (rows : List Row) (files : TextFiles) : Type 0 where
   pub input : AsksTextInput rows files.input
   pub output : word_found rows (codes "output") ≡ option_map string_bytes files.output
 
+-- ---- conversions
+
+-- The arguments of `convert`: the image, the new image, the format of the image, and that of the new image.
+abbrev pub AsksConvert : ArgMatches → ConvertPlan → Type 0
+AsksConvert m plan = (word_found (words_of m) (codes "OLD") ≡ Some (string_bytes plan.old))
+    × (word_found (words_of m) (codes "NEW") ≡ option_map string_bytes plan.new)
+    × IsFormat (word_found (words_of m) (codes "format")) plan.format
+    × IsTarget (word_found (words_of m) (codes "as")) (word_found (words_of m) (codes "back")) plan.target
+
 -- ---- all arguments
 
 -- Is true if the arguments `m` of the command `command` specify the job.
@@ -382,6 +393,7 @@ Asks command m (plans.Debug program typed) = (command ≡ codes "debug") × Asks
 Asks command m (plans.Salvage plan) = (command ≡ codes "files") × AsksSalvage m plan
 Asks command m (plans.Export plan) = (command ≡ codes "files") × AsksExport m plan
 Asks command m (plans.Import plan) = (command ≡ codes "files") × AsksImport m plan
+Asks command m (plans.Convert plan) = (command ≡ codes "convert") × AsksConvert m plan
 
 -- Is true if the arguments `m` contain the command `command`, and the arguments after it have the rows of `below`.
 abbrev pub IsCommand : ArgMatches → List ℕ → ArgMatches → Type 0

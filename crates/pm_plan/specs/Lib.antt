@@ -4,3 +4,4 @@ pub mod Forms
 pub mod InForm
 pub mod Needed
 pub mod Worked
+pub mod ConvertWords

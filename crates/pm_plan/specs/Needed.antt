@@ -8,6 +8,7 @@ use Rattle.clap.specs.Words.{Row, subcommand_rows_of}
 use Rattle.clap.specs.declared.parser.matches.ArgMatches.{ArgMatches}
 use Rattle.pm_plan.specs.Asked.{IsCommand, IsKind, IsLimitWord, IsNumberUpTo, IsNumberWord, IsRunLimitWord, is_set}
 use Rattle.pm_plan.specs.Asked.{word_below, word_found, words_of}
+use Rattle.pm_plan.specs.ConvertWords.{HasNew, IsGoodFormat, IsGoodTarget}
 use Rattle.pm_plan.specs.FolderWords.{AreGoodEnds, IsGoodText}
 use Rattle.pm_plan.specs.Forms.{IsFormWord}
 use Rattle.pm_plan.specs.declared.words.WordsError.{WordsError}
@@ -286,10 +287,19 @@ AreGoodFiles rows after = MatchBool (is_verb (codes "salvage") after) (IsGoodSal
     (MatchBool (is_verb (codes "export") after) (IsGoodExport rows after)
     (MatchBool (is_verb (codes "import") after) (IsGoodImport rows after) (AreGoodBefore rows after)))
 
+-- Is true if the arguments of `convert` are valid.
+abbrev pub IsGoodConvert : List Row → Type 0
+IsGoodConvert rows = IsThere (word_found rows (codes "OLD")) × IsOptional (word_found rows (codes "NEW"))
+    × IsGoodFormat (word_found rows (codes "format"))
+    × IsGoodTarget (word_found rows (codes "as")) (word_found rows (codes "back"))
+    × HasNew (word_found rows (codes "NEW")) (word_found rows (codes "as")) (word_found rows (codes "back"))
+
 -- Is true if the arguments `m` are valid for the command `command`.
 abbrev pub AreGood : List ℕ → ArgMatches → Type 0
 AreGood command m = MatchBool (bytes_eq command (codes "files"))
-    (AreGoodFiles (words_of m) (subcommand_rows_of m)) (MeetAll (words_of m) (command_needs command))
+    (AreGoodFiles (words_of m) (subcommand_rows_of m))
+    (MatchBool (bytes_eq command (codes "convert")) (IsGoodConvert (words_of m))
+    (MeetAll (words_of m) (command_needs command)))
 
 -- Is true if `--form` in the arguments `m` of a command is valid.
 unfoldable pub IsGoodForm : ArgMatches → Type 0

@@ -20,6 +20,8 @@ enum Form {
     Unless(&'static str),
     /// An optional argument, found by its position.
     Maybe,
+    /// An option that is not required, with another name than its id. The name, and the name of its value.
+    Named(&'static str, &'static str),
     /// An option that can be omitted and also has a short name, as in `-o`. The fields are the letter and the name of
     /// the value in the help text.
     Lettered(char, &'static str),
@@ -574,6 +576,7 @@ fn arg<'a>(alloc: Global, row: WordRow) -> Result<Arg<'a>, AllocError> {
         Form::Flag => arg.long(id).action(ArgAction::SetTrue),
         Form::Unless(other) => arg.value_name(id).required_unless_present(other)?,
         Form::Maybe => arg.value_name(id),
+        Form::Named(name, value) => arg.long(name).value_name(value),
         Form::Lettered(letter, value) => arg.long(id).short(letter).value_name(value),
     })
 }
@@ -628,13 +631,42 @@ fn add_debug<'a>(alloc: Global, commands: &mut Vec<Command<'a>>) -> Result<(), A
     Ok(commands.push(debug)?)
 }
 
+const CONVERT: CommandRow = (
+    "convert",
+    "Convert an image to another format, or print the formats in which it opens",
+    &[
+        (
+            "OLD",
+            Form::Word,
+            "Image to convert; with --back, the blocks that replace those of IMAGE",
+        ),
+        (
+            "NEW",
+            Form::Maybe,
+            "New image, which must not exist; without it, the formats of OLD are printed",
+        ),
+        (
+            "format",
+            Form::Named("form", "FORM"),
+            "Format of OLD, or of IMAGE; required if more than one fits. FORM is blocks, dos, swapped or big, \
+             with the prefix 2mg- or dc42- if the image has a header",
+        ),
+        ("as", Form::Free("FORM"), "Format of NEW [default: blocks]"),
+        (
+            "back",
+            Form::Free("IMAGE"),
+            "NEW is this image, with OLD instead of its blocks",
+        ),
+    ],
+);
+
 fn commands<'a>(alloc: Global) -> Result<Vec<Command<'a>>, AllocError> {
     let mut commands = Vec::new(alloc);
     add(alloc, &mut commands, &[RAW])?;
     add_files(alloc, &mut commands)?;
     add(alloc, &mut commands, &[RUN, TRACE])?;
     add_debug(alloc, &mut commands)?;
-    add(alloc, &mut commands, &[ASM, DIS])?;
+    add(alloc, &mut commands, &[ASM, DIS, CONVERT])?;
     Ok(commands)
 }
 

@@ -2,6 +2,7 @@
 #![tactic(auto)]
 
 mod commands;
+mod convert_words;
 mod file_words;
 mod folder_words;
 mod form;
@@ -12,6 +13,7 @@ mod trace_words;
 mod words;
 pub mod worked;
 
+pub use convert_words::{ConvertPlan, Target};
 pub use file_words::{FilesPlan, SalvagePlan, Verb};
 pub use folder_words::{ExportPlan, ImportPlan};
 pub use form::Form;

@@ -9,6 +9,7 @@ ghost use Rattle.pm_plan.specs.Needed.{AreAllGood, AreGood, IsOptional, IsWrong,
 ghost use Rattle.pm_plan.specs.declared.words.WordsError.TheVariants.{NoCommand, NoMemory, NoValue};
 
 use crate::commands::all_commands;
+use crate::convert_words::{ConvertPlan, convert_plan};
 use crate::file_words::{FilesPlan, SalvagePlan, files_plan, is_verb, salvage_plan};
 use crate::folder_words::{ExportPlan, ImportPlan, export_plan, import_plan};
 use crate::form::{Form, form_asked};
@@ -55,6 +56,8 @@ pub enum Plan {
     Export(ExportPlan),
     /// Adds the files of a folder to a volume.
     Import(ImportPlan),
+    /// Converts an image to another format, or prints its formats.
+    Convert(ConvertPlan),
 }
 
 /// The job that the command line specifies, with the options that each command accepts.
@@ -314,7 +317,7 @@ fn dis_output(matches: &ArgMatches<'_>) -> Result<DisOutput, WordsError>
 ///
 /// # Errors
 ///
-/// - The command is none of the seven: `NoCommand`.
+/// - The command is unknown: `NoCommand`.
 /// - The arguments are invalid: the errors of the function that reads the arguments of this command.
 fn plan_by(alloc: Global, command: &str, matches: &ArgMatches<'_>) -> Result<Plan, WordsError>
     ensures asked { IfOk result (λ plan. Asks command.now matches.now plan) }
@@ -336,6 +339,7 @@ fn plan_by(alloc: Global, command: &str, matches: &ArgMatches<'_>) -> Result<Pla
         "asm" => Ok(Plan::Asm(asm_output(matches)?, text_files(alloc, matches)?)),
         "dis" => Ok(Plan::Dis(dis_output(matches)?, text_files(alloc, matches)?)),
         "files" => files_asked(alloc, matches),
+        "convert" => Ok(Plan::Convert(convert_plan(alloc, matches)?)),
         _ => Err(WordsError::NoCommand),
     }
 }

@@ -50,8 +50,8 @@ impl ConvertFault {
 /// An image, or why there is none.
 pub type Made = Result<Vec<u8>, ConvertFault>;
 
-/// Returns the only one of some formats.
-fn only(formats: &[Format]) -> Result<Format, ConvertFault>
+/// Returns the only one of `formats`. Returns the fault `NoFormat` if there is none, and `Several` if there are more.
+pub fn only(formats: &[Format]) -> Result<Format, ConvertFault>
     ensures format { result ≡ jobs.only formats.now }
 {
     match formats {

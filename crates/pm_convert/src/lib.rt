@@ -17,6 +17,6 @@ pub mod worked;
 pub use foreign::{Foreign, recognized};
 pub use format::{ByteOrder, Cover, Format};
 pub use found::{blocks_in, formats_of, is_sum_wrong};
-pub use job::{ConvertFault, Made, convert, convert_back};
+pub use job::{ConvertFault, Made, convert, convert_back, only};
 pub use made::{new_image, with_blocks};
 pub use report::formats_text;

@@ -4,3 +4,4 @@ pub mod Conflicts
 pub mod Got
 pub mod Exported
 pub mod Imported
+pub mod Converted

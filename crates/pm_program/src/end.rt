@@ -1,4 +1,5 @@
 //! The end of the program: its exit status and its message.
+use crate::converted::Converted;
 use pm_export::Unwritten;
 use pm_files::DiskFault;
 use pm_import::{Left, Why};
@@ -63,6 +64,8 @@ pub enum End {
     Folder(String, Vec<Unwritten>),
     /// The files of a folder were added to a volume, except these. The line is the message.
     Import(String, Vec<Left>, String),
+    /// An image at this path was converted, or not. The line is the message; it is empty if there was no fault.
+    Convert(String, Converted, String),
     /// The arguments are in conflict.
     Words(Conflict),
 }
@@ -78,6 +81,8 @@ impl End {
                 None => Exit::Ended.number(),
             },
             End::Import(_, left, _) => status_of_import(left),
+            End::Convert(_, converted, _) if converted.fault.is_some() => Exit::Refused.number(),
+            End::Convert(..) => Exit::Ended.number(),
             End::Words(_) => Exit::Usage.number(),
         }
     }

@@ -7,6 +7,7 @@ ghost use Rattle.pm_program.specs.Conflicts.{others_take_away, printer_conflict,
 
 use crate::about::{Named, about, copy_of, named_in, no_program};
 use crate::console::{END, ESCAPE, Failed, Keys, Lined, Lines, Prompted};
+use crate::converted::{Converted, do_convert};
 use crate::end::{Conflict, End};
 use crate::exported::{Exported, SavedFolder, do_export, do_salvage_folder};
 use crate::got::do_get;
@@ -19,8 +20,8 @@ use pm_files::{DiskFault, Folder, Host, HostFolder, HostStore, Store, Stream};
 use pm_import::Left;
 use pm_jobs::{AsmOutput, Reader, Saving, Sink, Source, Writer};
 use pm_plan::{
-    Asked, ExportPlan, FilesPlan, Form, ImportPlan, InForm, Order, Plan, Program, RunChoices,
-    SalvagePlan, TextFiles, TextInput, Verb,
+    Asked, ConvertPlan, ExportPlan, FilesPlan, Form, ImportPlan, InForm, Order, Plan, Program,
+    RunChoices, SalvagePlan, Target, TextFiles, TextInput, Verb,
 };
 use pm_tool::{Job, Outcome, Refusal};
 use pm_volume::VolumeFault;
@@ -190,6 +191,25 @@ enum Ended {
     Folder(String, Vec<Unwritten>),
     /// The files of a folder were added to a volume, except these.
     Import(String, Vec<Left>),
+    /// The image at a path was converted, or not.
+    Convert(String, Converted),
+}
+
+/// Converts an image.
+fn convert<S: Store, O: Sink>(
+    alloc: Global,
+    store: &mut S,
+    sink: &mut O,
+    plan: ConvertPlan,
+) -> Result<Ended, DiskFault>
+    requires well { (O.seen sink.old).failed ≡ false }
+{
+    let converted = do_convert(alloc, store, sink, &plan)?;
+    let path = match plan.target {
+        Target::As(_) => plan.old,
+        Target::Back(image) => image,
+    };
+    Ok(Ended::Convert(path, converted))
 }
 
 /// Adds the files of a folder to a volume.
@@ -283,6 +303,7 @@ fn act<S: Store, F: Folder, I: Source, O: Sink>(
         Plan::Salvage(plan) => do_salvage(alloc, store, source, sink, plan)?,
         Plan::Export(plan) => return export(alloc, store, folder, source, sink, plan),
         Plan::Import(plan) => return import(alloc, store, folder, source, sink, plan),
+        Plan::Convert(plan) => return convert(alloc, store, sink, plan),
     };
     Ok(Ended::Job(outcome))
 }
@@ -466,6 +487,14 @@ fn is_there<S: Store>(store: &S, path: &str) -> bool
     store.is_same(path, path)
 }
 
+/// Whether a path is given for a new image, and something exists there.
+fn is_new_there<S: Store>(store: &S, new: &Option<String>) -> bool {
+    match new {
+        Some(new) => is_there(store, new.as_str()),
+        None => false,
+    }
+}
+
 /// Returns the first conflict of the paths of `run`, or `None`. The conflicts are checked in this order:
 ///
 /// - an image is saved, and the image of unit 4 is also on another unit: `SavedTwice`;
@@ -558,6 +587,7 @@ fn conflict_in<S: Store>(store: &S, plan: &Plan) -> Option<Conflict> {
         Plan::Export(plan) if is_there(store, plan.folder.as_str()) => {
             Some(Conflict::FolderIsThere)
         }
+        Plan::Convert(plan) if is_new_there(store, &plan.new) => Some(Conflict::TargetIsThere),
         Plan::Salvage(plan) if store.is_beside(plan.target.as_str(), plan.path.as_str()) => {
             Some(Conflict::FileInTheWay)
         }
@@ -588,6 +618,21 @@ fn end_of_import(alloc: Global, path: String, left: Vec<Left>) -> End {
     let count = left.len();
     match format!(in alloc; "refused import {count}") {
         Ok(line) => End::Import(path, left, line),
+        Err(_) => End::File(DiskFault::NoMemory, None),
+    }
+}
+
+/// Returns the end of a conversion.
+fn end_of_conversion(alloc: Global, path: String, converted: Converted) -> End {
+    let line = match converted.fault {
+        Some(fault) => {
+            let number = fault.number();
+            format!(in alloc; "refused convert {number}")
+        }
+        None => Ok(String::new(alloc)),
+    };
+    match line {
+        Ok(line) => End::Convert(path, converted, line),
         Err(_) => End::File(DiskFault::NoMemory, None),
     }
 }
@@ -686,6 +731,7 @@ fn end_of_plan<R: Host + AllocGlobal, I: Source, O: Sink>(
         Ok(Ended::Job(outcome)) => end_of_job(rt.alloc(), &named, form, outcome),
         Ok(Ended::Folder(path, unwritten)) => End::Folder(path, unwritten),
         Ok(Ended::Import(path, left)) => end_of_import(rt.alloc(), path, left),
+        Ok(Ended::Convert(path, converted)) => end_of_conversion(rt.alloc(), path, converted),
         Err(fault) => End::File(fault, files.store.into_refused().or(path)),
     }
 }

@@ -3,6 +3,7 @@
 
 mod about;
 mod console;
+mod converted;
 mod end;
 mod entry;
 mod exported;
@@ -13,6 +14,7 @@ mod saved;
 mod say;
 mod texts;
 
+pub use converted::{Converted, do_convert};
 pub use entry::program;
 pub use exported::{Exported, SavedFolder, do_export, do_salvage_folder};
 pub use got::do_get;

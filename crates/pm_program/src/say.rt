@@ -2,6 +2,7 @@
 ghost use Rattle.std.specs.Prelude.{◌≡◌, true, []};
 
 use crate::end::{End, first_unread};
+use pm_convert::ConvertFault;
 use pm_filer::FilerFault;
 use pm_import::Why;
 use pm_textfile::TextFault;
@@ -139,6 +140,7 @@ fn message(end: &End, is_silent: bool) -> &str
             Some(first) => first.fault.fault().text(),
             None => "",
         },
+        End::Convert(_, _, line) => line.as_str(),
         End::Import(_, left, _) if left.is_empty() => "",
         End::Import(_, left, line) => match first_unread(left) {
             Some(fault) => fault.fault().text(),
@@ -194,7 +196,7 @@ fn explain<R: Eprint>(rt: &R, end: &End, has_system: bool) {
             explain_refusal(rt, outcome, about);
             Ok(())
         }
-        End::Folder(..) | End::Import(..) | End::Words(_) => Ok(()),
+        End::Folder(..) | End::Import(..) | End::Convert(..) | End::Words(_) => Ok(()),
     };
 }
 
@@ -251,6 +253,30 @@ fn name_left<R: Eprint + AllocGlobal>(rt: &R, end: &End) {
     }
 }
 
+/// Prints what is notable about an image that was converted: damage, and why it was refused.
+fn note_conversion<R: Eprint>(rt: &R, end: &End) {
+    let End::Convert(path, converted, _) = end else {
+        return;
+    };
+    let path = Plain(path.as_str());
+    if converted.is_damaged {
+        let _ = eprintln!(rt;
+            "pmach: {path}: the checksum in the header does not match; some bytes are damaged"
+        );
+    }
+    let _ = match (converted.fault, converted.foreign) {
+        (Some(ConvertFault::NoFormat), Some(foreign)) => {
+            let reason = ConvertFault::NoFormat.text();
+            eprintln!(rt; "pmach: {path}: {reason}: {}", foreign.text())
+        }
+        (Some(fault), _) => eprintln!(rt; "pmach: {path}: {}", fault.text()),
+        (None, _) if converted.is_no_volume => eprintln!(rt;
+            "pmach: {path}: it opens as no volume in this format; its blocks are written, for 'files check' and 'files salvage'"
+        ),
+        (None, _) => Ok(()),
+    };
+}
+
 /// How messages are written to standard error.
 #[derive(Clone, Copy)]
 pub struct Manner {
@@ -268,6 +294,9 @@ pub struct Manner {
 pub fn say<R: Eprint + AllocGlobal>(rt: &R, end: &End, manner: Manner) {
     let message = message(end, manner.is_silent);
     if message.is_empty() {
+        if !manner.is_silent {
+            note_conversion(rt, end);
+        }
         return;
     }
     if manner.begun {
@@ -276,6 +305,7 @@ pub fn say<R: Eprint + AllocGlobal>(rt: &R, end: &End, manner: Manner) {
     let _ = eprintln!(rt; "{message}");
     name_unwritten(rt, end);
     name_left(rt, end);
+    note_conversion(rt, end);
     if manner.explains {
         explain(rt, end, manner.has_system);
     }

@@ -3,6 +3,8 @@ use Rattle.std.proofs.Common.{◌≡◌, ℕ, true, List, refl, length}
 use Rattle.std.proofs.lemmas.Bool.{leb-true}
 use Rattle.pm_check.specs.declared.order.Order.TheVariants as turns
 use Rattle.pm_check.proofs.OrderLaws as Orders
+use Rattle.pm_volume.specs.Directory.{directory_of}
+use Rattle.pm_convert.specs.Big.{big_with, from_big, to_big, turned_directory}
 use Rattle.pm_convert.specs.Turning.{fits, in_blocks, in_order}
 use Rattle.pm_convert.specs.Worked.{ComesBack, GoesBack, WorkedTurns}
 use Rattle.pm_convert.specs.declared.format.ByteOrder.{ByteOrder}
@@ -35,5 +37,22 @@ blocks_size orders.Dos volume = Orders.turned_size turns.Dos volume
 blocks_size orders.Swapped volume = Orders.turned_size turns.Swapped volume
 blocks_size orders.Big volume = from_size volume
 
+from_directory : (volume : List ℕ) → in_blocks orders.Big volume ≡ big_with (turned_directory (directory_of volume)) volume
+unfolding from_big
+from_directory volume = refl
+
+to_directory : (blocks : List ℕ) → in_order orders.Big blocks ≡ big_with (directory_of blocks) blocks
+unfolding to_big
+to_directory blocks = refl
+
 pub worked_turns : WorkedTurns
-worked_turns = record { back = turn_back; forth = turn_forth; size = order_size; blocks_size = blocks_size }
+worked_turns = record {
+  back = turn_back;
+  forth = turn_forth;
+  size = order_size;
+  blocks_size = blocks_size;
+  dos = λ volume. refl;
+  swapped = λ volume. refl;
+  from_directory = from_directory;
+  to_directory = to_directory;
+}

@@ -1,17 +1,21 @@
 -- What conversions between formats are: laws, and worked examples.
 use Rattle.std.specs.Prelude.{◌≡◌, ◌≢◌, ◌<◌, ⊤, ℕ, Bool, true, false, List, [], ◌∷◌, ◌++◌, None, Some, codes}
-use Rattle.std.specs.Prelude.{length, map, replicate, slice_index}
+use Rattle.std.specs.Prelude.{length, map, replicate, slice_index, take}
 use Rattle.std.specs.List.{filter, range_with_len}
-use Rattle.pm_volume.specs.Directory.{directory_of}
+use Rattle.pm_bytes.specs.Words.{written}
+use Rattle.pm_volume.specs.Directory.{directory_of, files_begin, image_fault}
+use Rattle.pm_volume.specs.declared.fault.VolumeFault.{VolumeFault}
+use Rattle.pm_check.specs.Orders.{turned}
+use Rattle.pm_check.specs.declared.order.Order.TheVariants as turns
 use Rattle.pm_check.specs.Headed.{example}
-use Rattle.pm_convert.specs.Big.{IsClear, big_place, code_blocks, directory_place, is_dictionary_word, is_directory_word}
+use Rattle.pm_convert.specs.Big.{IsClear, big_place, big_with, code_blocks, directory_place, exchanged_with, is_dictionary_word, is_directory_word}
 use Rattle.pm_convert.specs.Big.{listed, turned_directory}
 use Rattle.pm_convert.specs.Covers.{bare_size, cover_of, part_in}
 use Rattle.pm_convert.specs.Foreigners.{foreign_text, recognized, volume_size}
 use Rattle.pm_convert.specs.Formats.{all_formats, format_named, formats_with, name_of}
-use Rattle.pm_convert.specs.Found.{blocks_in, is_sum_wrong}
+use Rattle.pm_convert.specs.Found.{blocks_in, formats_of, is_sum_wrong, opens}
 use Rattle.pm_convert.specs.Headers.{disk_copy_header}
-use Rattle.pm_convert.specs.Made.{new_image, order_number, two_img, with_blocks}
+use Rattle.pm_convert.specs.Made.{disk_copy, new_image, order_number, two_img, with_blocks}
 use Rattle.pm_convert.specs.Sums.{checksum, sum_from}
 use Rattle.pm_convert.specs.Turning.{fits, in_blocks, in_order}
 use Rattle.pm_convert.specs.declared.foreign.Foreign.TheVariants as foreigners
@@ -36,6 +40,8 @@ GoesBack orders.Swapped volume = ⊤
 GoesBack orders.Big volume = IsClear (turned_directory (directory_of volume))
 
 -- A conversion from blocks to an order is the inverse of the conversion from the order to blocks. Both keep the length.
+-- DOS order and exchanged words are those of pm_check. For `big` the files are those of the directory that has the low
+-- byte first: the converted one, or the one that is converted.
 pub record WorkedTurns : Type 0 where
   pub back : (order : ByteOrder) (blocks : List ℕ) → fits order (length blocks) ≡ true → ComesBack order blocks
       → in_blocks order (in_order order blocks) ≡ blocks
@@ -43,6 +49,11 @@ pub record WorkedTurns : Type 0 where
       → in_order order (in_blocks order volume) ≡ volume
   pub size : (order : ByteOrder) (blocks : List ℕ) → length (in_order order blocks) ≡ length blocks
   pub blocks_size : (order : ByteOrder) (volume : List ℕ) → length (in_blocks order volume) ≡ length volume
+  pub dos : (volume : List ℕ) → in_blocks orders.Dos volume ≡ turned turns.Dos volume
+  pub swapped : (volume : List ℕ) → in_blocks orders.Swapped volume ≡ turned turns.Swapped volume
+  pub from_directory : (volume : List ℕ)
+      → in_blocks orders.Big volume ≡ big_with (turned_directory (directory_of volume)) volume
+  pub to_directory : (blocks : List ℕ) → in_order orders.Big blocks ≡ big_with (directory_of blocks) blocks
 
 -- Is true if the conversion of an order is its own inverse.
 abbrev pub is_own_inverse : ByteOrder → Bool
@@ -89,10 +100,18 @@ pub record WorkedNames : Type 0 where
 abbrev pub copied : ℕ → ℕ → List ℕ → List ℕ
 copied size sum rest = disk_copy_header size sum ++ rest
 
+-- The same for a volume of two bytes and one byte of tags.
+abbrev pub with_tag : List ℕ → List ℕ
+with_tag rest = written (copied 2 129 rest) 68 (0 ∷ 0 ∷ 0 ∷ 1 ∷ [])
+
+-- An image with two valid headers: the name in the header of DiskCopy 4.2 is the header of a .2mg file.
+abbrev pub two_headers : List ℕ
+two_headers = written (copied 2 129 (1 ∷ 2 ∷ [])) 0 (take 32 (example 1 7 84 1 []))
+
 -- Worked examples of covers:
 -- - checksums: of no byte, a word, two words, a single byte, and a sum of more than 32 bits
 -- - the header of DiskCopy 4.2 for a disk of 143,360 bytes, and that of a .2mg file for two bytes
--- - images of DiskCopy 4.2: whole, one byte short, and empty
+-- - images of DiskCopy 4.2: whole, one byte short, empty, with tags, without the mark, and with two headers
 -- - an image with other blocks, whose checksum is new and whose last byte stays
 -- - bare images of about 143,488 bytes, and lengths that an order does not permit
 pub record WorkedCovers : Type 0 where
@@ -107,6 +126,13 @@ pub record WorkedCovers : Type 0 where
       ≡ 50 ∷ 73 ∷ 77 ∷ 71 ∷ 80 ∷ 77 ∷ 67 ∷ 72 ∷ 64 ∷ 0 ∷ 1 ∷ 0 ∷ 0 ∷ 0 ∷ 0 ∷ 0 ∷ 0 ∷ 0 ∷ 0 ∷ 0 ∷ 0 ∷ 0 ∷ 0 ∷ 0
       ∷ 64 ∷ 0 ∷ 0 ∷ 0 ∷ 2 ∷ 0 ∷ 0 ∷ 0 ∷ replicate 32 0 ++ (1 ∷ 2 ∷ [])
   pub numbers : map order_number (orders.Blocks ∷ orders.Dos ∷ orders.Swapped ∷ orders.Big ∷ []) ≡ 1 ∷ 0 ∷ 1 ∷ 1 ∷ []
+  pub disk_copy_file : disk_copy (1 ∷ 2 ∷ []) ≡ copied 2 129 (1 ∷ 2 ∷ [])
+  pub tags : part_in covers.DiskCopy (with_tag (1 ∷ 2 ∷ 9 ∷ [])) ≡ Some (record { begin = 84; size = 2 })
+  pub no_tags : part_in covers.DiskCopy (with_tag (1 ∷ 2 ∷ [])) ≡ None
+  pub no_mark : part_in covers.DiskCopy (written (copied 2 129 (1 ∷ 2 ∷ [])) 83 (1 ∷ [])) ≡ None
+  pub both : map (λ cover. part_in cover two_headers) (covers.TwoImg ∷ covers.DiskCopy ∷ [])
+      ≡ Some (record { begin = 84; size = 1 }) ∷ Some (record { begin = 84; size = 2 }) ∷ []
+  pub both_seen : cover_of two_headers ≡ covers.DiskCopy
   pub whole : part_in covers.DiskCopy (copied 2 129 (1 ∷ 2 ∷ 9 ∷ [])) ≡ Some (record { begin = 84; size = 2 })
   pub short : part_in covers.DiskCopy (copied 2 129 (1 ∷ [])) ≡ None
   pub empty : part_in covers.DiskCopy (copied 0 0 (1 ∷ 2 ∷ [])) ≡ None
@@ -145,9 +171,27 @@ pub record WorkedBig : Type 0 where
   pub second : map (big_place true [] 5120) (1024 ∷ 3072 ∷ 3073 ∷ 3078 ∷ 3584 ∷ 3594 ∷ []) ≡ 1025 ∷ 3073 ∷ 3072 ∷ 3078 ∷ 3584 ∷ 3595 ∷ []
   pub part : map (big_place false (7 ∷ []) 4095) (3584 ∷ 3585 ∷ []) ≡ 3584 ∷ 3585 ∷ []
   pub last : map (big_place true [] 3073) (3072 ∷ []) ≡ 3072 ∷ []
+  pub exchanged : exchanged_with false [] (replicate 1024 5 ++ (1 ∷ 2 ∷ 3 ∷ [])) ≡ replicate 1024 5 ++ (2 ∷ 1 ∷ 3 ∷ [])
+  pub turned : take 8 (turned_directory (1 ∷ 2 ∷ 3 ∷ 4 ∷ 5 ∷ 6 ∷ 7 ∷ 8 ∷ [])) ≡ 2 ∷ 1 ∷ 4 ∷ 3 ∷ 6 ∷ 5 ∷ 7 ∷ 8 ∷ []
+  pub one_copy : (directory image : List ℕ) → files_begin directory ≡ 6
+      → big_with directory image ≡ exchanged_with false (code_blocks directory) image
+  pub two_copies : (directory image : List ℕ) → files_begin directory ≡ 10
+      → big_with directory image ≡ exchanged_with true (code_blocks directory) image
   pub directory_places : map directory_place (0 ∷ 1 ∷ 6 ∷ 14 ∷ 2027 ∷ 2028 ∷ []) ≡ 1 ∷ 0 ∷ 6 ∷ 15 ∷ 2026 ∷ 2028 ∷ []
   pub code : map code_blocks (two_files 0 ∷ two_files 1 ∷ two_files 2 ∷ []) ≡ [] ∷ (7 ∷ []) ∷ (7 ∷ []) ∷ []
   pub most : map listed (two_files 76 ∷ two_files 77 ∷ two_files 78 ∷ []) ≡ 76 ∷ 77 ∷ 77 ∷ []
+
+-- An image opens in a format if it has blocks in this format, and these have no fault. An empty image opens in no
+-- format.
+pub record WorkedOpens : Type 0 where
+  pub opened : (format : Format) (image blocks : List ℕ) → blocks_in format image ≡ Some blocks → image_fault blocks ≡ None
+      → opens image format ≡ true
+  pub faulty : (format : Format) (image blocks : List ℕ) (fault : VolumeFault) → blocks_in format image ≡ Some blocks
+      → image_fault blocks ≡ Some fault → opens image format ≡ false
+  pub missing : (format : Format) (image : List ℕ) → blocks_in format image ≡ None → opens image format ≡ false
+  pub all : (image : List ℕ) → ((format : Format) → opens image format ≡ true)
+      → formats_of image ≡ formats_with (cover_of image)
+  pub empty : formats_of [] ≡ []
 
 -- Worked examples of other formats: two files by their first bytes, disks by block 2, and lengths and offsets.
 pub record WorkedForeigners : Type 0 where
@@ -160,6 +204,7 @@ pub record WorkedForeigners : Type 0 where
   pub dos33 : (image : List ℕ) → slice_index image 0 ≡ 1 → slice_index image 1024 ≡ 1 → volume_size image ≡ 143360
       → slice_index image 69633 ≡ 17 → slice_index image 69635 ≡ 3 → recognized image ≡ Some foreigners.Dos33
   pub nib : (image : List ℕ) → slice_index image 0 ≡ 255 → volume_size image ≡ 232960 → recognized image ≡ Some foreigners.Nib
+  pub sizes : map volume_size (copied 2 129 (1 ∷ 2 ∷ 9 ∷ []) ∷ example 1 7 66 3 (1 ∷ 2 ∷ 3 ∷ 4 ∷ 5 ∷ []) ∷ (1 ∷ []) ∷ []) ≡ 2 ∷ 3 ∷ 1 ∷ []
   pub compressed : foreign_text foreigners.Gzip ≡ codes "it is compressed; decompress it with gunzip"
   pub bits : foreign_text foreigners.Woz
       ≡ codes "it looks like .woz, the bits of a disk; convert it to sectors with another tool"

@@ -1,5 +1,5 @@
 //! Laws and worked examples of conversions. The functions do nothing; their clauses state the laws.
-ghost use Rattle.pm_convert.specs.Worked.{WorkedBig, WorkedCovers, WorkedForeigners, WorkedImages, WorkedNames, WorkedTurns};
+ghost use Rattle.pm_convert.specs.Worked.{WorkedBig, WorkedCovers, WorkedForeigners, WorkedImages, WorkedNames, WorkedOpens, WorkedTurns};
 
 /// States that a volume comes back if it is converted to an order and back, and that conversions keep the length.
 #[tactic(auto, using(crate::proofs::TurnLaws::worked_turns))]
@@ -36,4 +36,10 @@ pub fn worked_big()
 #[tactic(auto, using(crate::proofs::Computed::worked_foreigners))]
 pub fn worked_foreigners()
     ensures law { WorkedForeigners }
+{}
+
+/// States when an image opens in a format.
+#[tactic(auto, using(crate::proofs::Computed::worked_opens))]
+pub fn worked_opens()
+    ensures law { WorkedOpens }
 {}

@@ -5,7 +5,8 @@ use Rattle.pm_convert.specs.Jobs.{converted, converted_back, formats_text, only}
 use Rattle.pm_convert.specs.declared.format.Format.{Format}
 use Rattle.pm_convert.specs.declared.job.ConvertFault.{ConvertFault}
 use Rattle.pm_files.specs.Held.{Files, HoldsFile, Puts}
-use Rattle.pm_jobs.specs.Streams.{Appends, Outgoing}
+use Rattle.std.specs.Io.KnownBytes.{Appends}
+use Rattle.pm_jobs.specs.Streams.{Outgoing}
 use Rattle.pm_plan.specs.declared.convert_words.ConvertPlan.{ConvertPlan}
 use Rattle.pm_plan.specs.declared.convert_words.Target.{Target}
 use Rattle.pm_plan.specs.declared.convert_words.Target.TheVariants as targets

@@ -21,7 +21,7 @@ form_sentence forms.Dos =
 form_sentence forms.Swapped =
     codes "the image has the form swapped (the bytes of each word are swapped): add --form swapped to the command"
 form_sentence _ =
-    codes "the image has a header before its blocks: --form 2mg reads it, examples/form.sh IMAGE NEW removes it"
+    codes "the image has a header before its blocks: --form 2mg reads it, 'pmach convert IMAGE NEW' removes it"
 
 -- Returns the message about an image with this fault. Returns None if the form is not known, or if the fault occurs
 -- only in an image with the header of a volume.

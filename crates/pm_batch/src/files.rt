@@ -129,7 +129,7 @@ fn form_sentence(form: Form) -> &'static str
             "the image has the form swapped (the bytes of each word are swapped): add --form swapped to the command"
         }
         Form::FrontBlocks | Form::FrontDos | Form::FrontSwapped => {
-            "the image has a header before its blocks: --form 2mg reads it, examples/form.sh IMAGE NEW removes it"
+            "the image has a header before its blocks: --form 2mg reads it, 'pmach convert IMAGE NEW' removes it"
         }
     }
 }

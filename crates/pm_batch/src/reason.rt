@@ -11,11 +11,11 @@ use std::fmt;
 fn help_for(fault: VolumeFault) -> &'static str {
     match fault {
         VolumeFault::NotBlocks => {
-            "; it may have a header or be truncated: examples/form.sh IMAGE shows its form, 'files check' all faults"
+            "; it may have a header or be truncated: 'pmach convert IMAGE' shows its form, 'files check' all faults"
         }
         VolumeFault::TooShort => "; a volume has at least 6 blocks of 512 bytes",
         VolumeFault::BadHeader => {
-            ", or the image has another form: --form dos for DOS order; see examples/form.sh IMAGE and 'files check'"
+            ", or the image has another form: --form dos for DOS order; see 'pmach convert IMAGE' and 'files check'"
         }
         VolumeFault::BadEntry(_) | VolumeFault::TooManyFiles => {
             "; 'files check' lists all faults, 'files salvage NEW' copies the valid files to the new volume NEW"

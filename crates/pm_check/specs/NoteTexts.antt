@@ -6,7 +6,7 @@ use Rattle.pm_check.specs.declared.note.Form.TheVariants.{Dos, Swapped, FrontBlo
 use Rattle.pm_check.specs.declared.note.Note.{Note}
 use Rattle.pm_check.specs.declared.note.Note.TheVariants as notes
 
--- The text of a format: the name that examples/form.sh accepts for it.
+-- The text of a format: the name that the command `convert` accepts for it.
 abbrev pub form_text : Form → List ℕ
 form_text Dos = codes "dos"
 form_text Swapped = codes "swapped"

@@ -12,7 +12,7 @@ use pm_check::Order;
 
 /// The message for an invalid form.
 const FORM: &str =
-    "invalid --form: it must be blocks, dos, swapped or 2mg; examples/form.sh converts images in other formats";
+    "invalid --form: it must be blocks, dos, swapped or 2mg; 'pmach convert' converts images in other formats";
 
 /// How an image is stored in its file.
 #[derive(Clone, Copy)]

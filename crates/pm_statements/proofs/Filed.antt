@@ -1,14 +1,19 @@
 -- Lists that are built piece by piece, such as the text of a file. In each lemma, `whole` is the complete list.
 use Rattle.std.proofs.Common.{◌≡◌, ◌<◌, ◌+◌, ◌-◌, ◌++◌, ◌∷◌, [], ◌∙◌, ℕ, suc, List, ap, append_assoc, arith, refl, sym, subst}
-use Rattle.std.proofs.Common.{Option, Some, IfSome}
+use Rattle.std.proofs.Common.{Option, Some, IfSome, zero, length, get_or, take, take_all, ◌≤◌}
+use Rattle.std.proofs.lemmas.List.Folds.{list_any_more}
 use Rattle.pm_codefile.specs.Dictionary.{segment_in}
 use Rattle.pm_codefile.specs.Segments.{attributes_in}
 use Rattle.pm_statements.specs.Callees.{system_callee}
 use Rattle.std.specs.Fmt.{decimal}
 use Rattle.std.specs.List.{AllByRecursion}
 use Rattle.std.proofs.lemmas.List.{append-nil}
+use Rattle.std.proofs.lemmas.Slice.Eq.{bytes_eq-Decides}
+use Rattle.std.specs.Prelude.{Bool, false, true, ◌||◌}
+use Rattle.std.specs.Str.{bytes_eq}
+use Rattle.pm_statements.specs.declared.sized.SizedSegment.{SizedSegment}
 use Rattle.pm_code.specs.Shown.{label_text}
-use Rattle.pm_statements.specs.Files.{callee_in, callees_from, entry_lines, numbered_text, slot_callees, slot_text, slots_callees}
+use Rattle.pm_statements.specs.Files.{callee_in, callees_from, entry_lines, is_sized, numbered_text, slot_callees, slot_text, slots_callees}
 use Rattle.pm_statements.specs.Files.{slots_text, system_from, tables_text, with_table}
 use Rattle.pm_trees.specs.Parts.{Known}
 use Rattle.pm_trees.specs.declared.items.Layout.{Layout}
@@ -107,3 +112,30 @@ entries_done k all out whole e i = sym (ap (λ l. out ++ entry_lines k l) e ∙ 
 pub all_behind : {A : Type 0} (P : A → Type 0) (xs : List A) (x : A) → AllByRecursion P xs → P x → AllByRecursion P (xs ++ x ∷ [])
 all_behind P [] x h p = (p, tt)
 all_behind P (y ∷ xs) x h p = (h.0, all_behind P xs x h.1 p)
+
+-- The last of some segments is among them.
+pub sized_last : (segments : List SizedSegment) (s : SizedSegment) (bytes : List ℕ) → s.segment.now ≡ bytes
+    → is_sized (segments ++ s ∷ []) bytes ≡ true
+sized_last [] s bytes e = rw ((bytes_eq-Decides s.segment.now bytes).1 e) refl
+sized_last (first ∷ more) s bytes e = rw (sized_last more s bytes e) (or_true (bytes_eq first.segment.now bytes))
+  where
+    or_true : (b : Bool) → (b || true) ≡ true
+    or_true true = refl
+    or_true false = refl
+
+-- A property of all elements holds for the element at `i`.
+pub all_at : {A : Type 0} (P : A → Type 0) (xs : List A) (i : ℕ) (d : A) → i < length xs → AllByRecursion P xs → P (get_or xs i d)
+all_at P [] i d h all = absurd (omega arith)
+all_at P (x ∷ xs) zero d h all = all.0
+all_at P (x ∷ xs) (suc i) d h all = all_at P xs i d (omega arith) all.1
+
+-- If none of the first `i` segments has the bytes, and the next one has not, then none of the first `i + 1` has.
+pub none_more : (segments : List SizedSegment) (bytes : List ℕ) (i : ℕ) (d : SizedSegment) → i < length segments
+    → bytes_eq (get_or segments i d).segment.now bytes ≡ false → is_sized (take i segments) bytes ≡ false
+    → is_sized (take (i + 1) segments) bytes ≡ false
+none_more segments bytes i d h other none = list_any_more (λ s. bytes_eq s.segment.now bytes) segments i d h ∙ rw (none, other) refl
+
+-- If none of the first `i` segments has the bytes, and there are no more, then none has.
+pub taken_all : (segments : List SizedSegment) (bytes : List ℕ) (i : ℕ) → length segments ≤ i
+    → is_sized (take i segments) bytes ≡ false → is_sized segments bytes ≡ false
+taken_all segments bytes i h none = rw (sym (take_all i segments h)) none

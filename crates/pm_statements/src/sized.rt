@@ -197,16 +197,12 @@ pub fn sized_as<'s, 'a>(
     ensures segment { IfSome result (λ s. s.now.segment.now ≡ segment.now) }
     ensures sized { AllByRecursion files.IsSizedSegment segments.now → IfSome result (λ s. files.IsSizedSegment s.now) }
 {
-    match segments {
-        [] => None,
-        [first, more @ ..] => {
-            if first.segment == segment {
-                Some(first)
-            } else {
-                sized_as(more, segment)
-            }
+    for sized in segments {
+        if sized.segment == segment {
+            return Some(sized);
         }
     }
+    None
 }
 
 /// Appends the sizes for the 256 procedure numbers of `segment` to `callees`. The segment is read only if `segments`

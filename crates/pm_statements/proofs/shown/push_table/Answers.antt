@@ -7,5 +7,5 @@ pub push_code-requires : goal.push_code-requires
 push_code-requires c = record {
   returns =
       let segment = c.args.sized.now.segment.now in
-      c.in-Some.ensures.returns segment (subst (AllByRecursion (IsSizedTable segment)) (sym c.deref.ensures.value) c.requires.sized);
+      c.in-Some.ensures.returns segment (subst (AllByRecursion (IsSizedTable segment)) (sym c.deref.ensures.value) c.requires.sized.tables);
 }

@@ -1,4 +1,4 @@
-use Rattle.std.proofs.Common.{rules, ◌++◌, ◌∙◌, ap, arith, sym}
+use Rattle.std.proofs.Common.{rules, ◌≡◌, ◌+◌, ◌-◌, ◌++◌, ◌∷◌, [], ◌∙◌, None, ap, append-nil, arith, sym}
 use Rattle.pm_statements.specs.Files.{callee_in, callees_from}
 use Rattle.pm_statements.proofs.Filed.{next_callee}
 use Rattle.pm_statements.proofs.sized.size_segment.Goals as goal
@@ -6,7 +6,8 @@ use Rattle.pm_statements.proofs.sized.size_segment.Goals.{in-Some+in_ok-callee-i
 
 pub loop-done-init : goal.loop-done-init
 loop-done-init c = record {
-  callees = ap (λ cs. cs ++ callees_from c.args.segment.now 1 255) c.in_ok-push.ensures.items;
+  callees = ap (λ cs. cs ++ callees_from c.args.segment.now 1 255)
+      (c.in_ok-push.ensures.items ∙ ap (λ cs. cs ++ None ∷ []) c.new-callees.ensures.items);
   tables = search rules;
 }
 
@@ -30,3 +31,13 @@ loop-done-preserved c =
         tables = rw w.tables-is c.loop-done.invariant.tables;
       }
     ]
+
+pub returns-clause-sized : goal.returns-clause-sized
+returns-clause-sized c =
+    let none : 0 ≡ 255 - c.loop-done.done = omega (arith, c.loop-done-test.false) in
+    record {
+      callees = sym (append-nil c.loop-done.callees.items)
+          ∙ ap (λ k. c.loop-done.callees.items ++ callees_from c.args.segment.now (c.loop-done.done + 1) k) none
+          ∙ c.loop-done.invariant.callees;
+      tables = c.loop-done.invariant.tables;
+    }

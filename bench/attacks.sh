@@ -142,12 +142,16 @@ mkfifo fo/C
 printf 'volume W 60 000-00-00\nA\tA\tdata\t0+a[$(id>PWN)]-01-01\tbytes\t1\n../secret\tS\tdata\t000-00-00\tbytes\t2\n' >fo/LIST
 printf 'B\tB\tdata\t000-00-00\tbytes\t3\nC\tC\tdata\t000-00-00\tbytes\t4\n' >>fo/LIST
 "$pmach" files --image n.img new W 60
-said=$(within 9 "$here/examples/import.sh" fo n.img)
-comes "import.sh runs no date, and reads nothing outside the folder" "1, no PWN, A" \
-    "${said%% *}, $(ls PWN 2>/dev/null || echo no PWN), $("$pmach" files --image n.img list | sed '1d;$d' | cut -c1-15 | xargs)"
+printf 'A\tA\tdata\t000-00-00\tbytes\t5\n' >>fo/LIST
+said=$(within 9 "$pmach" files --image n.img import fo)
+comes "import runs no date, and reads nothing outside the folder" "4 read fault, no PWN, A, 4" \
+    "$said, $(ls PWN 2>/dev/null || echo no PWN), $("$pmach" files --image n.img list | sed '1d;$d' | cut -c1-15 | xargs), $(grep -c '^pmach: fo/' err)"
 printf 'volume W 60 b[$(id>PWN)]-01-01\n' >fo/LIST
-within 9 "$here/examples/import.sh" fo n.img >/dev/null
-comes "nor the volume's date" "no PWN" "$(ls PWN 2>/dev/null || echo no PWN)"
+said=$(within 9 "$pmach" files --image n.img import fo)
+comes "nor the volume's date" "0, no PWN" "${said%% *}, $(ls PWN 2>/dev/null || echo no PWN)"
+printf 'volume W 60 000-00-00\nB\033[31m\tB\tdata\t000-00-00\tbytes\t1\n\033]0;x\007\n' >fo/LIST
+said=$(within 9 "$pmach" files --image n.img import fo)
+comes "no byte of LIST acts on a terminal" "4, 0" "${said%% *}, $(tr -d '\n\t' <err | tr -cd '\000-\037\177' | wc -c)"
 
 # What appears where nothing was is not written over, and not opened.
 mkfifo p1 p2
@@ -158,13 +162,17 @@ mkfifo p1 p2
 wait
 comes "two salvages to one path" "0 4" "$(cat said1 said2 | sort | xargs)"
 rm -f q
-# appears NAME DEED WANTED SEEN: the deed is done while salvage waits for its image
+# appears NAME DEED WANTED SEEN: the deed is done while salvage or convert waits for its image
 appears() {
-    rm -rf q
-    (exec 9>p1; sleep 0.7; eval "$2"; cat base >&9) &
-    said=$(within 9 "$pmach" files --image p1 salvage q)
-    wait
-    comes "$1 appears where the new volume is made" "4 write fault, $3" "$said, $(eval "$4" | tr -cd '[:print:]\n' | cut -c1-30)"
+    local command
+    for command in "files --image p1 salvage" "convert p1"; do
+        rm -rf q
+        (exec 9>p1; sleep 0.7; eval "$2"; cat base >&9) &
+        # shellcheck disable=SC2086 # several words
+        said=$(within 9 "$pmach" $command q)
+        wait
+        comes "$command: $1 appears where the new volume is made" "4 write fault, $3" "$said, $(eval "$4" | tr -cd '[:print:]\n' | cut -c1-30)"
+    done
 }
 appears "a file" "echo mine >q" "mine" "cat q"
 echo two >v1
@@ -519,7 +527,7 @@ if has "pages through links" python3; then
     comes "site.sh, a code file with a procedure without a table" "0, 2" "${said%% *}, $(ls u/*.html | wc -l)"
 fi
 
-# A file of a directory that import.sh reads is exchanged all the time for a link to a file of root's.
+# A file of a directory that import reads is exchanged all the time for a link to a file of root's.
 if has "files that are exchanged" python3; then
     rm -rf fo n.img
     mkdir fo
@@ -538,41 +546,82 @@ while True:
 END
     "$pmach" files --image n.img new W 200
     setpriv --reuid 1234 --regid 1234 --clear-groups "$python" exchange.py &
-    within 60 "$here/examples/import.sh" fo n.img >/dev/null
+    for ((try = 0; try < 20; try++)); do
+        "$pmach" files --image n.img new W 200
+        within 60 "$pmach" files --image n.img import fo >/dev/null
+        grep -aq 'TOP SECRET' n.img && break
+    done
     { kill $! && wait $!; } 2>/dev/null
-    comes "import.sh reads no file of root's through a link" 0 "$(grep -ac 'TOP SECRET' n.img)"
+    comes "import reads no file of root's through a link, 20 times" "20, 0" "$try, $(grep -ac 'TOP SECRET' n.img)"
     rm -rf fo
     mkdir fo
     mkfifo fo/A
     printf 'volume W 60 000-00-00\nA\tA\tdata\t000-00-00\tbytes\t1\n' >fo/LIST
-    said=$(within 9 "$here/examples/import.sh" fo n.img)
-    comes "import.sh, a pipe in place of a file" 1 "${said%% *}"
+    said=$(within 9 "$pmach" files --image n.img import fo)
+    comes "import, a pipe in place of a file" "4 read fault" "$said"
     echo x >fo/B
     printf 'volume W 60 000-00-00\nB\tB%%00C\tdata\t000-00-00\tbytes\t1\n' >fo/LIST
-    said=$(within 9 "$here/examples/import.sh" fo n.img)
-    comes "import.sh, a name with byte 0" "1, 0" "${said%% *}, $("$pmach" files --image n.img list | grep -c '^B ')"
+    said=$(within 9 "$pmach" files --image n.img import fo)
+    comes "import, a name with byte 0" "2 refused import 1, 0" "$said, $("$pmach" files --image n.img list | grep -c '^B ')"
+    mkfifo fifo
+    rm fo/LIST
+    ln -s ../fifo fo/LIST
+    said=$(within 9 "$pmach" files --image n.img import fo)
+    comes "import, a link to a pipe in place of LIST" "4 read fault" "$said"
+    rm fo/LIST
+    mkfifo fo/LIST
+    said=$(within 9 "$pmach" files --image n.img import fo)
+    comes "import, a pipe in place of LIST" "4 read fault" "$said"
+    said=$(within 9 "$pmach" files --image n.img import fifo)
+    comes "import, a pipe in place of the folder" "4 read fault" "$said"
+    rm fifo
 fi
 
-# No temporary directory, and one that is full: nothing is written elsewhere, and no file is cut with status 0.
+# No temporary directory, and a device that is full: nothing is written elsewhere, and no file is cut with status 0.
 before=$(ls -A / | cksum)
-for words in "form.sh base" "form.sh base new" "import.sh fo n.img"; do
-    said=$(TMPDIR=$scratch/none within 9 "$here/examples/${words%% *}" ${words#"${words%% *}"})
-    comes "$words without a temporary directory" "1, none, same" "${said%% *}, $([ -e new ] && echo made || echo none), $([ "$(ls -A / | cksum)" = "$before" ] && echo same)"
+rm -rf fo new
+"$pmach" files --image base export fo
+"$pmach" files --image n.img new W 200
+for words in "convert base" "convert base new" "files --image n.img import fo"; do
+    # shellcheck disable=SC2086 # several words
+    said=$(TMPDIR=$scratch/none within 9 "$pmach" $words)
+    comes "$words without a temporary directory" "0, same" "${said%% *}, $([ "$(ls -A / | cksum)" = "$before" ] && echo same)"
 done
+comes "and the new files are whole" "$(cksum <base), same" \
+    "$(cksum <new), $(cmp -s <("$pmach" files --image n.img list | cut -c1-20 | sed '1d;$d') <("$pmach" files --image base list | cut -c1-20 | sed '1d;$d') && echo same)"
 mkdir -p tm
 if mount -t tmpfs -o size=880k tmpfs tm 2>/dev/null; then
     mounted=$scratch/tm
     "$pmach" files --image v.po new V 280
     "$here/examples/dos-order.sh" <v.po >v.dsk
     cut=0
-    for size in 200 300 400 500 600 700 800 880 1000 1200; do
+    for size in 20 60 100 120 136 140 144 160 200 400; do
         mount -o "remount,size=${size}k" tm
-        rm -f NEW
-        TMPDIR=$scratch/tm within 30 "$here/examples/form.sh" --back v.dsk v.po NEW >said
-        [ "$(cut -d' ' -f1 said)" != 0 ] || [ "$(stat -c %s NEW)" = 143360 ] || cut=$((cut + 1))
+        within 30 "$pmach" convert --back v.dsk v.po tm/NEW >said
+        # (with status 0 the new file is whole; else there is none, and no other file)
+        case $(cut -d' ' -f1 said) in
+            0) [ "$(stat -c %s tm/NEW)" = 143360 ] && [ "$(ls -A tm)" = NEW ] ;;
+            4) [ -z "$(ls -A tm)" ] ;;
+            *) false ;;
+        esac || cut=$((cut + 1))
         rm -rf tm/*
     done
-    comes "form.sh --back with ten sizes of a full temporary directory: files cut with status 0" 0 "$cut"
+    comes "convert --back with ten sizes of a full device: files cut, or other files left" 0 "$cut"
+    cut=0
+    for size in 20 60 100 120 136 140 144 160 200 400; do
+        mount -o "remount,size=1m" tm
+        "$pmach" files --image tm/i.img new I 60
+        old=$(cksum <tm/i.img)
+        mount -o "remount,size=${size}k" tm 2>/dev/null
+        within 30 "$pmach" files --image tm/i.img import fo >said
+        case $(cut -d' ' -f1 said) in
+            0) [ "$("$pmach" files --image tm/i.img list | wc -l)" = $((1 + $(wc -l <fo/LIST))) ] ;;
+            4) [ "$(cksum <tm/i.img)" = "$old" ] ;;
+            *) false ;;
+        esac && [ "$(ls -A tm)" = i.img ] || cut=$((cut + 1))
+        rm -rf tm/*
+    done
+    comes "import with ten sizes of a full device: images that are neither the old one nor the new one" 0 "$cut"
     "$pmach" files --image t.img new T 1000
     awk 'BEGIN { for (n = 0; n < 20000; n++) print "                    line" n }' | "$pmach" files --image t.img puttext A.TEXT
     echo small | "$pmach" files --image t.img put B data

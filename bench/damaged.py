@@ -2,7 +2,7 @@
 """Images with one byte of the directory damaged, in every form: bench/damaged.py [SEED [COUNT]]
 
 Each is asked for its list, and then what the answer names is done, as a person at a terminal would: `files --form`,
-`form.sh`, and `files salvage` to a volume or to a folder. A file is to come out with its bytes where its own entry is as it was.
+`convert`, and `files salvage` to a volume or to a folder. If no message names a format, `salvage` is tried in each, as docs/DISKS.md says. A file is to come out with its bytes where its own entry is as it was.
 A line for each file that does not, and at the end how many images and files there were. Status 0: all came. Run by hand,
 in some minutes; no part of the gate. PMACH names another program than ./pmach."""
 import os
@@ -15,7 +15,6 @@ import tempfile
 
 HERE = os.path.dirname(os.path.dirname(os.path.realpath(__file__)))
 PMACH = os.environ.setdefault("PMACH", os.path.join(HERE, "pmach"))
-EXAMPLES = os.path.join(HERE, "examples")
 ORDERS = ["blocks", "dos", "swapped", "big"]
 FRONTS = ["", "2mg-", "dc42-"]
 
@@ -123,6 +122,19 @@ def taken_out(folder):
     return found
 
 
+def most_saved():
+    """The files that salvage takes in the format in which it takes the most."""
+    most, found = 0, {}
+    for form in (front + order for front in FRONTS for order in ORDERS):
+        if run([PMACH, "convert", "--form", form, "hurt", form])[0] != 0:
+            continue
+        _, lines, _ = files(form, "salvage", "from-" + form + "/")
+        count = re.search(rb"^files (\d+) ", lines, re.MULTILINE)
+        if count and int(count[1]) > most:
+            most, found = int(count[1]), taken_out("from-" + form)
+    return found
+
+
 def got(names):
     """What comes out of `hurt` by what each answer names, and the answers."""
     form, told = (), []
@@ -138,16 +150,10 @@ def got(names):
             return taken("saved", names, form), told
         elif "files repair" in said:
             files("hurt", *form, "repair")
-        elif "examples/form.sh" in said:
-            status, _, said = run([os.path.join(EXAMPLES, "form.sh"), "hurt", "blocks"])
+        elif "pmach convert" in said:
+            status, _, said = run([PMACH, "convert", "hurt", "in-order"])
             told.append(said)
-            if status == 0:
-                return taken("blocks", names), told
-            if not (word := re.search(r"form.sh --as ([\w-]+) .* salvage FOLDER/", said)):
-                break
-            run([os.path.join(EXAMPLES, "form.sh"), "--as", word[1], "hurt", "blocks"])
-            told.append(files("blocks", "salvage", "folder/")[2])
-            return taken_out("folder"), told
+            return (taken("in-order", names) if status == 0 else most_saved()), told
         else:
             break
     return {}, told

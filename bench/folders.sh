@@ -1,7 +1,7 @@
 #!/bin/bash
-# files export, files salvage FOLDER/, examples/import.sh, form.sh, remove.sh, profile.sh and calls.sh: each file out byte for byte, there and back, two of one name,
-# names that cannot be typed, refused and damaged images; orders and headers of images. Run by hand; no part of the gate. PMACH names another
-# program than ./pmach.
+# files export, files import, files salvage FOLDER/, convert, and remove.sh, profile.sh and calls.sh of examples/: each file out byte for byte,
+# there and back, two of one name, names that cannot be typed, refused and damaged images; orders and headers of images. Run by hand; no part
+# of the gate. PMACH names another program than ./pmach.
 here=$(dirname "$(readlink -f "$0")")/..
 export PMACH=${PMACH:-$here/pmach}
 scratch=$(mktemp -d)
@@ -60,9 +60,9 @@ check "a name with % and /" cmp fa/A%25B%2FC <(printf x)
 check "a text comes as bytes" [ "$(stat -c %s fa/A.TEXT)" = 2048 ]
 check "a folder that is there" ends 1 files a export fa
 files c new SHOE 100
-check "in" ends 0 "$here/examples/import.sh" fa c
+check "in" ends 0 files c import fa
 check "the same list" cmp <(files a list) <(files c list)
-check "in once more" ends 0 "$here/examples/import.sh" fa c
+check "in once more" ends 0 files c import fa
 check "still the same list" cmp <(files a list) <(files c list)
 check "out again" ends 0 files c export fc
 check "the same folder" diff -r fa fc
@@ -71,25 +71,70 @@ check "the first of them" cmp fb/DUP <(printf one)
 check "the second of them" cmp fb/DUP%%2 <(printf two2)
 check "a name that cannot be typed" cmp <(tail -n +2 fb/B%E9%20) <(tail -n +2 fa/BIG)
 files d new SHOE 100
-check "in, but for two" ends 1 "$here/examples/import.sh" fb d
-check "each is named" [ "$(grep -c 'is left out' err)" = 2 ]
-check "and why" grep -q 'filer 1 9, the volume has another file with this name' err
+check "in, but for two" ends 2 files d import fb
+check "how many" [ "$(head -n 1 err)" = "refused import 2" ]
+check "each is named" [ "$(grep -c '^pmach: fb/' err)" = 2 ]
+check "and why" grep -q '^pmach: fb/DUP%%2: a file of that name exists' err
+check "also a name that no file can have" grep -q '^pmach: fb/B%E9%20: invalid name' err
 check "the others are there" [ "$(files d list | wc -l)" = 7 ]
 check "as text" ends 0 files a export --text ft
 check "the text" cmp ft/A.TEXT <(printf 'line\n  two\n')
 files e new SHOE 100
-check "texts in" ends 0 "$here/examples/import.sh" ft e
+check "texts in" ends 0 files e import ft
 check "the same list of texts" cmp <(files a list) <(files e list)
 head -c 1000 a >bad
 check "a refused image" ends 2 files bad export fbad
 check "no folder of it" [ ! -e fbad ]
 files f new SHOE 12
-check "a small volume" ends 1 "$here/examples/import.sh" fa f
-check "what is left out is named" grep -q 'is left out: refused filer 1 7' err
-check "and why" grep -q 'filer 1 7, no free area is large enough' err
+cp f f.before
+check "a trial" ends 2 files f import --dry-run fa
+cp err err.trial
+check "changes nothing" cmp f f.before
+check "a small volume" ends 2 files f import fa
+check "what is left out is named" grep -q '^pmach: fa/BIG: ' err
+check "and why" grep -q ': no free area is large enough' err
+check "as by the trial" cmp err err.trial
+check "the others are there, in the small volume" [ "$(files f list | wc -l)" = $((2 + $(wc -l <fa/LIST) - $(wc -l <err))) ]
 files g new EMPTY 20
 check "no file out" ends 0 files g export fg
-check "no file in" ends 0 "$here/examples/import.sh" fg g
+check "no file in" ends 0 files g import fg
+
+# what a LIST can state: dates, the volume's date, lines that are wrong, files that are not there, links, pipes, other folders
+mkdir fl && printf one >fl/A && printf two >fl/B && ln -s A fl/LINK && mkfifo fl/PIPE && mkdir fl/SUB
+{
+    printf 'volume L 60 099-12-31\n'
+    printf 'A\tA\tdata\t084-12-01\tbytes\t1\n\nB\tB\t15\t000-00-00\tbytes\n'
+} >fl/LIST
+files l new L 60
+files l date 1 2 3
+check "a LIST of two" ends 0 files l import fl/
+check "each with its date" [ "$(files l list | sed -n '2,3s/  */ /gp' | xargs)" = "A data 6 1 3 084-12-01 B 15 7 1 3 000-00-00" ]
+check "the date of the volume" [ "$(files l export l.out && head -n 1 l.out/LIST)" = "volume L 60 099-12-31" ]
+printf 'volume L 60 199-12-31\n' >fl/LIST
+check "a date that is none" ends 0 files l import fl
+printf 'volume L 60 000-00-00\n' >fl/LIST
+check "and no date" ends 0 files l import fl
+check "change no date" [ "$(files l export l.out2 && head -n 1 l.out2/LIST)" = "volume L 60 099-12-31" ]
+{
+    cat l.out2/LIST
+    printf 'C\n'
+    printf '%s\t%s\tdata\t084-12-01\tbytes\n' A 'N%41%4d' LINK L1 PIPE P1 SUB S1 ../a O1 NONE N1
+} >fl/LIST
+check "files that cannot be read" ends 4 files l import fl
+check "are a read fault" [ "$(head -n 1 err)" = "read fault" ]
+check "and each is named" [ "$(grep -o '^pmach: fl/[^:]*' err | cut -d/ -f2- | xargs)" = "C LINK PIPE SUB ../a NONE" ]
+check "the others are there, with names in digits" [ "$(files l list | cut -c1-15 | sed '1d;$d' | xargs)" = "A B NAM" ]
+check "quiet" ends 4 files l import --quiet fl
+check "is quiet" [ ! -s err ]
+check "no folder" ends 4 files l import none
+check "no LIST" ends 4 files l import fl/SUB
+check "no image for it" ends 4 files none import fa
+check "two folders" ends 1 files l import fa fb
+check "the same in another order" ends 0 eval 'files x.dos --form dos new X 280 && files x.dos --form dos import fa'
+check "has the files" cmp <(files x.dos --form dos list | cut -c1-18,30- | sed '1d;$d') <(files a list | cut -c1-18,30- | sed '1d;$d')
+ln -s fa fa.link
+check "a link to a folder" ends 4 files l import fa.link
+check "is a read fault" [ "$(head -n 1 err)" = "read fault" ]
 
 # byte FILE PLACE VALUE
 byte() { printf "\\x$3" | dd of="$1" bs=1 seek="$2" conv=notrunc 2>/dev/null; }
@@ -106,7 +151,7 @@ check "the files of the new volume" ends 0 files fh.img export fh.new
 check "are the same folder" diff -r fh fh.new
 check "each with its bytes" cmp fh/BIG fa/BIG
 files h new SHOE 100
-check "they go into a volume" ends 0 "$here/examples/import.sh" fh h
+check "they go into a volume" ends 0 files h import fh
 check "six of seven" [ "$(files h list | wc -l)" = 8 ]
 cp a shared
 byte shared $((1024 + 26 * 2)) 06
@@ -146,23 +191,61 @@ dd if=po of=swapped conv=swab 2>/dev/null
 } >header
 for form in po:blocks dos:dos swapped:swapped; do
     file=${form%:*}
-    check "$form alone fits" ends 0 "$here/examples/form.sh" "$file"
+    check "$form alone fits" ends 0 "$PMACH" convert "$file"
     check "$form is told" grep -q "^${form#*:} BIG: files 1 " out
-    check "$form in blocks" ends 0 "$here/examples/form.sh" "$file" "$file.new"
+    check "$form in blocks" ends 0 "$PMACH" convert "$file" "$file.new"
     check "$form, the same volume" cmp po "$file.new"
-    check "$form back" ends 0 "$here/examples/form.sh" --back "$file" po "$file.back"
+    check "$form back" ends 0 "$PMACH" convert --back "$file" po "$file.back"
     check "$form, the same image" cmp "$file" "$file.back"
     { cat header "$file" && echo a comment; } >"$file.2mg"
-    check "$form behind a header" ends 0 "$here/examples/form.sh" "$file.2mg" "$file.out"
+    check "$form behind a header" ends 0 "$PMACH" convert "$file.2mg" "$file.out"
     check "$form, the same volume behind a header" cmp po "$file.out"
-    check "$form behind its header again" ends 0 "$here/examples/form.sh" --back "$file.2mg" po "$file.2back"
+    check "$form behind its header again" ends 0 "$PMACH" convert --back "$file.2mg" po "$file.2back"
     check "$form, the same image behind a header" cmp "$file.2mg" "$file.2back"
 done
-check "a file that is there stays" ends 1 "$here/examples/form.sh" dos po
-check "another form than it has" ends 2 "$here/examples/form.sh" --as swapped dos none
-check "no volume" ends 2 "$here/examples/form.sh" header
+check "a file that is there stays" ends 1 "$PMACH" convert dos po
+check "another form than it has" ends 0 "$PMACH" convert --form swapped dos other.form
+check "is told, and its blocks are made" grep -q 'opens as no volume in this format; its blocks are written' err
+check "those of that form" cmp other.form <(dd if=dos conv=swab 2>/dev/null)
+check "no volume" ends 2 "$PMACH" convert header
+check "is refused so" [ "$(head -n 1 err)" = "refused convert 1" ]
+for form in {,2mg-,dc42-}{blocks,dos,swapped,big}; do
+    check "new, $form" ends 0 "$PMACH" convert --as $form po "as.$form"
+    check "new, $form is told" ends 0 "$PMACH" convert "as.$form"
+    check "new, $form alone" [ "$(wc -l <out) $(cut -d' ' -f1-2 out)" = "1 $form BIG:" ]
+    check "new, $form is sound" [ ! -s err ]
+    check "new, $form, back" ends 0 "$PMACH" convert "as.$form" "from.$form"
+    check "new, $form, the same volume" cmp po "from.$form"
+done
+files small new SMALL 40
+check "a length that the form cannot have" ends 2 "$PMACH" convert --as dos small none
+check "is refused" [ "$(head -n 1 err)" = "refused convert 4" ]
+check "blocks of another length" ends 2 "$PMACH" convert --back dos small none
+check "are refused" [ "$(head -n 1 err)" = "refused convert 4" ]
+check "and nothing is made" [ ! -e none ]
+cp po twice && dd if=po of=twice bs=1 skip=1024 seek=2816 count=26 conv=notrunc 2>/dev/null
+byte twice 2832 00
+check "two forms" ends 2 "$PMACH" convert twice
+check "are refused so" [ "$(head -n 1 err)" = "refused convert 2" ]
+check "each is told" [ "$(cut -d' ' -f1 out | xargs)" = "blocks dos" ]
+check "none is chosen" ends 2 "$PMACH" convert twice none
+check "and none is made" [ ! -e none ]
+check "one of them is" ends 0 "$PMACH" convert --form dos twice twice.dos
+check "and is that one" cmp twice.dos <("$here/examples/dos-order.sh" <twice)
+check "no image" ends 4 "$PMACH" convert missing none
+check "wrong words of convert" ends 1 "$PMACH" convert --as dos --back dos po none
+check "no new image" ends 1 "$PMACH" convert --as dos po
+check "a form without a new image is told nothing" ends 0 "$PMACH" convert --form swapped dos
+check "and no blocks are written then" [ ! -s err ]
+cp dos clash.pmach-new && cp dos back.pmach-new && cp po part.pmach-new
+check "an old image that is the temporary file of the new one" ends 1 "$PMACH" convert clash.pmach-new clash
+check "stays" cmp clash.pmach-new dos
+check "also with --back" ends 1 "$PMACH" convert --back back.pmach-new po back
+check "it stays" cmp back.pmach-new dos
+check "also the blocks" ends 1 "$PMACH" convert --back dos part.pmach-new part
+check "they stay" cmp part.pmach-new po
 printf "2IMG" >short
-check "a header that is cut" ends 2 "$here/examples/form.sh" short
+check "a header that is cut" ends 2 "$PMACH" convert short
 
 # a header of DiskCopy 4.2, over blocks and over DOS order: 84 bytes, with the bytes of data and their sum
 sum_of() { python3 -c '
@@ -179,38 +262,38 @@ for form in po:blocks dos:dos; do
         printf '\004DISK' && head -c 59 /dev/zero && printf '\0\x02\x30\0\0\0\0\0' && sum_of "$file"
         printf '\0\0\0\0\x00\x02\x01\x00' && cat "$file"
     } >"$file.dc"
-    check "$form behind DiskCopy" ends 0 "$here/examples/form.sh" "$file.dc" "$file.dcout"
+    check "$form behind DiskCopy" ends 0 "$PMACH" convert "$file.dc" "$file.dcout"
     check "$form, the same volume behind DiskCopy" cmp po "$file.dcout"
     check "$form, a sound sum" [ ! -s err ]
-    check "$form behind DiskCopy is told" ends 0 "$here/examples/form.sh" "$file.dc"
+    check "$form behind DiskCopy is told" ends 0 "$PMACH" convert "$file.dc"
     check "$form by its name" grep -q "^dc42-${form#*:} BIG:" out
-    check "$form behind DiskCopy again" ends 0 "$here/examples/form.sh" --back "$file.dc" po "$file.dcback"
+    check "$form behind DiskCopy again" ends 0 "$PMACH" convert --back "$file.dc" po "$file.dcback"
     check "$form, the same image behind DiskCopy" cmp "$file.dc" "$file.dcback"
 done
 cp po.dcout more.po && printf 'there\n' | files more.po puttext B.TEXT
-check "a file more behind DiskCopy" ends 0 "$here/examples/form.sh" --back dos.dc more.po dos.dcmore
-check "its sum is its own" ends 0 "$here/examples/form.sh" dos.dcmore more.again
+check "a file more behind DiskCopy" ends 0 "$PMACH" convert --back dos.dc more.po dos.dcmore
+check "its sum is its own" ends 0 "$PMACH" convert dos.dcmore more.again
 check "its sum is sound" [ ! -s err ]
 check "the file is there" cmp more.po more.again
 byte dos.dcmore 90000 7F
-"$here/examples/form.sh" dos.dcmore >out 2>err </dev/null
+"$PMACH" convert dos.dcmore >out 2>err </dev/null
 check "another sum is told" grep -q 'the checksum in the header does not match' err
 { cat dos && head -c 128 /dev/zero; } >dos.long
-check "128 bytes more" ends 0 "$here/examples/form.sh" dos.long dos.longout
+check "128 bytes more" ends 0 "$PMACH" convert dos.long dos.longout
 check "are no part of the disk" cmp po dos.longout
-check "and stay" ends 0 "$here/examples/form.sh" --back dos.long po dos.longback
+check "and stay" ends 0 "$PMACH" convert --back dos.long po dos.longback
 check "where they were" cmp dos.long dos.longback
 gzip -c po >po.gz
-check "what is compressed" ends 2 "$here/examples/form.sh" po.gz
+check "what is compressed" ends 2 "$PMACH" convert po.gz
 check "is named" grep -q 'decompress it with gunzip' err
 { printf 'WOZ2' && head -c 5000 /dev/zero; } >flux.woz
-check "a .woz" ends 2 "$here/examples/form.sh" flux.woz
+check "a .woz" ends 2 "$PMACH" convert flux.woz
 check "is named so" grep -q 'looks like .woz' err
 head -c 232960 /dev/zero >some.nib
-check "a .nib" ends 2 "$here/examples/form.sh" some.nib
+check "a .nib" ends 2 "$PMACH" convert some.nib
 check "is named by its length" grep -q 'length of .nib' err
 { head -c 69632 /dev/zero && printf '\x04\x11\x0f\x03' && head -c 73724 /dev/zero; } >dos33.dsk
-check "a disk of DOS 3.3" ends 2 "$here/examples/form.sh" dos33.dsk
+check "a disk of DOS 3.3" ends 2 "$PMACH" convert dos33.dsk
 check "is named as one" grep -q 'DOS 3.3' err
 
 # words whose high byte comes first: of the directory, of its second copy, and of a code file's dictionary
@@ -238,11 +321,11 @@ for copies in one two; do
     seq 300 | files $copies.big put CODE code
     printf 'hi\n' | files $copies.big puttext A.TEXT
     turn $copies.big >$copies.turned
-    check "the high byte first, $copies" ends 0 "$here/examples/form.sh" $copies.turned
+    check "the high byte first, $copies" ends 0 "$PMACH" convert $copies.turned
     check "is told, $copies" grep -q '^big BIG: files 2 ' out
-    check "the low byte first again, $copies" ends 0 "$here/examples/form.sh" $copies.turned $copies.low
+    check "the low byte first again, $copies" ends 0 "$PMACH" convert $copies.turned $copies.low
     check "the same volume, $copies" cmp $copies.big $copies.low
-    check "and back, $copies" ends 0 "$here/examples/form.sh" --back $copies.turned $copies.low $copies.back
+    check "and back, $copies" ends 0 "$PMACH" convert --back $copies.turned $copies.low $copies.back
     check "the same image, $copies" cmp $copies.turned $copies.back
 done
 
@@ -251,9 +334,12 @@ files hurt12 new HURT 280
 for name in A B C D; do echo $name | files hurt12 put $name data; done
 byte hurt12 $((1024 + 6)) 00
 "$here/examples/dos-order.sh" <hurt12 >hurt12.dos
-check "no header in any form" ends 2 "$here/examples/form.sh" hurt12.dos
-check "what takes the files out is named" grep -q 'as dos it has 4 valid files: examples/form.sh --as dos hurt12.dos BLOCKS' err
-check "its blocks" ends 0 "$here/examples/form.sh" --as dos hurt12.dos hurt12.blocks
+check "no header in any form" ends 2 "$PMACH" convert hurt12.dos
+check "is refused as one" [ "$(head -n 1 err)" = "refused convert 1" ]
+check "its files by the form" ends 0 files hurt12.dos --form dos salvage f12dos/
+check "are four" [ "$(tail -n 1 out)" = "files 4 left out 0 doubted 0" ]
+check "and none by another" [ "$(files hurt12.dos --form swapped salvage f12swapped/ | tail -n 1 | cut -d' ' -f2)" = 0 ]
+check "its blocks" ends 0 "$PMACH" convert --form dos hurt12.dos hurt12.blocks
 check "and its files" ends 0 files hurt12.blocks salvage f12/
 check "with their bytes" cmp f12/C <(echo C)
 
@@ -262,12 +348,13 @@ files full new FULL 1600
 for ((n = 1; n <= 77; n++)); do seq $n $((9 * n)) | files full put FILE$n data; done
 check "77 files out" ends 0 files full export ffull
 files full2 new FULL 1600
-check "77 files in" ends 0 "$here/examples/import.sh" ffull full2
+check "77 files in" ends 0 files full2 import ffull
 check "77 files out again" ends 0 files full2 export ffull2
 check "the same 77 files" diff -r ffull ffull2
 echo x >ffull/ONEMORE && printf 'ONEMORE\tONEMORE\tdata\t000-00-00\tbytes\t78\n' >>ffull/LIST
-check "one more" ends 1 "$here/examples/import.sh" ffull full2
-check "is left out, and why" grep -q 'ONEMORE is left out: refused filer 1 8, the directory is full' err
+check "one more" ends 2 files full2 import ffull
+check "is left out, and why" grep -q '^pmach: ffull/ONEMORE: the directory is full' err
+check "and is the only one" [ "$(head -n 1 err)" = "refused import 1" ]
 files large new LARGE 65535
 seq 1000000 | files large put BIG data
 check "out of 33 MB" ends 0 files large export flarge
@@ -276,8 +363,8 @@ check "the file there" cmp flarge/BIG <(seq 1000000)
 check "an image that is longer" cmp <(files longer list) <(files a list)
 { cat a && printf x; } >byte.more
 check "by a byte" ends 2 "$PMACH" files --image byte.more list
-check "no volume in any form" ends 2 "$here/examples/form.sh" byte.more
-check "but its files are named" grep -q 'as blocks it has 7 valid files' err
+check "no volume in any form" ends 2 "$PMACH" convert byte.more
+check "so it is refused" [ "$(head -n 1 err)" = "refused convert 1" ]
 check "and come out" ends 0 files byte.more salvage fbyte/
 check "as they were" diff -r -x LIST fa fbyte
 head -c 5120 a >shorter
@@ -333,13 +420,15 @@ for ends in crlf cr; do
     check "out with $ends" ends 0 files ends.img export --text --ends $ends ends.$ends.out
     check "each line with $ends" cmp ends.$ends.out/A.TEXT ends.$ends
     files ends.$ends.img new ENDS 60
-    check "in with $ends" ends 0 "$here/examples/import.sh" --ends $ends ends.$ends.out ends.$ends.img
+    check "in with $ends" ends 0 files ends.$ends.img import --ends $ends ends.$ends.out
     check "as lines, $ends" cmp <(files ends.$ends.img gettext A.TEXT) ends.lf
-    check "once more with $ends" ends 0 "$here/examples/import.sh" --ends $ends ends.$ends.out ends.$ends.img
+    check "once more with $ends" ends 0 files ends.$ends.img import --ends $ends ends.$ends.out
 done
 check "other ends" ends 1 files ends.img export --text --ends vax none
 check "ends of bytes" ends 1 files ends.img export --ends crlf none
-check "other ends in" ends 1 "$here/examples/import.sh" --ends vax ends.cr.out ends.img
+check "line ends that differ, of a text that is there" ends 2 files ends.cr.img import ends.crlf.out
+check "which is refused as a text" grep -q '^pmach: ends.crlf.out/A.TEXT: .*--ends crlf or --ends cr' err
+check "other ends in" ends 1 files ends.img import --ends vax ends.cr.out
 
 # a hurt volume opens in no form: the one that is named is made all the same
 files two new TWO 280
@@ -348,9 +437,9 @@ printf hello | files two put B data
 byte two $((1024 + 26 + 6)) 00
 "$here/examples/dos-order.sh" <two >twodos
 cat header twodos >two.2mg
-check "a hurt disk fits no form" ends 2 "$here/examples/form.sh" twodos
-check "hurt, in the form that is named" ends 0 "$here/examples/form.sh" --as dos twodos two.new
-check "hurt, that is said" grep -q "opens as no volume in the format dos" err
+check "a hurt disk fits no form" ends 2 "$PMACH" convert twodos
+check "hurt, in the form that is named" ends 0 "$PMACH" convert --form dos twodos two.new
+check "hurt, that is said" grep -q "opens as no volume in this format" err
 check "hurt, its blocks" cmp two two.new
 check "hurt, its sound file" ends 0 "$PMACH" files --image two.new salvage two.saved
 check "hurt, the file's bytes" [ "$(files two.saved get B | head -c 5)" = hello ]
@@ -358,11 +447,11 @@ check "hurt, out of the form at once" ends 0 files twodos --form dos salvage dos
 check "hurt, of that form the file's bytes" cmp dosfolder/B <(printf hello)
 check "hurt, in no form that there is" ends 1 files twodos --form cpm salvage nofolder/
 check "hurt, and no folder of that" [ ! -e nofolder ]
-check "hurt, behind a header" ends 0 "$here/examples/form.sh" --as 2mg-dos two.2mg two.out
+check "hurt, behind a header" ends 0 "$PMACH" convert --form 2mg-dos two.2mg two.out
 check "hurt, its blocks behind a header" cmp two two.out
-check "hurt, as what no image is" ends 2 "$here/examples/form.sh" --as cpm twodos none
-check "hurt, no header for the form" ends 2 "$here/examples/form.sh" --as 2mg-dos twodos none
-check "hurt, not back" ends 2 "$here/examples/form.sh" --back twodos two none
+check "hurt, as what no image is" ends 1 "$PMACH" convert --form cpm twodos none
+check "hurt, no header for the form" ends 2 "$PMACH" convert --form 2mg-dos twodos none
+check "hurt, not back" ends 2 "$PMACH" convert --back twodos two none
 
 check "what fits a pattern" ends 0 files a export --only 'du=' fo
 check "and nothing else" [ "$(echo fo/*)" = "fo/DUP fo/DUQ fo/LIST" ]
@@ -432,14 +521,14 @@ each() {
 slot() { files "${@:1:$#-1}" get --slot "${*: -1}"; }
 lines() { files "${@:1:$#-1}" gettext --slot "${*: -1}"; }
 named() { files "${@:1:$#-1}" get "FILE$((${*: -1} - 1))"; }
-form() { ends 0 "$here/examples/form.sh" "box/$1" "box/$1.new" && [ ! -s err ]; }
+form() { ends 0 "$PMACH" convert "box/$1" "box/$1.new" && [ ! -s err ]; }
 # refused NUMBER VOLUME-FAULT: it opens as no volume, for that reason
 refused() { ends 2 "$PMACH" files --image "box/$1" list && [ "$(head -n 1 err)" = "refused volume $2" ]; }
 
 check "image 1, blocks in their order" each 1 slot box/1
 check "image 2, the order of DOS" each 2 slot box/2 --form dos
 check "image 3, exchanged bytes" each 3 slot box/3 --form swapped
-check "image 4, the high byte first: form.sh" form 4
+check "image 4, the high byte first: convert" form 4
 check "image 4, its files" each 4 slot box/4.new
 check "image 5, .2mg of blocks, a comment behind them" each 5 slot box/5 --form 2mg
 check "image 6, .2mg in the order of DOS, a long header" each 6 slot box/6 --form 2mg
@@ -453,9 +542,9 @@ done
 check "image 5, its header, its comment and the blocks" cmp more.5 \
     <(head -c 64 box/5 && cat more.1 && printf 'a comment')
 check "image 6, its header and the blocks" cmp more.6 <(head -c 70 box/6 && "$here/examples/dos-order.sh" <more.1)
-check "image 7, DiskCopy 4.2, a sound sum: form.sh" form 7
+check "image 7, DiskCopy 4.2, a sound sum: convert" form 7
 check "image 7, its files" each 7 slot box/7.new
-check "image 8, 128 bytes more: form.sh" form 8
+check "image 8, 128 bytes more: convert" form 8
 check "image 8, its files" each 8 slot box/8.new
 check "image 9, 77 files" each 9 slot box/9
 check "image 9, into a folder" ends 0 files box/9 export box/9.out
@@ -492,7 +581,7 @@ check "image 24, its files" ends 0 "$PMACH" files --image box/24 salvage box/24.
 check "image 24, their bytes" each 24 named box/24.new
 number=25
 for other in "DOS 3.3" ProDOS Macintosh .nib; do
-    check "image $number, $other" ends 2 "$here/examples/form.sh" box/$number
+    check "image $number, $other" ends 2 "$PMACH" convert box/$number
     check "image $number, is named" grep -q "it .*$other" err
     check "image $number, is no volume" refused $number 3
     number=$((number + 1))

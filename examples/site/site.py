@@ -3,7 +3,7 @@
     site.py IMAGE FOLDER [--run NAME [--input FILE] [--limit N]]
 
 It writes FOLDER/index.html with the volume, a map of its blocks and the output of `check`, and a page for each file. An image in another
-format is converted by form.sh. For a damaged image the pages show the files that `salvage` copies. All bytes of the disk are shown as text:
+format is converted by `pmach convert`. For a damaged image the pages show the files that `salvage` copies. All bytes of the disk are shown as text:
 they never become markup, a path or a script, and a policy in each page forbids scripts. The same image gives the same pages.
 
 FOLDER is new, or was made by this script: then its pages are replaced. Status 0: success; 1: invalid command line; 2: neither a volume nor
@@ -121,17 +121,15 @@ class Disk:
     def brought(self, scratch):
         """Converts an image in another format to blocks, if one format fits or `check` names one."""
         new = os.path.join(scratch, "blocks")
-        form = os.path.join(EXAMPLES, "form.sh")
-        run = lambda *words: subprocess.run([form, *words], stdin=subprocess.DEVNULL, stdout=subprocess.PIPE, stderr=subprocess.PIPE, env=dict(os.environ, PMACH=PMACH))
         told_forms = [line.split()[2] for line in self.findings if line.startswith("note form ")]
-        for words in [[self.path, new]] + [["--as", form_name, self.path, new] for form_name in told_forms]:
-            done = run(*words)
-            if done.returncode == 0 and os.path.getsize(new):
-                if words[0] == "--as":
-                    self.form = words[1]
+        for options in [[]] + [["--form", form_name] for form_name in told_forms]:
+            status = pmach(["convert", *options, "--", self.path, new])[0]
+            if status == 0 and os.path.getsize(new):
+                if options:
+                    self.form = options[1]
                 else:
-                    self.form = latin(run(self.path).stdout).split(" ")[0] or "another format"
-                self.notes.append("The image has the format %s. It was converted to blocks by: examples/form.sh%s IMAGE NEW" % (self.form, " --as " + self.form if words[0] == "--as" else ""))
+                    self.form = latin(pmach(["convert", "--", self.path])[1]).split(" ")[0] or "another format"
+                self.notes.append("The image has the format %s. It was converted to blocks by: %s" % (self.form, " ".join(["pmach convert", *options, "IMAGE NEW"])))
                 self.path = new
                 self.findings = latin(pmach(["files", "--image", new, "check"])[1]).splitlines()
                 return

@@ -153,6 +153,14 @@ printf 'volume W 60 000-00-00\nB\033[31m\tB\tdata\t000-00-00\tbytes\t1\n\033]0;x
 said=$(within 9 "$pmach" files --image n.img import fo)
 comes "no byte of LIST acts on a terminal" "4, 0" "${said%% *}, $(tr -d '\n\t' <err | tr -cd '\000-\037\177' | wc -c)"
 
+{ echo 'volume W 60 000-00-00' && head -c 1000000 /dev/zero | tr '\0' '\n'; } >fo/LIST
+said=$(within 30 "$pmach" files --image n.img import fo)
+comes "import, a LIST of a million lines" 0 "${said%% *}"
+{ echo 'volume W 60 000-00-00' && head -c 1000000 /dev/zero | tr '\0' x; } >fo/LIST
+said=$(within 30 "$pmach" files --image n.img import fo)
+comes "import, a line of a million characters: status, and whether the message is short" "2, short" \
+    "${said%% *}, $([ "$(wc -c <err)" -lt 1000 ] && echo short)"
+
 # What appears where nothing was is not written over, and not opened.
 mkfifo p1 p2
 (exec 9>p1; sleep 0.7; cat base >&9) &

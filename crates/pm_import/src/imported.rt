@@ -15,9 +15,14 @@ use pm_files::{DiskFault, Folder};
 use pm_folder::Ends;
 use pm_volume::Volume;
 use std::alloc::Global;
+use std::io::ErrorKind;
 
 /// The name of the list of the files in a folder.
 const LIST: &str = "LIST";
+
+/// The maximal length of `LIST`, in bytes. A volume has at most 77 files, and the list of an export has at most 12,000
+/// bytes.
+const LONGEST_LIST: usize = 65_536;
 
 /// Why the file of a line of `LIST` was not added.
 #[derive(Clone, Copy)]
@@ -209,6 +214,16 @@ fn take_list<F: Folder>(
     }
 }
 
+/// Opens the folder at `path`. A link or another file at the path is a fault of reading.
+fn open<F: Folder>(folder: &mut F, path: &str) -> Result<(), DiskFault>
+    ensures at { OnOk result (IsAt (F.at folder.new) path.now) }
+{
+    match folder.open(path) {
+        Err(DiskFault::Replaced) => Err(DiskFault::Read(ErrorKind::NotADirectory)),
+        done => done,
+    }
+}
+
 /// Opens the folder at `path`, and adds the files that its `LIST` names to a volume, in the order of its lines, each with its name, kind
 /// and date. Then it sets the volume's last date to that of `LIST`, unless that date is 0 or not valid. Returns the
 /// files that were not added, in order.
@@ -219,6 +234,7 @@ fn take_list<F: Folder>(
 /// # Errors
 ///
 /// - The fault of opening the folder, or of reading `LIST`. The volume is unchanged.
+/// - `LIST` has more than 65,536 bytes: `Read(FileTooLarge)`. The volume is unchanged.
 /// - `NoMemory`. The volume may have some of the files.
 pub fn import<F: Folder>(
     alloc: Global,
@@ -232,8 +248,11 @@ pub fn import<F: Folder>(
     ensures at { OnOk result (IsAt (F.at folder.new) path.now) }
     ensures volume { IsVolume volume.old → IsVolume volume.new }
 {
-    folder.open(path)?;
+    open(folder, path)?;
     let list = folder.read(alloc, LIST)?;
+    if list.len() > LONGEST_LIST {
+        return Err(DiskFault::Read(ErrorKind::FileTooLarge));
+    }
     let lines = lines_of(alloc, &list)?;
     take_list(alloc, folder, volume, &lines, ends)
 }

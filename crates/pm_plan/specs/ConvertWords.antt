@@ -1,5 +1,5 @@
 -- The arguments of `convert`.
-use Rattle.std.specs.Prelude.{◌≡◌, ◌≢◌, ⊤, ℕ, List, [], Option, None, Some, string_bytes}
+use Rattle.std.specs.Prelude.{◌≡◌, ◌≢◌, ⊤, ℕ, Bool, false, true, List, [], Option, None, Some, string_bytes}
 use Rattle.pm_convert.specs.Formats.{format_named}
 use Rattle.pm_convert.specs.declared.format.ByteOrder.TheVariants as orders
 use Rattle.pm_convert.specs.declared.format.Cover.TheVariants as covers
@@ -35,8 +35,8 @@ IsGoodTarget (Some word) None = format_named word ≢ None
 IsGoodTarget None (Some path) = path ≢ []
 IsGoodTarget (Some word) (Some path) = ⊥
 
--- Is true if a new image is named, or neither `--as` nor `--back` is given.
-abbrev pub HasNew : Option (List ℕ) → Option (List ℕ) → Option (List ℕ) → Type 0
-HasNew (Some new) to back = ⊤
-HasNew None None None = ⊤
-HasNew None to back = ⊥
+-- Is true if a new image is named, or no option is given that requires one.
+abbrev pub HasNew : Option (List ℕ) → Bool → Type 0
+HasNew (Some new) options = ⊤
+HasNew None false = ⊤
+HasNew None true = ⊥

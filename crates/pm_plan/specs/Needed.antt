@@ -1,6 +1,6 @@
 -- The requirements for the arguments of each command. A command line is valid if each argument meets its requirement.
 use Rattle.std.specs.Prelude.{◌≡◌, ◌≢◌, ◌≤◌, ⊤, ℕ, Bool, true, false, List, [], ◌∷◌, ◌++◌, Option, None, Some}
-use Rattle.std.specs.Prelude.{codes, is_some, if◌then◌else◌}
+use Rattle.std.specs.Prelude.{◌||◌, codes, is_some, if◌then◌else◌}
 use Rattle.std.specs.Bool.{MatchBool}
 use Rattle.std.specs.Option.{option_or}
 use Rattle.std.specs.Str.{bytes_eq}
@@ -287,12 +287,17 @@ AreGoodFiles rows after = MatchBool (is_verb (codes "salvage") after) (IsGoodSal
     (MatchBool (is_verb (codes "export") after) (IsGoodExport rows after)
     (MatchBool (is_verb (codes "import") after) (IsGoodImport rows after) (AreGoodBefore rows after)))
 
+-- Is true if `--form`, `--as` or `--back` is given. The option `--form` has the id `format`.
+abbrev pub has_options : List Row → Bool
+has_options rows = is_some (word_found rows (codes "format"))
+    || (is_some (word_found rows (codes "as")) || is_some (word_found rows (codes "back")))
+
 -- Is true if the arguments of `convert` are valid.
 abbrev pub IsGoodConvert : List Row → Type 0
 IsGoodConvert rows = IsThere (word_found rows (codes "OLD")) × IsOptional (word_found rows (codes "NEW"))
     × IsGoodFormat (word_found rows (codes "format"))
     × IsGoodTarget (word_found rows (codes "as")) (word_found rows (codes "back"))
-    × HasNew (word_found rows (codes "NEW")) (word_found rows (codes "as")) (word_found rows (codes "back"))
+    × HasNew (word_found rows (codes "NEW")) (has_options rows)
 
 -- Is true if the arguments `m` are valid for the command `command`.
 abbrev pub AreGood : List ℕ → ArgMatches → Type 0

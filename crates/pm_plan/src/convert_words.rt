@@ -2,7 +2,7 @@
 ghost use Rattle.std.specs.Prelude.{◌≡◌, ◌↔◌, IfErr, IfOk, IsOk, IsOkUnless, OnOk, Some, codes, option_map, string_bytes};
 ghost use Rattle.pm_plan.specs.Asked.{AsksConvert, word_found, words_of};
 ghost use Rattle.pm_plan.specs.ConvertWords.{HasNew, IsFormat, IsGoodFormat, IsGoodTarget, IsTarget};
-ghost use Rattle.pm_plan.specs.Needed.{IsGoodConvert, IsOptional, IsWrong};
+ghost use Rattle.pm_plan.specs.Needed.{IsGoodConvert, IsOptional, IsWrong, has_options};
 ghost use Rattle.pm_plan.specs.declared.words.WordsError.TheVariants.{NoMemory};
 
 use crate::file_words::word;
@@ -86,29 +86,34 @@ fn target_of(alloc: Global, matches: &ArgMatches<'_>) -> Result<Target, WordsErr
     }
 }
 
+/// Whether an option is given that requires a new image: `--form`, `--as` or `--back`.
+fn has_options(matches: &ArgMatches<'_>) -> bool
+    ensures value { result ≡ has_options (words_of matches.now) }
+{
+    found(matches, "format").is_some()
+        || found(matches, "as").is_some()
+        || found(matches, "back").is_some()
+}
+
 /// Returns the path of the new image, if it is given.
 ///
 /// # Errors
 ///
 /// - The path is empty: `NoValue`. `NoMemory`.
-/// - No path is given, but `--as` or `--back`: `Wrong`.
+/// - No path is given, but `--form`, `--as` or `--back`: `Wrong`.
 fn new_of(alloc: Global, matches: &ArgMatches<'_>) -> Result<Option<String>, WordsError>
     ensures value { IfOk result (λ new. word_found (words_of matches.now) (codes "NEW") ≡ option_map string_bytes new) }
     ensures good { IsOk result → IsOptional (word_found (words_of matches.now) (codes "NEW")) }
     ensures new { OnOk result (HasNew (word_found (words_of matches.now) (codes "NEW"))
-        (word_found (words_of matches.now) (codes "as")) (word_found (words_of matches.now) (codes "back"))) }
+        (has_options (words_of matches.now))) }
     ensures taken { IsOptional (word_found (words_of matches.now) (codes "NEW"))
-        → HasNew (word_found (words_of matches.now) (codes "NEW")) (word_found (words_of matches.now) (codes "as"))
-        (word_found (words_of matches.now) (codes "back")) → IsOkUnless result NoMemory }
+        → HasNew (word_found (words_of matches.now) (codes "NEW")) (has_options (words_of matches.now))
+        → IsOkUnless result NoMemory }
 {
-    match (
-        given(alloc, matches, "NEW")?,
-        found(matches, "as"),
-        found(matches, "back"),
-    ) {
-        (Some(new), _, _) => Ok(Some(new)),
-        (None, None, None) => Ok(None),
-        _ => Err(WordsError::Wrong("--as and --back require NEW")),
+    match (given(alloc, matches, "NEW")?, has_options(matches)) {
+        (Some(new), _) => Ok(Some(new)),
+        (None, false) => Ok(None),
+        (None, true) => Err(WordsError::Wrong("--form, --as and --back require NEW")),
     }
 }
 
@@ -117,7 +122,7 @@ fn new_of(alloc: Global, matches: &ArgMatches<'_>) -> Result<Option<String>, Wor
 /// # Errors
 ///
 /// - The path of the image is missing: `NoCommand`.
-/// - The path of the new image is empty: `NoValue`. It is missing, but `--as` or `--back` is given: `Wrong`.
+/// - The path of the new image is empty: `NoValue`. It is missing, but `--form`, `--as` or `--back` is given: `Wrong`.
 /// - The format of the image is invalid: `Wrong`.
 /// - The format of the new image is invalid, as `target_of` states.
 /// - Out of memory at any of these steps: `NoMemory`.

@@ -1,6 +1,7 @@
 //! Images that are converted to another format.
-ghost use Rattle.std.specs.Prelude.{◌≡◌, IfErr, IfOk, OnErr, Some, None, false, option_map, string_bytes};
+ghost use Rattle.std.specs.Prelude.{◌≡◌, IfOk, OnErr, OnOk, false, option_map, string_bytes};
 ghost use Rattle.pm_convert.specs.Jobs.{items_of};
+ghost use Rattle.pm_program.specs.Saved.{held_at};
 ghost use Rattle.pm_program.specs.Converted.{Converts, IsMade, PrintsFormats, WritesMade, source_of};
 
 use pm_convert::{
@@ -50,6 +51,19 @@ fn print_formats<O: Sink>(
     match write_all(sink, text.as_bytes()) {
         Ok(()) => Ok(only(&formats).err()),
         Err(_) => Err(DiskFault::Write(ErrorKind::Other)),
+    }
+}
+
+/// Locks the file of the new image of a plan. A path at which no file exists is remembered, so that no file that another
+/// program creates there is replaced.
+fn hold<S: Store>(store: &mut S, plan: &ConvertPlan) -> Result<(), DiskFault>
+    ensures stays { S.files store.new ≡ S.files store.old }
+    ensures held { OnOk result (S.held store.new
+        ≡ held_at (option_map string_bytes plan.now.new) (S.held store.old)) }
+{
+    match &plan.new {
+        Some(new) => store.hold(new.as_str()),
+        None => Ok(()),
     }
 }
 
@@ -108,6 +122,7 @@ fn is_no_volume(alloc: Global, plan: &ConvertPlan, image: &[u8]) -> Result<bool,
 ///
 /// No file has changed.
 ///
+/// - The fault of locking the file of the new image.
 /// - The fault of reading the image or the blocks. `NoMemory`.
 /// - The fault of writing the new image, or of printing the formats.
 pub fn do_convert<S: Store, O: Sink>(
@@ -119,9 +134,11 @@ pub fn do_convert<S: Store, O: Sink>(
     requires well { (O.seen sink.old).failed ≡ false }
     ensures converts { IfOk result (Converts (S.files store.old) (S.files store.new) (O.seen sink.old)
         (O.seen sink.new) plan.now (option_map string_bytes plan.now.new)) }
-    ensures held { S.held store.new ≡ S.held store.old }
+    ensures held { OnOk result (S.held store.new
+        ≡ held_at (option_map string_bytes plan.now.new) (S.held store.old)) }
     ensures unchanged { OnErr result (S.files store.new ≡ S.files store.old) }
 {
+    hold(store, plan)?;
     let image = store.read(alloc, source_of(plan))?;
     let is_no_volume = is_no_volume(alloc, plan, &image)?;
     let is_damaged = is_sum_wrong(&image);

@@ -495,6 +495,24 @@ fn is_new_there<S: Store>(store: &S, new: &Option<String>) -> bool {
     }
 }
 
+/// Returns the conflict of the paths of a conversion: the new image exists, or a file that is read would be removed as
+/// the temporary file of the new image.
+fn conflict_of_conversion<S: Store>(store: &S, plan: &ConvertPlan) -> Option<Conflict> {
+    if is_new_there(store, &plan.new) {
+        return Some(Conflict::TargetIsThere);
+    }
+    let new = plan.new.as_ref()?.as_str();
+    let is_taken = match &plan.target {
+        Target::As(_) => false,
+        Target::Back(image) => store.is_beside(new, image.as_str()),
+    };
+    if is_taken || store.is_beside(new, plan.old.as_str()) {
+        Some(Conflict::FileInTheWay)
+    } else {
+        None
+    }
+}
+
 /// Returns the first conflict of the paths of `run`, or `None`. The conflicts are checked in this order:
 ///
 /// - an image is saved, and the image of unit 4 is also on another unit: `SavedTwice`;
@@ -587,7 +605,7 @@ fn conflict_in<S: Store>(store: &S, plan: &Plan) -> Option<Conflict> {
         Plan::Export(plan) if is_there(store, plan.folder.as_str()) => {
             Some(Conflict::FolderIsThere)
         }
-        Plan::Convert(plan) if is_new_there(store, &plan.new) => Some(Conflict::TargetIsThere),
+        Plan::Convert(plan) => conflict_of_conversion(store, plan),
         Plan::Salvage(plan) if store.is_beside(plan.target.as_str(), plan.path.as_str()) => {
             Some(Conflict::FileInTheWay)
         }

@@ -41,6 +41,23 @@ impl fmt::Display for PlainLines<'_> {
 /// The maximum number of characters of a quoted line in a message.
 const MOST: usize = 120;
 
+/// At most the first 120 characters of a text on one line of a terminal. If there are more, two full stops follow.
+#[derive(Clone, Copy)]
+struct Front<'a>(&'a str);
+
+impl fmt::Display for Front<'_> {
+    fn fmt<W: fmt::Write>(&self, f: &mut fmt::Formatter<W>) -> fmt::Result {
+        for (place, letter) in self.0.chars().enumerate() {
+            if place == MOST {
+                return f.write_str("..");
+            }
+            let acts = letter.is_control() && letter != '\t';
+            f.write_char(if acts { '?' } else { letter })?;
+        }
+        Ok(())
+    }
+}
+
 /// The indentation of a quoted line and of its mark.
 const INDENT: &str = "    ";
 
@@ -245,7 +262,7 @@ fn name_left<R: Eprint + AllocGlobal>(rt: &R, end: &End) {
                 Ok(name) => eprintln!(rt;
                     "pmach: {}/{}: {why}",
                     Plain(folder),
-                    Plain(name.as_str())
+                    Front(name.as_str())
                 ),
                 Err(_) => eprintln!(rt; "pmach: {}: {why}", Plain(folder)),
             };

@@ -1,5 +1,6 @@
 -- What a conversion of an image leaves.
 use Rattle.std.specs.Prelude.{◌≡◌, ℕ, List, Bool, false, Option, None, Some, Result, Ok, Err, string_bytes}
+use Rattle.pm_convert.specs.Foreigners.{recognized}
 use Rattle.pm_convert.specs.Found.{formats_of, is_sum_wrong}
 use Rattle.pm_convert.specs.Jobs.{converted, converted_back, formats_text, only}
 use Rattle.pm_convert.specs.declared.format.Format.{Format}
@@ -46,8 +47,10 @@ ConvertsWith old new out after plan None image fault = PrintsFormats out after i
 ConvertsWith old new out after plan (Some path) image fault = (made : Result (List ℕ) ConvertFault)
     × IsMade old plan.target (string_bytes plan.old) plan.format image made × WritesMade old new path made fault
 
--- The image of a plan is read, and converted or printed. The checksum in its header is checked.
+-- The image of a plan is read, and converted or printed. The checksum in its header is checked, and the image is
+-- recognized if it is one of another system.
 abbrev pub Converts : Files → Files → Outgoing → Outgoing → ConvertPlan → Option (List ℕ) → Converted → Type 0
 Converts old new out after plan path done = (image : List ℕ)
     × HoldsFile old (source_of plan.target (string_bytes plan.old)) image
     × ConvertsWith old new out after plan path image done.fault × (done.is_damaged ≡ is_sum_wrong image)
+    × (done.foreign ≡ recognized image)

@@ -155,11 +155,20 @@ comes "no byte of LIST acts on a terminal" "4, 0" "${said%% *}, $(tr -d '\n\t' <
 
 { echo 'volume W 60 000-00-00' && head -c 1000000 /dev/zero | tr '\0' '\n'; } >fo/LIST
 said=$(within 30 "$pmach" files --image n.img import fo)
-comes "import, a LIST of a million lines" 0 "${said%% *}"
+comes "import, a LIST of a million lines" "4 read fault" "$said"
 { echo 'volume W 60 000-00-00' && head -c 1000000 /dev/zero | tr '\0' x; } >fo/LIST
 said=$(within 30 "$pmach" files --image n.img import fo)
-comes "import, a line of a million characters: status, and whether the message is short" "2, short" \
+comes "import, a line of a million characters" "4 read fault" "$said"
+{ echo 'volume W 60 000-00-00' && head -c 60000 /dev/zero | tr '\0' x; } >fo/LIST
+said=$(within 30 "$pmach" files --image n.img import fo)
+comes "import, a line of 60,000 characters: status, and whether the message is short" "2, short" \
     "${said%% *}, $([ "$(wc -c <err)" -lt 1000 ] && echo short)"
+{ echo 'volume W 60 000-00-00' && head -c 60000 /dev/zero | tr '\0' '\n'; } >fo/LIST
+said=$(within 30 "$pmach" files --image n.img import fo)
+comes "import, a LIST of 60,000 lines" 0 "${said%% *}"
+ln -s fo folink
+said=$(within 9 "$pmach" files --image n.img import folink)
+comes "import, a link to a folder" "4 read fault" "$said"
 
 # What appears where nothing was is not written over, and not opened.
 mkfifo p1 p2
@@ -255,7 +264,8 @@ cp base a
 cp base a.pmach-new
 cp base c.pmach-new
 for words in "run --d4 a --d5 a.pmach-new --save OK" "run --d4 a --d5 a.pmach-new --save-all OK" \
-    "run --d4 a.pmach-new --d9 a --save-all OK" "run --d4 c.pmach-new --printer c OK" "files --image c.pmach-new salvage c"; do
+    "run --d4 a.pmach-new --d9 a --save-all OK" "run --d4 c.pmach-new --printer c OK" "files --image c.pmach-new salvage c" \
+    "convert c.pmach-new c" "convert --back c.pmach-new a c" "convert --back a c.pmach-new c"; do
     # shellcheck disable=SC2086 # words
     said=$(within 9 "$pmach" $words)
     comes "$words" "1 $message, $base, $base" "$said, $(cksum <a.pmach-new), $(cksum <c.pmach-new)"

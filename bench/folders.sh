@@ -133,8 +133,23 @@ check "two folders" ends 1 files l import fa fb
 check "the same in another order" ends 0 eval 'files x.dos --form dos new X 280 && files x.dos --form dos import fa'
 check "has the files" cmp <(files x.dos --form dos list | cut -c1-18,30- | sed '1d;$d') <(files a list | cut -c1-18,30- | sed '1d;$d')
 ln -s fa fa.link
-check "a link to a folder" ends 4 files l import fa.link
-check "is a read fault" [ "$(head -n 1 err)" = "read fault" ]
+cp l l.before
+for path in fa.link fa.link/ l.before; do
+    check "$path, which is no folder" ends 4 files l import $path
+    check "$path is a read fault" [ "$(head -n 1 err)" = "read fault" ]
+done
+# LIST has at most 65,536 bytes, and of a line at most 120 characters are quoted.
+{ head -n 1 l.out2/LIST && head -c 65536 /dev/zero | tr '\0' '\n'; } | head -c 65536 >fl/LIST
+check "the longest LIST" ends 0 files l import fl
+echo >>fl/LIST
+check "one byte more" ends 4 files l import fl
+check "one byte more is a read fault" [ "$(cat err)" = "read fault" ]
+line=$(head -c 120 /dev/zero | tr '\0' x)
+printf '%s\n' "$(head -n 1 l.out2/LIST)" "$line" "${line}y" >fl/LIST
+check "long lines" ends 2 files l import fl
+check "of 120 characters" grep -qx "pmach: fl/$line: LIST has no valid line for it" err
+check "of more" grep -qx "pmach: fl/$line\.\.: LIST has no valid line for it" err
+check "none of these changes the image" cmp l l.before
 
 # byte FILE PLACE VALUE
 byte() { printf "\\x$3" | dd of="$1" bs=1 seek="$2" conv=notrunc 2>/dev/null; }
@@ -235,15 +250,38 @@ check "and is that one" cmp twice.dos <("$here/examples/dos-order.sh" <twice)
 check "no image" ends 4 "$PMACH" convert missing none
 check "wrong words of convert" ends 1 "$PMACH" convert --as dos --back dos po none
 check "no new image" ends 1 "$PMACH" convert --as dos po
-check "a form without a new image is told nothing" ends 0 "$PMACH" convert --form swapped dos
-check "and no blocks are written then" [ ! -s err ]
+for words in "--form swapped dos" "--as dos po" "--back dos po"; do
+    # shellcheck disable=SC2086 # several words
+    check "$words without a new image" ends 1 "$PMACH" convert $words
+    check "$words requires one" [ "$(cat err)" = "error: --form, --as and --back require NEW" ]
+done
+beside="error: one file is the temporary file (PATH.pmach-new) of another, and would be deleted; rename it"
 cp dos clash.pmach-new && cp dos back.pmach-new && cp po part.pmach-new
 check "an old image that is the temporary file of the new one" ends 1 "$PMACH" convert clash.pmach-new clash
+check "is told" [ "$(cat err)" = "$beside" ]
 check "stays" cmp clash.pmach-new dos
 check "also with --back" ends 1 "$PMACH" convert --back back.pmach-new po back
+check "with --back it is told" [ "$(cat err)" = "$beside" ]
 check "it stays" cmp back.pmach-new dos
 check "also the blocks" ends 1 "$PMACH" convert --back dos part.pmach-new part
+check "the blocks are told" [ "$(cat err)" = "$beside" ]
 check "they stay" cmp part.pmach-new po
+check "and nothing is made of them" [ ! -e clash -a ! -e back -a ! -e part ]
+check "a new image with such a name" ends 0 "$PMACH" convert dos other.pmach-new
+check "is made, next to an old one without it" cmp other.pmach-new po
+# (a pipe makes convert wait for its image, and meanwhile a file, a link or a folder appears at NEW)
+mkfifo slow
+for deed in "cp small late" "ln -s small late" "mkdir late" "ln -s nothing late"; do
+    cp small small.was
+    (exec 9>slow; sleep 0.3; $deed; cat dos >&9) 2>/dev/null &
+    check "$deed, while the old image is read" ends 4 timeout 9 "$PMACH" convert slow late
+    wait
+    check "$deed, is a write fault" [ "$(head -n 1 err)" = "write fault" ]
+    check "$deed, and nothing is replaced" cmp small small.was
+    check "$deed, and nothing is made" [ ! -s nothing ]
+    check "$deed, what came stays" eval '[ -L late ] || [ -d late ] || cmp late small'
+    rm -rf late late.pmach-new
+done
 printf "2IMG" >short
 check "a header that is cut" ends 2 "$PMACH" convert short
 

@@ -70,6 +70,9 @@ def sentences():
     add("asm", faults("crates/pm_source/src/fault.rt"), [])
     help_of_system = arms(reason, "help_of_system")
     add("system", faults("crates/pm_filer/src/system_fault.rt"), [], lambda name: help_of_system.get(name, ""))
+    job = read("crates/pm_convert/src/job.rt")
+    texts, numbers = arms(job, "text"), re.findall(r"ConvertFault::(\w+) => (\d+),", job)
+    told.extend(("convert %s" % number, texts[name]) for name, number in numbers)
     return told
 
 

@@ -205,8 +205,9 @@ fn convert<S: Store, O: Sink>(
     requires well { (O.seen sink.old).failed ≡ false }
 {
     let converted = do_convert(alloc, store, sink, &plan)?;
-    let path = match plan.target {
-        Target::As(_) => plan.old,
+    let ConvertPlan { old, target, .. } = plan;
+    let path = match target {
+        Target::As(_) => old,
         Target::Back(image) => image,
     };
     Ok(Ended::Convert(path, converted))

@@ -89,6 +89,7 @@ pub fn on_disk(
         name,
         limit,
         system: None,
+        is_text: false,
     };
     let printing = Printing::Nowhere;
     let saved = SavedOfRun { saving, printing };

@@ -42,8 +42,8 @@ fn push_byte(text: &mut Vec<u8>, ends: Ends, byte: u8) -> Result<(), AllocError>
     Ok(())
 }
 
-/// Returns the text `text` with the line ends `ends` instead of byte 10.
-fn with_ends(alloc: Global, text: &[u8], ends: Ends) -> Result<Vec<u8>, AllocError>
+/// Returns the text `text` with the line ends `ends` instead of byte 10. Returns `AllocError` if memory is exhausted.
+pub fn with_ends(alloc: Global, text: &[u8], ends: Ends) -> Result<Vec<u8>, AllocError>
     ensures text { IfOk result (λ bytes. bytes.items ≡ with_ends ends text.now) }
 {
     let mut bytes = Vec::new(alloc);

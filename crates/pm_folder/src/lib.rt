@@ -7,7 +7,7 @@ mod folder;
 mod names;
 mod worked;
 
-pub use contents::{Ends, How};
+pub use contents::{Ends, How, with_ends};
 pub use folder::{FolderFile, Wanted, first_line, folder_of};
 pub use names::{HOSTED, LISTED};
 pub use worked::worked_folders;

@@ -30,8 +30,13 @@ fn feeds_for_returns(alloc: Global, text: &[u8]) -> Result<Vec<u8>, AllocError>
     Ok(bytes)
 }
 
-/// Returns a text whose lines end with `ends`, with line feeds.
-pub(crate) fn with_feeds(alloc: Global, text: &[u8], ends: Ends) -> Result<Vec<u8>, AllocError>
+/// Returns `text`, whose lines end with `ends`, with lines that end with byte 10. Returns `AllocError` if memory is
+/// exhausted.
+///
+/// - `Lf`: the text is unchanged.
+/// - `CrLf`: each byte 13 directly before a byte 10 is left out.
+/// - `Cr`: each byte 13 becomes byte 10.
+pub fn with_feeds(alloc: Global, text: &[u8], ends: Ends) -> Result<Vec<u8>, AllocError>
     ensures text { IfOk result (λ bytes. bytes.items ≡ feeds.with_feeds ends text.now) }
 {
     match ends {

@@ -7,4 +7,5 @@ mod listed;
 mod placed;
 pub mod worked;
 
+pub use feeds::with_feeds;
 pub use imported::{Left, Why, import};

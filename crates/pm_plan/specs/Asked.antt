@@ -24,7 +24,7 @@ use Rattle.pm_jobs.specs.declared.selection.Selection.{Selection}
 use Rattle.pm_folder.specs.declared.folder.Wanted.{Wanted}
 use Rattle.pm_folder.specs.declared.folder.Wanted.TheVariants as wanted
 use Rattle.pm_plan.specs.ConvertWords.{IsFormat, IsTarget}
-use Rattle.pm_plan.specs.FolderWords.{AreEnds, IsText}
+use Rattle.pm_plan.specs.FolderWords.{AreEnds, AreEndsGiven, IsText}
 use Rattle.pm_plan.specs.declared.convert_words.ConvertPlan.{ConvertPlan}
 use Rattle.pm_plan.specs.declared.folder_words.ExportPlan.{ExportPlan}
 use Rattle.pm_plan.specs.declared.folder_words.ImportPlan.{ImportPlan}
@@ -39,6 +39,7 @@ use Rattle.pm_plan.specs.declared.run_words.Program.{Program}
 use Rattle.pm_plan.specs.declared.text_words.TextFiles.{TextFiles}
 use Rattle.pm_plan.specs.declared.text_words.TextInput.{TextInput}
 use Rattle.pm_plan.specs.declared.text_words.TextInput.TheVariants as inputs
+use Rattle.pm_plan.specs.SearchWords.{AsksSearch}
 use Rattle.pm_plan.specs.Forms.{AsksForm}
 use Rattle.pm_plan.specs.declared.form.Form.{Form}
 use Rattle.pm_plan.specs.declared.words.Asked.{Asked}
@@ -132,6 +133,7 @@ pub record AsksProgram (rows : List Row) (program : Program) : Type 0 where
   pub name : word_found rows (codes "NAME") ≡ Some (string_bytes program.name)
   pub limit : IsRunLimit (is_set (word_found rows (codes "unlimited"))) (word_found rows (codes "limit")) program.limit
   pub system : word_found rows (codes "system") ≡ option_map string_bytes program.system
+  pub text : is_set (word_found rows (codes "text")) ≡ program.is_text
 
 -- Returns which images `--save-all` saves. The argument is the value of `--system`. With `--system`, the image of unit
 -- 4 is not saved, because it contains the system's segment.
@@ -243,11 +245,13 @@ IsPath None (Some behind) path = path ≡ behind
 IsPath None None path = ⊥
 IsPath (Some before) (Some behind) path = ⊥
 
--- Is true if the arguments `m` of `files` specify `plan`: its verb, the path of its image and the path of its output.
+-- Is true if the arguments `m` of `files` specify `plan`: its verb, the path of its image, the path of its output, and
+-- the line ends of its text.
 abbrev pub AsksFiles : ArgMatches → FilesPlan → Type 0
 AsksFiles m plan = (verb : List ℕ) × (rows : List Row) × (subcommand_rows_of m ≡ Some (verb, rows))
     × IsPath (word_found (words_of m) (codes "image")) (word_found rows (codes "image")) (string_bytes plan.path)
     × AsksVerb verb rows plan.verb × (word_found rows (codes "output") ≡ option_map string_bytes plan.output)
+    × AreEndsGiven (word_found rows (codes "ends")) plan.ends
 
 -- Is true if the arguments `m` of `files salvage` specify `plan`.
 abbrev pub AsksSalvage : ArgMatches → SalvagePlan → Type 0
@@ -394,6 +398,7 @@ Asks command m (plans.Salvage plan) = (command ≡ codes "files") × AsksSalvage
 Asks command m (plans.Export plan) = (command ≡ codes "files") × AsksExport m plan
 Asks command m (plans.Import plan) = (command ≡ codes "files") × AsksImport m plan
 Asks command m (plans.Convert plan) = (command ≡ codes "convert") × AsksConvert m plan
+Asks command m (plans.Search plan) = AsksSearch command m plan
 
 -- Is true if the arguments `m` contain the command `command`, and the arguments after it have the rows of `below`.
 abbrev pub IsCommand : ArgMatches → List ℕ → ArgMatches → Type 0

@@ -25,6 +25,12 @@ IsGoodText text None = ⊤
 IsGoodText false (Some word) = ⊥
 IsGoodText true (Some word) = ends_named word ≢ None
 
+-- Is true if `e` is the line ends that the value of `--ends` of `gettext` or `puttext` names, or `None` if the option is
+-- not given.
+abbrev pub AreEndsGiven : Option (List ℕ) → Option Ends → Type 0
+AreEndsGiven None e = e ≡ None
+AreEndsGiven (Some word) e = (e ≡ ends_named word) × (ends_named word ≢ None)
+
 -- The line ends of imported texts: byte 10 if no word names others.
 abbrev pub AreEnds : Option (List ℕ) → Ends → Type 0
 AreEnds None e = e ≡ ends.Lf

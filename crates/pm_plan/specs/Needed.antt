@@ -10,6 +10,7 @@ use Rattle.pm_plan.specs.Asked.{IsCommand, IsKind, IsLimitWord, IsNumberUpTo, Is
 use Rattle.pm_plan.specs.Asked.{word_below, word_found, words_of}
 use Rattle.pm_plan.specs.ConvertWords.{HasNew, IsGoodFormat, IsGoodTarget}
 use Rattle.pm_plan.specs.FolderWords.{AreGoodEnds, IsGoodText}
+use Rattle.pm_plan.specs.SearchWords.{IsGoodSearch}
 use Rattle.pm_plan.specs.Forms.{IsFormWord}
 use Rattle.pm_plan.specs.declared.words.WordsError.{WordsError}
 use Rattle.pm_plan.specs.declared.words.WordsError.TheVariants as errors
@@ -244,7 +245,8 @@ abbrev pub AreGoodBefore : List Row → Option (List ℕ × List Row) → Type 0
 AreGoodBefore rows None = ⊥
 AreGoodBefore rows (Some behind) =
     IsOnePath (word_found rows (codes "image")) (word_found behind.1 (codes "image"))
-    × IsOptional (word_found behind.1 (codes "output")) × MeetAll behind.1 (verb_needs behind.0)
+    × IsOptional (word_found behind.1 (codes "output")) × AreGoodEnds (word_found behind.1 (codes "ends"))
+    × MeetAll behind.1 (verb_needs behind.0)
 
 -- Returns whether the verb is `name`.
 abbrev pub is_verb : List ℕ → Option (List ℕ × List Row) → Bool
@@ -299,12 +301,18 @@ IsGoodConvert rows = IsThere (word_found rows (codes "OLD")) × IsOptional (word
     × IsGoodTarget (word_found rows (codes "as")) (word_found rows (codes "back"))
     × HasNew (word_found rows (codes "NEW")) (has_options rows)
 
+-- Returns whether the command searches in images.
+abbrev pub is_search : List ℕ → Bool
+is_search command = bytes_eq command (codes "find")
+    || (bytes_eq command (codes "grep") || bytes_eq command (codes "info"))
+
 -- Is true if the arguments `m` are valid for the command `command`.
 abbrev pub AreGood : List ℕ → ArgMatches → Type 0
 AreGood command m = MatchBool (bytes_eq command (codes "files"))
     (AreGoodFiles (words_of m) (subcommand_rows_of m))
     (MatchBool (bytes_eq command (codes "convert")) (IsGoodConvert (words_of m))
-    (MeetAll (words_of m) (command_needs command)))
+    (MatchBool (is_search command) (IsGoodSearch command (words_of m))
+    (MeetAll (words_of m) (command_needs command))))
 
 -- Is true if `--form` in the arguments `m` of a command is valid.
 unfoldable pub IsGoodForm : ArgMatches → Type 0

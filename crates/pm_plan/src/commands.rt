@@ -20,6 +20,8 @@ enum Form {
     Unless(&'static str),
     /// An optional argument, found by its position.
     Maybe,
+    /// One or more arguments, found by their positions.
+    Many,
     /// An option that is not required, with another name than its id. The name, and the name of its value.
     Named(&'static str, &'static str),
     /// An option that can be omitted and also has a short name, as in `-o`. The fields are the letter and the name of
@@ -113,6 +115,25 @@ const ESCAPE: WordRow = (
     "On a terminal, pass Ctrl-C and Ctrl-D to the program as bytes 3 and 4; Ctrl-] ends the input",
 );
 
+/// The option `--debug`. The script `pmach` handles it, and the program itself ignores it.
+const RESUMED: WordRow = (
+    "debug",
+    Form::Flag,
+    "On a terminal: after an error or Ctrl-C, continue in the debugger",
+);
+
+const TEXT: WordRow = (
+    "text",
+    Form::Flag,
+    "Treat line feeds of the input as the key Return (byte 13), and end lines of the output with line feeds",
+);
+
+const TYPED: WordRow = (
+    "text",
+    Form::Flag,
+    "Treat line feeds of the input as the key Return (byte 13)",
+);
+
 const PRINTER: WordRow = (
     "printer",
     Form::Free("PATH"),
@@ -150,6 +171,18 @@ const KIND: WordRow = (
     "Kind: none, badb, code, text, info, data, graf, foto, secd, or a number from 0 to 15",
 );
 
+const WRITTEN_ENDS: WordRow = (
+    "ends",
+    Form::Free("ENDS"),
+    "Line ends of the written text: lf, crlf or cr [default: lf]",
+);
+
+const READ_ENDS: WordRow = (
+    "ends",
+    Form::Free("ENDS"),
+    "Line ends of the text that is read: lf, crlf or cr [default: lf]",
+);
+
 const VOLUME: WordRow = ("NAME", Form::Word, "Volume name, 1 to 7 characters");
 
 const VERBS: &[CommandRow] = &[
@@ -184,12 +217,12 @@ const VERBS: &[CommandRow] = &[
     (
         "gettext",
         "Write the text of a text file to standard output",
-        &[IMAGE, FORM, FILE_OR_SLOT, SLOT, WRITTEN],
+        &[IMAGE, FORM, FILE_OR_SLOT, SLOT, WRITTEN_ENDS, WRITTEN],
     ),
     (
         "puttext",
         "Add a text file with the text of standard input",
-        &[IMAGE, FORM, FILE],
+        &[IMAGE, FORM, FILE, READ_ENDS],
     ),
     (
         "export",
@@ -390,15 +423,15 @@ const VERBS: &[CommandRow] = &[
     ),
 ];
 
-/// The help text that lists the commands of the debugger.
+/// The text after the arguments in the help of `debug`: the commands of the debugger, and two examples.
 const DEBUG_HELP: &str = "\
 Commands, one per line. Numbers are decimal, or $ and at most four hexadecimal digits, as in $1F:
-  break S P O    set a breakpoint at offset O, in bytes from the entry of procedure P of segment S; with `if A = W`
-                 after it, stop only if the word at the even address A is W; replaces one at the same position
+  break S P O    set a breakpoint at offset O, in bytes from the entry of procedure P of segment S; with `if A = W` after it, stop only if the word at the even address A is W; replaces one at the same position
   clear S P O    remove this breakpoint
-  reads A N, writes A N   set a breakpoint on the N words from the even address A: a run stops before a step that reads,
-                 or writes, one of them; with `if B = W` after it, only if the word at the even address B is W
-  clear reads A N, clear writes A N   remove this breakpoint
+  reads A N      set a breakpoint on the N words from the even address A: a run stops before a step that reads one of them; with `if B = W` after it, only if the word at the even address B is W
+  writes A N     the same, for a step that writes one of the words
+  clear reads A N  remove this breakpoint
+  clear writes A N  remove this breakpoint
   go N           run at most N steps
   poke A W       write the word W to the even address A
   key B          append the byte B to the console input
@@ -429,11 +462,11 @@ Commands, one per line. Numbers are decimal, or $ and at most four hexadecimal d
   watches        print the addresses of the watched words
   help           print the commands
   quit           end the session
-Answers: ok, numbers, ended K, error N K, limit K, waiting K, break K, stop K, changed K A; `?` for an unknown command;
-refused 1: 64 breakpoints or watched words are set already; refused 2: not set; refused 3: odd address;
-refused 5: depth above 127; refused 6: no run to continue
+Answers: ok, numbers, ended K, error N K, limit K, waiting K, break K, stop K, changed K A; `?` for an unknown command; refused 1: 64 breakpoints or watched words are set already; refused 2: not set; refused 3: odd address; refused 5: depth above 127; refused 6: no run to continue
 `--limit` has no effect here.
-";
+Examples:
+  pmach debug --d4 kept.img LOADS
+  printf 'break 2 1 0\\ngo 100\\nregs\\n' | pmach debug --d4 kept.img LOADS";
 
 const RAW: CommandRow = (
     "raw",
@@ -452,7 +485,7 @@ const RUN: CommandRow = (
     "Run a code file on unit 4; standard input and output are its console",
     &[
         D4, D5, D9, D10, D11, D12, FORM, LIMIT, UNLIMITED, SYSTEM, PROGRAM, SAVE, SAVE_ALL,
-        PRINTER, ESCAPE,
+        PRINTER, TEXT, ESCAPE, RESUMED,
     ],
 );
 
@@ -461,7 +494,7 @@ const TRACE: CommandRow = (
     "Run a code file on unit 4, with standard input as its console, and print its trace",
     &[
         D4, D5, D9, D10, D11, D12, FORM, LIMIT, UNLIMITED, SYSTEM, PROGRAM, FROM, SEGMENT,
-        PROCEDURE, CALLS, PLACES, WRITTEN,
+        PROCEDURE, CALLS, PLACES, TYPED, WRITTEN,
     ],
 );
 
@@ -566,6 +599,26 @@ const ASM: CommandRow = (
     &[LIST, ALL, SYMBOLS, ON_IMAGE, FORM, READ, WRITTEN],
 );
 
+/// Returns whether `word` is the name of a verb of `files`.
+pub fn is_verb_of_files(word: &str) -> bool {
+    VERBS.iter().any(|row| row.0 == word)
+}
+
+/// Returns whether the option `option` of the row `row` has a value. `option` has its leading `-` or `--`.
+fn has_value(row: &WordRow, option: &str) -> bool {
+    match row.1 {
+        Form::Needed(_) | Form::Free(_) => option.strip_prefix("--") == Some(row.0),
+        Form::Named(name, _) => option.strip_prefix("--") == Some(name),
+        Form::Lettered(_, _) => option == "-o" || option.strip_prefix("--") == Some(row.0),
+        Form::Word | Form::Flag | Form::Unless(_) | Form::Maybe | Form::Many => false,
+    }
+}
+
+/// Returns whether `option` is an option of `run`, `trace` or `debug` that has its value in the next argument.
+pub fn takes_value(option: &str) -> bool {
+    [RUN, TRACE, DEBUG].iter().any(|command| command.2.iter().any(|row| has_value(row, option)))
+}
+
 fn arg<'a>(alloc: Global, row: WordRow) -> Result<Arg<'a>, AllocError> {
     let (id, form, help) = row;
     let arg = Arg::new(alloc, id).help(help);
@@ -576,6 +629,7 @@ fn arg<'a>(alloc: Global, row: WordRow) -> Result<Arg<'a>, AllocError> {
         Form::Flag => arg.long(id).action(ArgAction::SetTrue),
         Form::Unless(other) => arg.value_name(id).required_unless_present(other)?,
         Form::Maybe => arg.value_name(id),
+        Form::Many => arg.value_name(id).required(true).num_args(1..),
         Form::Named(name, value) => arg.long(name).value_name(value),
         Form::Lettered(letter, value) => arg.long(id).short(letter).value_name(value),
     })
@@ -596,11 +650,208 @@ const QUIET: WordRow = (
     "Print nothing on standard error; the exit status shows the result",
 );
 
+/// Returns the two examples of a verb of `files`, which its help has. Returns an empty text for another name.
+fn verb_examples(name: &str) -> &'static str {
+    match name {
+        "list" => {
+            "\
+Examples:
+  pmach files --image kept.img list
+  pmach files --image kept.img list --matching '=.TEXT'"
+        }
+        "get" => {
+            "\
+Examples:
+  pmach files --image kept.img get HANOI -o hanoi.code
+  pmach files --image kept.img get --slot 2 >loads.code"
+        }
+        "put" => {
+            "\
+Examples:
+  pmach files --image kept.img put GAME code <game.code
+  pmach files --image kept.img put NOTES data <notes.bin"
+        }
+        "gettext" => {
+            "\
+Examples:
+  pmach files --image kept.img gettext READ.ME.TEXT
+  pmach files --image kept.img gettext READ.ME.TEXT -o readme.txt"
+        }
+        "puttext" => {
+            "\
+Examples:
+  pmach files --image kept.img puttext NOTES.TEXT <notes.txt
+  pmach files --image kept.img puttext DOS.TEXT --ends crlf <dos.txt"
+        }
+        "export" => {
+            "\
+Examples:
+  pmach files --image kept.img export folder
+  pmach files --image kept.img export texts --text --only '=.TEXT'"
+        }
+        "import" => {
+            "\
+Examples:
+  pmach files --image kept.img import folder
+  pmach files --image kept.img import folder --dry-run"
+        }
+        "krunch" => {
+            "\
+Examples:
+  pmach files --image kept.img krunch
+  pmach files --image kept.img list --all"
+        }
+        "date" => {
+            "\
+Examples:
+  pmach files --image kept.img date 84 12 1
+  pmach files --image kept.img list"
+        }
+        "zero" => {
+            "\
+Examples:
+  pmach files --image copy.img zero EMPTY
+  pmach files --image copy.img list"
+        }
+        "remove" => {
+            "\
+Examples:
+  pmach files --image kept.img remove HANOI
+  pmach files --image kept.img remove --matching '=.BACK' --dry-run"
+        }
+        "change" => {
+            "\
+Examples:
+  pmach files --image kept.img change HANOI TOWERS
+  pmach files --image kept.img change --slot 2 TOWERS"
+        }
+        "kind" => {
+            "\
+Examples:
+  pmach files --image kept.img kind NOTES data
+  pmach files --image kept.img kind --slot 2 data"
+        }
+        "copy" => {
+            "\
+Examples:
+  pmach files --image mine.img copy HANOI <kept.img
+  pmach files --image mine.img copy TOWERS --slot 1 <kept.img"
+        }
+        "new" => {
+            "\
+Examples:
+  pmach files --image mine.img new MINE 280
+  pmach files --image large.img new LARGE 1600"
+        }
+        "duplicate" => {
+            "\
+Examples:
+  pmach files --image kept.img duplicate
+  pmach files --image kept.img list --all"
+        }
+        "single" => {
+            "\
+Examples:
+  pmach files --image kept.img single
+  pmach files --image kept.img list --all"
+        }
+        "repair" => {
+            "\
+Examples:
+  pmach files --image damaged.img repair
+  pmach files --image damaged.img check"
+        }
+        "check" => {
+            "\
+Examples:
+  pmach files --image kept.img check
+  pmach files --image kept.dsk check --form dos"
+        }
+        "salvage" => {
+            "\
+Examples:
+  pmach files --image damaged.img salvage saved.img
+  pmach files --image damaged.img salvage saved/"
+        }
+        _ => "",
+    }
+}
+
+/// Returns the two examples of a command or of a verb of `files`, which its help has.
+fn examples_of(name: &str) -> &'static str {
+    match name {
+        "raw" => {
+            "\
+Examples:
+  echo 02 03 82 D6 | pmach raw
+  pmach raw --limit 100 <code.hex"
+        }
+        "files" => {
+            "\
+Examples:
+  pmach files --image kept.img list
+  pmach files kept.img gettext READ.ME.TEXT"
+        }
+        "run" => {
+            "\
+Examples:
+  pmach run --d4 kept.img HANOI
+  pmach run --d4 own.img --system system.code --text GUESS <answers.txt"
+        }
+        "trace" => {
+            "\
+Examples:
+  pmach trace --d4 kept.img --limit 20 HANOI
+  pmach trace --d4 kept.img --calls --places HANOI -o calls.txt"
+        }
+        "dis" => {
+            "\
+Examples:
+  pmach dis hanoi.code
+  pmach dis --blocks --image kept.img HANOI"
+        }
+        "asm" => {
+            "\
+Examples:
+  pmach asm hanoi.text -o hanoi.code
+  pmach asm --list hanoi.text"
+        }
+        "convert" => {
+            "\
+Examples:
+  pmach convert disk.dsk
+  pmach convert disk.dsk disk.po --form dos"
+        }
+        "find" => {
+            "\
+Examples:
+  pmach find '=.TEXT' disks/*
+  pmach find hanoi kept.img"
+        }
+        "grep" => {
+            "\
+Examples:
+  pmach grep tower disks/*
+  pmach grep 'three disks' kept.img"
+        }
+        "info" => {
+            "\
+Examples:
+  pmach info kept.img
+  pmach info disks/*"
+        }
+        _ => verb_examples(name),
+    }
+}
+
 fn command_of<'a>(alloc: Global, row: CommandRow) -> Result<Command<'a>, AllocError> {
     let (name, about, words) = row;
     let mut words = args(alloc, words)?;
     words.push(arg(alloc, QUIET)?)?;
-    Command::new(alloc, name).about(about).args(words)
+    Command::new(alloc, name)
+        .about(about)
+        .after_help(examples_of(name))
+        .args(words)
 }
 
 /// Appends the commands that the table `rows` describes to `commands`.
@@ -623,12 +874,6 @@ fn add_files<'a>(alloc: Global, commands: &mut Vec<Command<'a>>) -> Result<(), A
         .subcommand_required(true)
         .subcommands(verbs)?;
     Ok(commands.push(files)?)
-}
-
-/// Appends the command `debug` to `commands`. Its option `--limit` has no effect.
-fn add_debug<'a>(alloc: Global, commands: &mut Vec<Command<'a>>) -> Result<(), AllocError> {
-    let debug = command_of(alloc, DEBUG)?.after_help(DEBUG_HELP);
-    Ok(commands.push(debug)?)
 }
 
 const CONVERT: CommandRow = (
@@ -660,6 +905,12 @@ const CONVERT: CommandRow = (
     ],
 );
 
+/// Appends the command `debug` to `commands`. Its help has the commands of the debugger.
+fn add_debug<'a>(alloc: Global, commands: &mut Vec<Command<'a>>) -> Result<(), AllocError> {
+    let debug = command_of(alloc, DEBUG)?.after_help(DEBUG_HELP);
+    Ok(commands.push(debug)?)
+}
+
 fn commands<'a>(alloc: Global) -> Result<Vec<Command<'a>>, AllocError> {
     let mut commands = Vec::new(alloc);
     add(alloc, &mut commands, &[RAW])?;
@@ -667,8 +918,55 @@ fn commands<'a>(alloc: Global) -> Result<Vec<Command<'a>>, AllocError> {
     add(alloc, &mut commands, &[RUN, TRACE])?;
     add_debug(alloc, &mut commands)?;
     add(alloc, &mut commands, &[ASM, DIS, CONVERT])?;
+    add(alloc, &mut commands, &[FIND, GREP, INFO])?;
     Ok(commands)
 }
+
+const IMAGES: WordRow = (
+    "IMAGE",
+    Form::Many,
+    "Disk images, in any format that 'pmach convert' knows",
+);
+
+const FIND: CommandRow = (
+    "find",
+    "Find files by their names in disk images of any format",
+    &[
+        (
+            "PATTERN",
+            Form::Word,
+            "Name of a file, in upper or lower case; = matches any characters",
+        ),
+        IMAGES,
+    ],
+);
+
+const GREP: CommandRow = (
+    "grep",
+    "Find lines of text files that contain a text, in disk images of any format",
+    &[
+        (
+            "TEXT",
+            Form::Word,
+            "Text that a line contains; upper and lower case are different",
+        ),
+        IMAGES,
+    ],
+);
+
+const INFO: CommandRow = (
+    "info",
+    "Print one line for each disk image: its format, its volume, files and free blocks",
+    &[IMAGES],
+);
+
+/// The text after the commands in the help of the program.
+const EXAMPLES: &str = "\
+docs/COMMANDS.md explains all commands, messages and numbers.
+Examples:
+  pmach files --image kept.img list
+  pmach run --d4 kept.img HANOI
+  pmach help run";
 
 /// Returns all commands for clap.
 pub fn all_commands<'a>(alloc: Global) -> Result<Command<'a>, AllocError> {
@@ -676,6 +974,6 @@ pub fn all_commands<'a>(alloc: Global) -> Result<Command<'a>, AllocError> {
     Command::new(alloc, "pmach")
         .version(VERSION)
         .about("The p-machine of UCSD Pascal version II. Without arguments it does `raw`")
-        .after_help("docs/COMMANDS.md explains all commands, messages and numbers.\n")
+        .after_help(EXAMPLES)
         .subcommands(commands)
 }

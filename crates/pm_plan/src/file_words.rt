@@ -10,9 +10,11 @@ ghost use Rattle.pm_plan.specs.Needed.{AreGoodBefore, IsGoodSalvage, IsKindWord,
 ghost use Rattle.pm_plan.specs.Needed.{IsNameOrSlot, IsSlotWord, is_verb, verb_needs};
 ghost use Rattle.pm_plan.specs.declared.words.WordsError.TheVariants.{NoCommand, NoMemory};
 
+use crate::folder_words::ends_given;
 use crate::words::{DATE, WordsError, flag, found, given, is_set, needed, number};
 use clap::ArgMatches;
 use pm_filer::kind_word;
+use pm_folder::Ends;
 use std::alloc::Global;
 
 /// The message for an invalid slot.
@@ -27,6 +29,9 @@ pub struct FilesPlan {
     pub verb: Verb,
     /// The path of the file that gets the output instead of standard output. `None` for standard output.
     pub output: Option<String>,
+    /// The line ends of the text that `gettext` writes or `puttext` reads. `None` if `--ends` is not given, and for any
+    /// other verb.
+    pub ends: Option<Ends>,
 }
 
 /// The arguments of `files salvage`, which copies the files of an image to a new volume.
@@ -395,6 +400,7 @@ pub(crate) fn path_of(before: Option<String>, behind: Option<String>) -> Result<
 /// - The path after `--image` is empty: `NoValue`.
 /// - The image is given twice, or not at all: `Wrong`.
 /// - The path after `--output` is empty: `NoValue`.
+/// - The value of `--ends` names no line ends: `Wrong`.
 /// - The verb is unknown: `NoCommand`.
 /// - The arguments of the verb are invalid: as its function states.
 /// - Out of memory at any of these steps: `NoMemory`.
@@ -411,8 +417,14 @@ pub fn files_plan(alloc: Global, matches: &ArgMatches<'_>) -> Result<FilesPlan, 
     let behind = given(alloc, words, "image")?;
     let path = path_of(before, behind)?;
     let output = given(alloc, words, "output")?;
+    let ends = ends_given(words)?;
     let verb = verb_of(alloc, verb, words)?;
-    Ok(FilesPlan { path, verb, output })
+    Ok(FilesPlan {
+        path,
+        verb,
+        output,
+        ends,
+    })
 }
 
 /// Returns whether the verb of `files` is `name`.

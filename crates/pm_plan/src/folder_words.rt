@@ -2,7 +2,7 @@
 ghost use Rattle.std.specs.Prelude.{◌≡◌, ◌↔◌, IfErr, IfOk, IsOk, IsOkUnless, codes};
 ghost use Rattle.clap.specs.Words.{subcommand_rows_of};
 ghost use Rattle.pm_plan.specs.Asked.{AsksExport, AsksImport, AsksWanted, is_set, word_found, words_of};
-ghost use Rattle.pm_plan.specs.FolderWords.{AreEnds, AreGoodEnds, IsGoodText, IsText, ends_named};
+ghost use Rattle.pm_plan.specs.FolderWords.{AreEnds, AreEndsGiven, AreGoodEnds, IsGoodText, IsText, ends_named};
 ghost use Rattle.pm_plan.specs.Needed.{IsGoodExport, IsGoodImport, IsGoodWanted, IsWrong};
 ghost use Rattle.pm_plan.specs.declared.words.WordsError.TheVariants.{NoMemory};
 
@@ -50,6 +50,22 @@ fn ends_named(word: &str) -> Option<Ends>
         "crlf" => Some(Ends::CrLf),
         "cr" => Some(Ends::Cr),
         _ => None,
+    }
+}
+
+/// Returns the line ends that the value of `--ends` of `gettext` or `puttext` names. Returns `None` if the option is not
+/// given, and `Wrong` if its value names no line ends.
+pub(crate) fn ends_given(matches: &ArgMatches<'_>) -> Result<Option<Ends>, WordsError>
+    ensures value { IfOk result (AreEndsGiven (word_found (words_of matches.now) (codes "ends"))) }
+    ensures good { IsOk result ↔ AreGoodEnds (word_found (words_of matches.now) (codes "ends")) }
+    ensures refusal { IfErr result IsWrong }
+{
+    let Some(word) = found(matches, "ends") else {
+        return Ok(None);
+    };
+    match ends_named(word) {
+        Some(ends) => Ok(Some(ends)),
+        None => Err(WordsError::Wrong(ENDS)),
     }
 }
 

@@ -28,6 +28,8 @@ pub struct Program {
     pub limit: u64,
     /// The path of the code file whose segment in slot 0 replaces the program's empty slot 0.
     pub system: Option<String>,
+    /// Whether `--text` is given: a line feed in the input is the key Return (byte 13).
+    pub is_text: bool,
 }
 
 /// The options of `run` that do not specify the program.
@@ -109,12 +111,14 @@ pub fn program_of(alloc: Global, matches: &ArgMatches<'_>) -> Result<Program, Wo
     let name = word(alloc, matches, "NAME")?;
     let limit = run_limit_of(matches)?;
     let system = given(alloc, matches, "system")?;
+    let is_text = is_set(matches, "text");
     Ok(Program {
         disk,
         others,
         name,
         limit,
         system,
+        is_text,
     })
 }
 

@@ -14,7 +14,10 @@ use crate::file_words::{FilesPlan, SalvagePlan, files_plan, is_verb, salvage_pla
 use crate::folder_words::{ExportPlan, ImportPlan, export_plan, import_plan};
 use crate::form::{Form, form_asked};
 use crate::run_words::{Program, RunChoices, choices_of, program_of};
+use crate::search_words::{SearchPlan, search_plan};
+use crate::shorthand::name_image;
 use crate::text_words::{TextFiles, text_files};
+use crate::tips::{Told, tip_for_option, tip_for_verb, with_tip};
 use crate::trace_words::selection_of;
 use clap::ArgMatches;
 use clap::error::ErrorKind;
@@ -58,6 +61,8 @@ pub enum Plan {
     Import(ImportPlan),
     /// Converts an image to another format, or prints its formats.
     Convert(ConvertPlan),
+    /// Searches in images.
+    Search(SearchPlan),
 }
 
 /// The job that the command line specifies, with the options that each command accepts.
@@ -73,20 +78,19 @@ pub struct Asked {
 /// Why the command line specifies no job.
 #[derive(Drop)]
 pub enum WordsError {
-    /// The arguments do not match a command, or they ask for help.
+    /// The arguments do not match a command. clap's message says why.
     Usage(clap::Error),
-    /// The arguments do not match a command. The string is a hint that is printed after the message.
-    Tried(clap::Error, &'static str),
-    /// The arguments do not match a command. The string is a hint that is printed only on a terminal.
-    Meant(clap::Error, &'static str),
+    /// The arguments do not match a command. The string is clap's message, in which a tip of this program replaces
+    /// the tips of clap.
+    Tipped(String),
     /// There are options, but no command.
     NoCommand,
     /// An option has no value, as in `--image=`.
     NoValue,
     /// An argument is invalid, or an option is missing or given twice. The string is the message.
     Wrong(&'static str),
-    /// The arguments ask for the version.
-    Version(clap::Error),
+    /// The arguments ask for help or for the version. The text is for standard output.
+    Shown(clap::Error),
     /// An argument is not UTF-8, or the arguments cannot be read.
     NotText,
     NoMemory,
@@ -96,13 +100,12 @@ pub enum WordsError {
 impl fmt::Display for WordsError {
     fn fmt<W: fmt::Write>(&self, f: &mut fmt::Formatter<W>) -> fmt::Result {
         match self {
-            WordsError::Usage(error) | WordsError::Meant(error, _) => write!(f, "{error}"),
-            WordsError::Tried(error, line) => writeln!(f, "{error}{line}"),
+            WordsError::Usage(error) | WordsError::Shown(error) => write!(f, "{error}"),
+            WordsError::Tipped(text) => f.write_str(text.as_str()),
             WordsError::NoCommand => f.write_str(
                 "error: missing command; 'pmach --help' lists the commands\n",
             ),
             WordsError::Wrong(text) => write!(f, "error: {text}\n"),
-            WordsError::Version(error) => write!(f, "{error}"),
             WordsError::NoValue => f.write_str(
                 "error: the value of an option is empty, as in --image=; --help shows which values it takes\n",
             ),
@@ -116,7 +119,6 @@ impl WordsError {
     /// Returns the hint that is shown after the message only on a terminal, or `None`.
     pub fn hint(&self) -> Option<&'static str> {
         match self {
-            WordsError::Meant(_, line) => Some(line),
             WordsError::Wrong(text) if *text == DATE => Some(
                 "Y is 0 to 127 (84 for 1984), M 1 to 12, D 1 to 31",
             ),
@@ -129,7 +131,7 @@ impl From<clap::Error> for WordsError {
     fn from(error: clap::Error) -> WordsError {
         match error.kind() {
             ErrorKind::OutOfMemory => WordsError::NoMemory,
-            ErrorKind::DisplayVersion => WordsError::Version(error),
+            ErrorKind::DisplayHelp | ErrorKind::DisplayVersion => WordsError::Shown(error),
             _ => WordsError::Usage(error),
         }
     }
@@ -340,6 +342,7 @@ fn plan_by(alloc: Global, command: &str, matches: &ArgMatches<'_>) -> Result<Pla
         "dis" => Ok(Plan::Dis(dis_output(matches)?, text_files(alloc, matches)?)),
         "files" => files_asked(alloc, matches),
         "convert" => Ok(Plan::Convert(convert_plan(alloc, matches)?)),
+        "find" | "grep" | "info" => Ok(Plan::Search(search_plan(alloc, command, matches)?)),
         _ => Err(WordsError::NoCommand),
     }
 }
@@ -380,121 +383,53 @@ fn plan_asked(alloc: Global, matches: &ArgMatches<'_>) -> Result<Asked, WordsErr
     })
 }
 
-/// Returns a hint about an argument that the command in `words` does not accept. Returns `None` if no hint applies.
-fn meant_by(words: &[String]) -> Option<&'static str> {
-    let has = |option| words.iter().any(|word| word.as_str().starts_with(option));
-    match words.get(1)?.as_str() {
-        "asm" => Some(
-            "pmach asm reads one file; name the file to write with -o: pmach asm TEXT -o CODE",
-        ),
-        "dis" => Some("pmach dis reads one file: pmach dis CODE"),
-        "files" if !has("--image") => {
-            Some("name the image with --image: pmach files --image IMAGE list")
-        }
-        "run" | "trace" | "debug" if !has("--d4") => {
-            Some("name the image of unit 4 with --d4: pmach run --d4 IMAGE NAME")
-        }
-        _ => None,
-    }
-}
-
-/// Returns a hint about the unknown command `word`, if `word` is a verb of `files` or a common name of a command.
-fn command_for(word: &str) -> Option<&'static str> {
-    match word {
-        "list"
-        | "get"
-        | "put"
-        | "gettext"
-        | "puttext"
-        | "remove"
-        | "change"
-        | "kind"
-        | "copy"
-        | "krunch"
-        | "zero"
-        | "date"
-        | "new"
-        | "duplicate"
-        | "single"
-        | "repair"
-        | "check"
-        | "export"
-        | "import"
-        | "salvage" => {
-            Some(
-                "this is a verb of 'pmach files', which is used as in: pmach files --image IMAGE list",
-            )
-        }
-        "ls" | "dir" | "cat" | "catalog" => Some(
-            "to list the files: pmach files --image IMAGE list",
-        ),
-        "assemble" | "as" => Some("to assemble: pmach asm TEXT -o CODE"),
-        "disassemble" | "disasm" => Some("to disassemble: pmach dis CODE"),
-        _ => None,
-    }
-}
-
-/// Returns a hint about an unknown verb of `files` in `words`, or `None` if no hint applies. Without the hint, clap may
-/// suggest a similar word that does something else, such as `remove` for `rename`.
-fn verb_for(words: &[String]) -> Option<&'static str> {
-    let has = |name: &str| words.iter().any(|word| word.as_str() == name);
-    if has("rename") || has("ren") || has("mv") {
-        Some("to rename a file, use the verb change: pmach files --image IMAGE change OLD NEW")
-    } else if has("rm") || has("del") || has("delete") {
-        Some("to remove a file: pmach files --image IMAGE remove NAME")
-    } else if has("cat") || has("type") {
-        Some("to print a text file: pmach files --image IMAGE gettext NAME")
-    } else if has("ls") || has("dir") {
-        Some("to list the files: pmach files --image IMAGE list")
-    } else {
-        None
-    }
-}
-
-/// Returns the error for the arguments `words`, which clap rejects. The error includes a hint if one applies.
-fn refused(error: clap::Error, words: &[String]) -> WordsError {
-    let line = match error.kind() {
-        ErrorKind::UnknownArgument => meant_by(words),
-        ErrorKind::InvalidSubcommand => {
-            let command = words.get(1).map(|word| word.as_str());
-            let hint = match command {
-                Some("files") => verb_for(words),
-                Some(word) => command_for(word),
-                None => None,
-            };
-            return match hint {
-                Some(line) => WordsError::Meant(error, line),
-                None => WordsError::from(error),
-            };
-        }
-        _ => None,
+/// Returns the error for the arguments `words`, which clap rejects. The message has a tip of this program if one
+/// applies.
+fn refused(alloc: Global, error: clap::Error, words: &[String]) -> WordsError {
+    let told = match error.kind() {
+        ErrorKind::UnknownArgument => tip_for_option(words),
+        ErrorKind::InvalidSubcommand => tip_for_verb(words),
+        _ => Told::Unchanged,
     };
-    match line {
-        Some(line) => WordsError::Tried(error, line),
-        None => WordsError::from(error),
+    if let Told::Unchanged = told {
+        return WordsError::from(error);
+    }
+    match with_tip(alloc, &error, told) {
+        Ok(text) => WordsError::Tipped(text),
+        Err(_) => WordsError::NoMemory,
     }
 }
 
 fn parsed<'a>(alloc: Global, words: &'a [String]) -> Result<Asked, WordsError> {
     let matches = match all_commands(alloc)?.try_get_matches_from(words) {
         Ok(matches) => matches,
-        Err(error) => return Err(refused(error, words)),
+        Err(error) => return Err(refused(alloc, error, words)),
     };
     plan_asked(alloc, &matches)
 }
 
-/// Returns the job that the arguments `args` specify. The first argument is the program's name. If it is the only one,
-/// the job is `raw`.
+/// Returns the job that the arguments `args` specify. The first argument is the program's name.
+///
+/// If it is the only one, the job is `raw`. On a terminal, the result is then the help of the program: `is_terminal`
+/// states whether standard input is a terminal.
 ///
 /// # Errors
 ///
 /// - The arguments cannot be read, or one is not UTF-8: `NotText`.
-/// - clap rejects the arguments, or they request help or the version: `Usage`, `Tried`, `Meant` or `Version`.
+/// - clap rejects the arguments: `Usage` or `Tipped`. They ask for help or the version: `Shown`.
 /// - The arguments of the command are invalid: `NoCommand`, `NoValue` or `Wrong`.
 /// - Out of memory: `NoMemory`.
-pub fn plan_of(alloc: Global, args: io::Result<Args>) -> Result<Asked, WordsError> {
-    let words: Vec<String> = args?.collect(alloc)?;
-    if words.len() <= 1 {
+pub fn plan_of(
+    alloc: Global,
+    args: io::Result<Args>,
+    is_terminal: bool,
+) -> Result<Asked, WordsError> {
+    let typed: Vec<String> = args?.collect(alloc)?;
+    let words = if typed.len() > 1 {
+        name_image(alloc, typed)?
+    } else if is_terminal {
+        helped(alloc)?
+    } else {
         return Ok(Asked {
             plan: Plan::Raw {
                 limit: LIMIT,
@@ -503,6 +438,14 @@ pub fn plan_of(alloc: Global, args: io::Result<Args>) -> Result<Asked, WordsErro
             form: Form::In(Order::Blocks),
             is_quiet: false,
         });
-    }
+    };
     parsed(alloc, words.as_slice())
+}
+
+/// Returns the arguments that ask for the help of the program.
+fn helped(alloc: Global) -> Result<Vec<String>, AllocError> {
+    let mut words = Vec::new(alloc);
+    words.push(String::from_str(alloc, "pmach")?)?;
+    words.push(String::from_str(alloc, "--help")?)?;
+    Ok(words)
 }

@@ -5,3 +5,6 @@ pub mod Got
 pub mod Exported
 pub mod Imported
 pub mod Converted
+pub mod Console
+pub mod Ended
+pub mod Searched

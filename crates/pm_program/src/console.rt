@@ -1,5 +1,8 @@
 //! Standard input and output on a terminal: prompts, the key that ends the input, and control characters.
+ghost use Rattle.std.specs.Prelude.{◌≡◌, map, option_map};
 ghost use Rattle.std.specs.Io.{ReadsAtMost, WritesAtMost};
+ghost use Rattle.std.specs.Io.KnownBytes.{WriteAppends};
+ghost use Rattle.pm_program.specs.Console.{shown_byte, typed_byte, typed_bytes};
 
 use std::alloc::Global;
 use std::io;
@@ -111,6 +114,57 @@ impl<R: Read> Read for Keys<R> {
     }
 }
 
+/// Replaces each line feed in `bytes` by a carriage return, the byte of the key Return.
+fn type_returns(bytes: &mut [u8])
+    ensures bytes { bytes.new ≡ map typed_byte bytes.old }
+{
+    for byte in bytes.iter_mut() {
+        *byte = if *byte == b'\n' { b'\r' } else { *byte };
+    }
+}
+
+/// A reader of the console input of a run. With `--text` (`is_text`), a program reads the key Return (byte 13) where the
+/// inner reader has a line feed. The reader also records which of these two bytes it has read.
+#[derive(Drop)]
+pub struct Typed<R> {
+    inner: R,
+    is_text: bool,
+    has_feed: bool,
+    has_return: bool,
+}
+
+impl<R: Read> Typed<R> {
+    /// Returns a reader of `inner` that has read nothing.
+    pub fn new(inner: R, is_text: bool) -> Typed<R> {
+        Typed {
+            inner,
+            is_text,
+            has_feed: false,
+            has_return: false,
+        }
+    }
+
+    /// Returns whether a line feed was read, and no carriage return.
+    pub fn has_only_feeds(&self) -> bool {
+        self.has_feed && !self.has_return
+    }
+}
+
+impl<R: Read> Read for Typed<R> {
+    ghost remaining = { λ s. option_map (typed_bytes s.is_text) (R.remaining s.inner) };
+
+    fn read(&mut self, buf: &mut [u8]) -> io::Result<usize> {
+        let count = self.inner.read(buf)?;
+        let read = &mut buf[..count];
+        self.has_feed = self.has_feed || read.contains(&b'\n');
+        self.has_return = self.has_return || read.contains(&b'\r');
+        if self.is_text {
+            type_returns(read);
+        }
+        Ok(count)
+    }
+}
+
 /// How a writer changes the bytes that it writes.
 #[derive(Clone, Copy, PartialEq, Eq)]
 pub enum Lines {
@@ -124,10 +178,24 @@ pub enum Lines {
     Shown,
     /// Collects the bytes, and writes up to 65,536 of them at a time.
     Paged,
+    /// Writes a line feed instead of each carriage return.
+    Feeds,
 }
 
 /// The number of bytes for which a `Paged` writer has memory.
 const PAGE: usize = 65536;
+
+/// The maximum number of bytes that a `Feeds` writer writes at a time.
+const PIECE: usize = 512;
+
+/// Replaces each carriage return in `bytes` by a line feed.
+fn end_lines(bytes: &mut [u8])
+    ensures bytes { bytes.new ≡ map shown_byte bytes.old }
+{
+    for byte in bytes.iter_mut() {
+        *byte = if *byte == b'\r' { b'\n' } else { *byte };
+    }
+}
 
 /// The reason why a writer failed.
 #[derive(Clone, Copy, PartialEq, Eq)]
@@ -157,6 +225,10 @@ pub struct Lined<W> {
     inner: W,
     lines: Lines,
     begun: bool,
+    /// Whether a byte was written.
+    has_written: bool,
+    /// Whether a `?` was written instead of a control character.
+    has_replaced: bool,
     failed: Option<Failed>,
     /// The collected bytes that are not written yet. Its capacity is a page, or 0 if nothing is collected.
     page: Vec<u8>,
@@ -174,6 +246,8 @@ impl<W: Write> Lined<W> {
             inner,
             lines,
             begun: false,
+            has_written: false,
+            has_replaced: false,
             failed: None,
             page,
         }
@@ -218,6 +292,16 @@ impl<W: Write> Lined<W> {
         self.failed
     }
 
+    /// Returns whether a byte was written.
+    pub fn has_written(&self) -> bool {
+        self.has_written
+    }
+
+    /// Returns whether a `?` was written instead of a control character.
+    pub fn has_replaced(&self) -> bool {
+        self.has_replaced
+    }
+
     /// Returns whether the last line is unfinished. It is finished if the last byte written is a line feed, or a
     /// carriage return after which the writer added a line feed.
     pub fn has_begun(&self) -> bool {
@@ -245,7 +329,22 @@ impl<W: Write> Lined<W> {
             Lines::TextAlone => self.write_text(buf),
             Lines::Shown => self.write_shown(buf),
             Lines::Paged => self.write_paged(buf),
+            Lines::Feeds => self.write_feeds(buf),
         }
+    }
+
+    /// Writes at most `PIECE` bytes of `buf`, with a line feed instead of each carriage return.
+    fn write_feeds(&mut self, buf: &[u8]) -> io::Result<usize>
+        ensures bound { WritesAtMost result buf.now }
+        ensures bytes { WriteAppends (W.contents self.old.inner) (W.contents self.new.inner) result
+            (map shown_byte buf.now) }
+    {
+        let mut bytes = [0; PIECE];
+        let count = buf.len().min(PIECE);
+        let piece = &mut bytes[..count];
+        piece.copy_from_slice(&buf[..count]);
+        end_lines(piece);
+        self.inner.write(piece)
     }
 
     /// Writes the bytes of `buf` before the first control character. If `buf` begins with a control character, writes
@@ -260,6 +359,7 @@ impl<W: Write> Lined<W> {
             return self.inner.write(&buf[..place]);
         }
         self.inner.write_all(b"?")?;
+        self.has_replaced = true;
         Ok(1)
     }
 
@@ -285,8 +385,9 @@ impl<W: Write> Write for Lined<W> {
         self.note(&written);
         if let Ok(count) = written {
             if let Some(last) = buf[..count].last() {
-                let ends = self.lines == Lines::Added && *last == b'\r';
+                let ends = matches!(self.lines, Lines::Added | Lines::Feeds) && *last == b'\r';
                 self.begun = *last != b'\n' && !ends;
+                self.has_written = true;
             }
         }
         written

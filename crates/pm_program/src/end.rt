@@ -1,8 +1,13 @@
 //! The end of the program: its exit status and its message.
+ghost use Rattle.std.specs.Prelude.{◌≡◌};
+ghost use Rattle.pm_program.specs.Searched.{search_status};
+
 use crate::converted::Converted;
+use crate::searched::Hits;
 use pm_export::Unwritten;
 use pm_files::DiskFault;
 use pm_import::{Left, Why};
+use pm_search::Ending;
 use pm_tool::{Exit, Outcome};
 
 /// A conflict between paths, or between output and a terminal.
@@ -66,8 +71,25 @@ pub enum End {
     Import(String, Vec<Left>, String),
     /// An image at this path was converted, or not. The line is the message; it is empty if there was no fault.
     Convert(String, Converted, String),
+    /// Images were searched. The line is the message; it is empty if no image was refused.
+    Search(Hits, String),
     /// The arguments are in conflict.
     Words(Conflict),
+}
+
+/// The exit status of a search that found nothing.
+const NOTHING_FOUND: u8 = 7;
+
+/// Returns the exit status of a search in images: 2 if an image was refused, 0 if something was found, and 7 if nothing
+/// was found.
+fn status_of_search(hits: Hits) -> u8
+    ensures status { result ≡ search_status hits.ending }
+{
+    match hits.ending {
+        Ending::Refused => Exit::Refused.number(),
+        Ending::Found => Exit::Ended.number(),
+        Ending::Nothing => NOTHING_FOUND,
+    }
 }
 
 impl End {
@@ -83,6 +105,7 @@ impl End {
             End::Import(_, left, _) => status_of_import(left),
             End::Convert(_, converted, _) if converted.fault.is_some() => Exit::Refused.number(),
             End::Convert(..) => Exit::Ended.number(),
+            End::Search(hits, _) => status_of_search(*hits),
             End::Words(_) => Exit::Usage.number(),
         }
     }

@@ -2,6 +2,7 @@
 ghost use Rattle.std.specs.Prelude.{◌≡◌};
 
 use crate::end::End;
+use crate::folded::Folded;
 use crate::follow::follow;
 use crate::say::{Manner, PlainLines, say};
 use pm_files::{DiskFault, Host, Stream};
@@ -17,7 +18,7 @@ fn exit_of(error: &WordsError) -> Exit
 {
     match error {
         WordsError::NoMemory => Exit::NoMemory,
-        WordsError::Version(_) => Exit::Ended,
+        WordsError::Shown(_) => Exit::Ended,
         _ => Exit::Usage,
     }
 }
@@ -38,24 +39,30 @@ fn tell<R: Host + Eprint + AllocGlobal>(rt: &R, error: &WordsError) {
     }
 }
 
-/// Prints why the command line specifies no job, or prints the version if the arguments request it. Returns the exit
-/// status.
+/// Prints `text`, a help or a version, on standard output, in lines of at most 80 characters. Returns the exit status.
+fn show<R: Host + Print + Eprint + AllocGlobal>(rt: &R, text: &WordsError) -> u8 {
+    let printed = match format!(in rt.alloc(); "{text}") {
+        Ok(text) => print!(rt; "{}", Folded(text.as_str())),
+        Err(_) => print!(rt; "{text}"),
+    };
+    if printed.is_ok() {
+        return Exit::Ended.number();
+    }
+    let end = End::File(DiskFault::Write(ErrorKind::Other), None);
+    let manner = Manner {
+        explains: false,
+        begun: false,
+        has_system: false,
+        is_silent: false,
+    };
+    say(rt, &end, manner);
+    end.status()
+}
+
+/// Prints why the command line specifies no job, or the help or the version that it asks for. Returns the exit status.
 fn refuse<R: Host + Print + Eprint + AllocGlobal>(rt: &R, error: &WordsError) -> u8 {
-    if let WordsError::Version(_) = error {
-        return match print!(rt; "{error}") {
-            Ok(()) => Exit::Ended.number(),
-            Err(_) => {
-                let end = End::File(DiskFault::Write(ErrorKind::Other), None);
-                let manner = Manner {
-                    explains: false,
-                    begun: false,
-                    has_system: false,
-                    is_silent: false,
-                };
-                say(rt, &end, manner);
-                end.status()
-            }
-        };
+    if let WordsError::Shown(_) = error {
+        return show(rt, error);
     }
     tell(rt, error);
     exit_of(error).number()
@@ -63,9 +70,11 @@ fn refuse<R: Host + Print + Eprint + AllocGlobal>(rt: &R, error: &WordsError) ->
 
 /// Executes the job that the command line specifies, and returns the exit status.
 ///
-/// If the command line is invalid, the program reads and writes no file. It prints the reason, and returns 1.
+/// If the command line is invalid, the program reads and writes no file. It prints the reason, and returns 1. If it
+/// asks for help or the version, the program prints this on standard output, and returns 0.
 pub fn program<R: Host + Env + Input + Print + Eprint + AllocGlobal>(rt: &R) -> u8 {
-    let asked = match plan_of(rt.alloc(), std::env::args(rt)) {
+    let is_terminal = rt.is_terminal(Stream::Input);
+    let asked = match plan_of(rt.alloc(), std::env::args(rt), is_terminal) {
         Ok(asked) => asked,
         Err(error) => return refuse(rt, &error),
     };
@@ -77,5 +86,12 @@ pub fn program<R: Host + Env + Input + Print + Eprint + AllocGlobal>(rt: &R) -> 
         is_silent: done.is_silent,
     };
     say(rt, &done.end, manner);
+    if let (Some(note), true, false) = (done.note, manner.explains, manner.is_silent) {
+        // a message begins on a new line; without a message, this line does
+        if done.begun && done.end.status() == 0 {
+            let _ = eprintln!(rt; "");
+        }
+        let _ = eprintln!(rt; "pmach: {note}");
+    }
     done.end.status()
 }

@@ -6,28 +6,31 @@ ghost use Rattle.pm_program.specs.Conflicts.{are_shared, conflict_of, is_other, 
 ghost use Rattle.pm_program.specs.Conflicts.{others_take_away, printer_conflict, takes_away};
 
 use crate::about::{Named, about, copy_of, named_in, no_program};
-use crate::console::{END, ESCAPE, Failed, Keys, Lined, Lines, Prompted};
+use crate::console::{END, ESCAPE, Failed, Keys, Lined, Lines, Prompted, Typed};
 use crate::converted::{Converted, do_convert};
 use crate::end::{Conflict, End};
+use crate::ended::{do_gettext, do_puttext};
 use crate::exported::{Exported, SavedFolder, do_export, do_salvage_folder};
 use crate::got::do_get;
 use crate::imported::{Imported, do_import};
+use crate::searched::{Hits, do_search};
 use crate::saved::{Printing, SavedOfRun, do_debug, do_files, do_run, do_salvage, do_trace};
 use crate::texts::do_text;
 use pm_export::Unwritten;
 use pm_filer::FileCommand;
 use pm_files::{DiskFault, Folder, Host, HostFolder, HostStore, Store, Stream};
+use pm_folder::Ends;
 use pm_import::Left;
 use pm_jobs::{AsmOutput, Reader, Saving, Sink, Source, Writer};
 use pm_plan::{
     Asked, ConvertPlan, ExportPlan, FilesPlan, Form, ImportPlan, InForm, Order, Plan, Program,
     RunChoices, SalvagePlan, Target, TextFiles, TextInput, Verb,
 };
-use pm_tool::{Job, Outcome, Refusal};
+use pm_tool::{Exit, Job, Outcome, Refusal};
 use pm_volume::VolumeFault;
 use std::alloc::{AllocError, Global};
 use std::io;
-use std::io::{Input, Read};
+use std::io::{Input, Read, Write};
 
 /// The second line of the message on a terminal if the image with `--form 2mg` is too short for a volume.
 const HEADLESS: &str =
@@ -58,9 +61,11 @@ impl Terminals {
     fn lines_of(self, plan: &Plan) -> Lines {
         match plan {
             Plan::Run(_, _) if self.output => Lines::Added,
+            Plan::Run(program, _) if program.is_text => Lines::Feeds,
             Plan::Asm(AsmOutput::File, _) if self.output => Lines::TextAlone,
             Plan::Files(plan) if self.output && plan.verb.gets() => Lines::TextAlone,
             Plan::Files(plan) if self.output && gets_text(&plan.verb) => Lines::Shown,
+            Plan::Search(_) if self.output => Lines::Shown,
             Plan::Dis(..) if !self.output => Lines::Paged,
             _ => Lines::Plain,
         }
@@ -145,6 +150,59 @@ pub struct Done {
     pub is_silent: bool,
     /// Whether the system's segment was put into the program.
     pub has_system: bool,
+    /// What a terminal shows after the message: why the output is unexpected, and what to type.
+    pub note: Option<&'static str>,
+}
+
+/// A plan whose output can surprise a user, so that a terminal explains it.
+#[derive(Clone, Copy)]
+enum Surprise {
+    /// `dis` without `-o`, which prints nothing of a file that is no code file.
+    NoCode,
+    /// `gettext` without `-o`, which prints nothing, or `?` for bytes, of a file that is no text file.
+    NoText,
+    /// `run` or `trace` without `--text`, which waits for the key Return in an input whose lines end with line feeds.
+    NoReturn,
+    /// Any other plan.
+    None,
+}
+
+/// Returns how the output of `plan` can surprise a user.
+fn surprise_of(plan: &Plan) -> Surprise {
+    match plan {
+        Plan::Dis(_, files) if files.output.is_none() => Surprise::NoCode,
+        Plan::Files(plan) if plan.output.is_none() && gets_text(&plan.verb) => Surprise::NoText,
+        Plan::Run(program, _) | Plan::Trace(program, ..) if !program.is_text => Surprise::NoReturn,
+        _ => Surprise::None,
+    }
+}
+
+/// Returns what a terminal shows after the message of `end`. `has_only_feeds` states whether the input has line feeds
+/// and no carriage return.
+fn note_of<W: Write>(
+    surprise: Surprise,
+    end: &End,
+    lined: &Lined<W>,
+    has_only_feeds: bool,
+) -> Option<&'static str> {
+    let End::Outcome(outcome, _) = end else {
+        return None;
+    };
+    match (surprise, outcome.exit) {
+        (Surprise::NoCode, Exit::Ended) if !lined.has_written() => Some(
+            "there is no segment, so this is no code file; for a program on a disk image: pmach dis --image IMAGE NAME",
+        ),
+        (Surprise::NoText, Exit::Ended) if !lined.has_written() => Some(
+            "the file has no text; 'files list' shows its kind, and 'files get' writes its bytes",
+        ),
+        (Surprise::NoText, Exit::Ended) if lined.has_replaced() => Some(
+            "a ? stands for a byte that is no character; 'files get' writes the bytes of the file",
+        ),
+        (Surprise::NoReturn, Exit::Stopped) if has_only_feeds => Some(
+            "lines of the input end with line feeds, and the program waits for the key Return; --text converts them",
+        ),
+        _ => None,
+    }
 }
 
 /// Returns whether `plan` puts the system's segment into its program.
@@ -165,7 +223,15 @@ fn act_on_files<S: Store, I: Source, O: Sink>(
 ) -> Result<Outcome, DiskFault>
     requires well { AreWell (both (I.seen source.old) (O.seen sink.old)) }
 {
-    let FilesPlan { path, verb, output } = plan;
+    let FilesPlan {
+        path,
+        verb,
+        output,
+        ends,
+    } = plan;
+    if let Some(ends) = ends {
+        return act_on_text(alloc, store, source, sink, path, verb, output, ends);
+    }
     match (verb, output) {
         (Verb::Command(command), Some(output)) => {
             do_get(
@@ -181,6 +247,28 @@ fn act_on_files<S: Store, I: Source, O: Sink>(
     }
 }
 
+/// Executes `gettext` or `puttext` on the image at `path`. The lines of the text end with `ends`.
+fn act_on_text<S: Store, I: Source, O: Sink>(
+    alloc: Global,
+    store: &mut S,
+    source: &mut I,
+    sink: &mut O,
+    path: String,
+    verb: Verb,
+    output: Option<String>,
+    ends: Ends,
+) -> Result<Outcome, DiskFault>
+    requires well { AreWell (both (I.seen source.old) (O.seen sink.old)) }
+{
+    let path = path.as_str();
+    match verb {
+        Verb::Command(command @ (FileCommand::GetText(..) | FileCommand::GetTextSlot(..))) => {
+            do_gettext(alloc, store, source, sink, path, &output, command, ends)
+        }
+        verb => do_puttext(alloc, store, source, sink, path, verb, ends),
+    }
+}
+
 /// The result of the job of a plan.
 #[derive(Drop)]
 enum Ended {
@@ -193,6 +281,8 @@ enum Ended {
     Import(String, Vec<Left>),
     /// The image at a path was converted, or not.
     Convert(String, Converted),
+    /// Images were searched.
+    Search(Hits),
 }
 
 /// Converts an image.
@@ -305,6 +395,7 @@ fn act<S: Store, F: Folder, I: Source, O: Sink>(
         Plan::Export(plan) => return export(alloc, store, folder, source, sink, plan),
         Plan::Import(plan) => return import(alloc, store, folder, source, sink, plan),
         Plan::Convert(plan) => return convert(alloc, store, sink, plan),
+        Plan::Search(plan) => return Ok(Ended::Search(do_search(alloc, store, sink, &plan)?)),
     };
     Ok(Ended::Job(outcome))
 }
@@ -656,6 +747,19 @@ fn end_of_conversion(alloc: Global, path: String, converted: Converted) -> End {
     }
 }
 
+/// Returns the end of a search in images.
+fn end_of_search(alloc: Global, hits: Hits) -> End {
+    let line = if hits.refused > 0 {
+        format!(in alloc; "refused search {}", hits.refused)
+    } else {
+        Ok(String::new(alloc))
+    };
+    match line {
+        Ok(line) => End::Search(hits, line),
+        Err(_) => End::File(DiskFault::NoMemory, None),
+    }
+}
+
 /// Returns the path that a message names if a folder of a plan cannot be created, or its list cannot be read.
 fn folder_path(alloc: Global, plan: &Plan) -> Option<String> {
     match plan {
@@ -751,6 +855,7 @@ fn end_of_plan<R: Host + AllocGlobal, I: Source, O: Sink>(
         Ok(Ended::Folder(path, unwritten)) => End::Folder(path, unwritten),
         Ok(Ended::Import(path, left)) => end_of_import(rt.alloc(), path, left),
         Ok(Ended::Convert(path, converted)) => end_of_conversion(rt.alloc(), path, converted),
+        Ok(Ended::Search(hits)) => end_of_search(rt.alloc(), hits),
         Err(fault) => End::File(fault, files.store.into_refused().or(path)),
     }
 }
@@ -767,6 +872,7 @@ pub fn follow<R: Host + Input + Print + Eprint + AllocGlobal>(rt: &R, asked: Ask
             begun: false,
             is_silent: is_quiet,
             has_system: false,
+            note: None,
         };
     }
     let has_system = has_system(plan);
@@ -775,20 +881,28 @@ pub fn follow<R: Host + Input + Print + Eprint + AllocGlobal>(rt: &R, asked: Ask
         _ => END,
     };
     let has_keys = at.input && matches!(plan, Plan::Run(_, _));
-    let keys = Keys::new(rt.reader(), has_keys, end);
+    let is_text = match plan {
+        Plan::Run(program, _) | Plan::Trace(program, ..) => program.is_text,
+        _ => false,
+    };
+    let surprise = surprise_of(plan);
+    let mut keys = Typed::new(Keys::new(rt.reader(), has_keys, end), is_text);
     let mut lined = Lined::new(rt.alloc(), io::writer(rt), at.lines_of(plan));
-    let mut source = Reader::new(prompted(rt, keys, at.prompt(plan)));
+    let mut source = Reader::new(prompted(rt, &mut keys, at.prompt(plan)));
     let mut sink = Writer::new(&mut lined);
     let end = end_of_plan(rt, store, &mut source, &mut sink, asked, at.error);
     drop(sink);
+    drop(source);
     let rest = lined.finish();
     let end = match (lined.failed(), rest) {
         (Some(Failed::NoText), _) => End::Words(Conflict::BytesOnTerminal),
         (_, Err(error)) => End::File(DiskFault::Write(error.kind()), None),
         _ => end,
     };
+    let note = note_of(surprise, &end, &lined, keys.has_only_feeds());
     Done {
         end,
+        note,
         // An unfinished line of the output is also an unfinished line of standard error on the same terminal.
         begun: lined.has_begun() && at.output && at.error,
         is_silent: is_quiet || at.error && lined.failed() == Some(Failed::Closed),

@@ -157,7 +157,7 @@ fn message(end: &End, is_silent: bool) -> &str
             Some(first) => first.fault.fault().text(),
             None => "",
         },
-        End::Convert(_, _, line) => line.as_str(),
+        End::Convert(_, _, line) | End::Search(_, line) => line.as_str(),
         End::Import(_, left, _) if left.is_empty() => "",
         End::Import(_, left, line) => match first_unread(left) {
             Some(fault) => fault.fault().text(),
@@ -213,7 +213,9 @@ fn explain<R: Eprint>(rt: &R, end: &End, has_system: bool) {
             explain_refusal(rt, outcome, about);
             Ok(())
         }
-        End::Folder(..) | End::Import(..) | End::Convert(..) | End::Words(_) => Ok(()),
+        End::Folder(..) | End::Import(..) | End::Convert(..) | End::Search(..) | End::Words(_) => {
+            Ok(())
+        }
     };
 }
 

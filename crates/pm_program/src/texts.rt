@@ -18,7 +18,7 @@ use std::alloc::Global;
 
 /// Executes `job`, and returns its outcome and its output. The output is collected in memory. `source` must not have
 /// failed.
-fn into_memory<I: Source>(alloc: Global, source: &mut I, job: Job) -> (Outcome, Vec<u8>)
+pub(crate) fn into_memory<I: Source>(alloc: Global, source: &mut I, job: Job) -> (Outcome, Vec<u8>)
     requires well { (I.seen source.old).failed ≡ false }
     ensures said { IsSoundExit result.0.exit → IfSome (I.seen source.old).remaining (λ input.
         Comes result.0 result.1.items (job_said job input)) }
@@ -36,7 +36,7 @@ fn into_memory<I: Source>(alloc: Global, source: &mut I, job: Job) -> (Outcome, 
 ///
 /// - The output did not fit into memory (`exit` is `WriteFault`): `NoMemory`.
 /// - The file cannot be written: the error of `Store::put`.
-fn keep<S: Store>(store: &mut S, path: &str, exit: Exit, bytes: &[u8]) -> Result<(), DiskFault>
+pub(crate) fn keep<S: Store>(store: &mut S, path: &str, exit: Exit, bytes: &[u8]) -> Result<(), DiskFault>
     ensures kept { OnOk result (Saves (S.files store.old) (S.files store.new) path.now (written_by exit bytes.now)) }
     ensures held { S.held store.new ≡ S.held store.old }
     ensures unchanged { OnErr result (S.files store.new ≡ S.files store.old) }

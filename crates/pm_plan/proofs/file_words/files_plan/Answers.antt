@@ -13,13 +13,14 @@ returns-clause-asked c = (
   rw (c.in_ok-before.ensures.value, c.in_ok-behind.ensures.value) c.in_ok-path.ensures.path,
   c.in_ok-verb.ensures.asked,
   c.in_ok-output.ensures.value,
+  c.in_ok-ends.ensures.value,
 )
 
 pub returns-clause-good : goal.returns-clause-good
 returns-clause-good c =
     let named : subcommand_rows_of c.args.matches.now ≡ Some (c.in-Some.verb.now, words_of c.in-Some.words.now) =
     found_below c.args.matches.now _ _ (search rules) (search rules) in
-    λ ok. rw named (search rules, c.in_ok-output.ensures.good refl, c.in_ok-verb.ensures.good refl)
+    λ ok. rw named (search rules, c.in_ok-output.ensures.good refl, search rules, c.in_ok-verb.ensures.good refl)
 
 pub returns-in_err-behind-clause-taken : goal.returns-in_err-behind-clause-taken
 returns-in_err-behind-clause-taken c =

@@ -1,5 +1,5 @@
 -- What a line contains, by the places at which a search finds it.
-use Rattle.std.proofs.Common.{◌≡◌, ◌+◌, ◌≤◌, ◌<◌, ℕ, zero, suc, ◌⊎◌, inl, inr, ◌||◌, Bool, true, false, List, [], ◌∷◌, length, take, drop, Option, None, Some, refl, sym, ap, ◌∙◌, arith, length-take, length-drop}
+use Rattle.std.proofs.Common.{◌≡◌, ◌+◌, ◌≤◌, ◌<◌, ℕ, zero, suc, inl, inr, ◌||◌, Bool, true, false, List, [], ◌∷◌, length, take, drop, Option, None, Some, refl, sym, ap, arith, length-take, length-drop}
 use Rattle.std.proofs.lemmas.Bool.{or_left, or_right, cases_Bool}
 use Rattle.std.proofs.lemmas.Slice.Eq.{bytes_eq-Decides}
 use Rattle.std.specs.Option.{is_some}
@@ -48,18 +48,19 @@ occurs_contains needle line k occurs =
 pub contains_occurs : (needle line : List ℕ) → contains needle line ≡ true → (k : ℕ) × (k < length line + 1) × OccursAt line needle k
 contains_occurs needle line is =
     let p = place_of needle line is in
-    let same = (bytes_eq-Decides _ needle).0 p.begins in
+    let same : take (length needle) (drop p.place line) ≡ needle = (bytes_eq-Decides (take (length needle) (drop p.place line)) needle).0 p.begins in
     let low = p.within in
-    let size = ap length same in
+    let size : length (take (length needle) (drop p.place line)) ≡ length needle = ap length same in
     let cut = length-take (length needle) (drop p.place line) in
     let rest = length-drop p.place line in
     let fits : p.place + length needle ≤ length line = omega (arith, size, cut, rest, low) in
-    (p.place, omega arith, OccursAt-from_part line needle p.place fits same)
+    let below : p.place < length line + 1 = omega (arith, low) in
+    (p.place, below, OccursAt-from_part line needle p.place fits same)
 
 -- A search that finds a place returns one if and only if the line contains the bytes.
 pub found : (needle line : List ℕ) (place : Option ℕ) → FindsNeedle line needle 0 place → is_some place ≡ contains needle line
 found needle line (Some k) finds = sym (occurs_contains needle line k finds.1)
 found needle line None finds = elim (cases_Bool (contains needle line)) [
-  | inl is ↦ absurd (let p = contains_occurs needle line is in finds p.0 (omega arith) p.1.0 p.1.1)
+  | inl is ↦ absurd (let p = contains_occurs needle line is in finds p.0 (omega arith) p.1 p.2)
   | inr not ↦ sym not
 ]

@@ -28,13 +28,18 @@ name_line path e = file_front path (characters_of e.name) ++ 10 ∷ []
 abbrev pub match_line : List ℕ → ℕ → List ℕ → List ℕ
 match_line front n line = front ++ (58 ∷ 32 ∷ (decimal n ++ (58 ∷ 32 ∷ (line ++ 10 ∷ []))))
 
+-- The end of the line about an image: the number of files of the volume `blocks`, of its free blocks, and of the blocks
+-- of its largest gap, as the last line of `files list` has them.
+abbrev pub numbers_text : List ℕ → List ℕ
+numbers_text blocks =
+    codes ": files " ++ (decimal (length (files_of blocks)) ++ (codes ", free " ++ (decimal (free_blocks blocks)
+    ++ (codes ", largest " ++ (decimal (largest_gap blocks) ++ 10 ∷ [])))))
+
 -- The line about the image whose volume `blocks` has the format `format`: the format, the name of the volume as
--- `files list` prints it, the number of files, of free blocks, and of blocks of the largest gap.
+-- `files list` prints it, and the numbers.
 abbrev pub info_line : List ℕ → Format → List ℕ → List ℕ
 info_line path format blocks =
-    front_of path ++ (name_of format ++ (32 ∷ (printable_name (volume_name blocks)
-    ++ (codes ": files " ++ (decimal (length (files_of blocks)) ++ (codes ", free " ++ (decimal (free_blocks blocks)
-    ++ (codes ", largest " ++ (decimal (largest_gap blocks) ++ 10 ∷ [])))))))))
+    front_of path ++ (name_of format ++ (32 ∷ (printable_name (volume_name blocks) ++ numbers_text blocks)))
 
 -- The lines of the files of the volume `blocks` whose names match `pattern`, in directory order.
 abbrev pub names_text : List ℕ → List ℕ → List ℕ → List ℕ

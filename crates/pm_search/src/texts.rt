@@ -25,6 +25,25 @@ fn line_length(text: &[u8]) -> usize
     text.iter().take_while(|c| **c != b'\n').count()
 }
 
+/// Appends the line for the line `line` of a text file, if it contains the bytes that `finder` searches. `number` is the
+/// number of the line, and `front` has the path and the name of the file.
+fn push_matching(
+    alloc: Global,
+    text: &mut Vec<u8>,
+    front: &[u8],
+    number: usize,
+    line: &[u8],
+    finder: &Finder<'_>,
+) -> Result<(), AllocError>
+    ensures text { OnOk result (text.new.items ≡ text.old.items
+        ++ texts.matching finder.now front.now number line.now) }
+{
+    if contains(finder, line) {
+        push_match(alloc, text, front, number, line)?;
+    }
+    Ok(())
+}
+
 /// Appends a line for each line of the text `lines` that contains the bytes that `finder` searches. `front` has the path
 /// and the name of the file.
 fn push_matches(
@@ -41,10 +60,7 @@ fn push_matches(
     let mut number = 1;
     while start < lines.len() {
         let end = start + line_length(&lines[start..]);
-        let line = &lines[start..end];
-        if contains(finder, line) {
-            push_match(alloc, text, front, number, line)?;
-        }
+        push_matching(alloc, text, front, number, &lines[start..end], finder)?;
         start = end + 1;
         number += 1;
     }
@@ -94,6 +110,24 @@ fn push_file_matches(
     push_matches(alloc, text, &front, &lines, finder)
 }
 
+/// Returns a line for each line of the text files of `volume` that contains the bytes that `finder` searches. The files
+/// are in directory order.
+fn found_text(
+    alloc: Global,
+    path: &str,
+    volume: &Volume,
+    finder: &Finder<'_>,
+) -> Result<Vec<u8>, AllocError>
+    ensures text { IfOk result (λ text. text.items ≡ texts.lines_text path.now volume.now finder.now) }
+{
+    let mut text = Vec::new(alloc);
+    let mut entries = volume.entries();
+    'files: while let Some(entry) = entries.next() {
+        push_file_matches(alloc, &mut text, path, volume, &entry, finder)?;
+    }
+    Ok(text)
+}
+
 /// Returns a line for each line of the text files of `volume` that contains the bytes `needle`. The files are in
 /// directory order.
 pub(crate) fn lines_text(
@@ -105,10 +139,5 @@ pub(crate) fn lines_text(
     ensures text { IfOk result (λ text. text.items ≡ texts.lines_text path.now volume.now needle.now) }
 {
     let finder = Finder::new(needle);
-    let mut text = Vec::new(alloc);
-    let mut entries = volume.entries();
-    'files: while let Some(entry) = entries.next() {
-        push_file_matches(alloc, &mut text, path, volume, &entry, &finder)?;
-    }
-    Ok(text)
+    found_text(alloc, path, volume, &finder)
 }

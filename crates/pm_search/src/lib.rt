@@ -8,6 +8,7 @@ mod names;
 mod query;
 mod searching;
 mod texts;
+pub mod worked;
 
 pub use query::{Ending, Query, Searched};
 pub use searching::search;

@@ -1,0 +1,4 @@
+pub mod Lines
+pub mod Texts
+pub mod Searching
+pub mod Worked

@@ -1,5 +1,5 @@
 //! The arguments of `find`, `grep` and `info`.
-ghost use Rattle.std.specs.Prelude.{◌≡◌, IfOk, IsOk, IsOkUnless, codes, map, string_bytes};
+ghost use Rattle.std.specs.Prelude.{◌≡◌, ◌++◌, IfOk, IsOk, IsOkUnless, OnOk, codes, map, option_map, string_bytes};
 ghost use Rattle.clap.specs.Words.{all_of};
 ghost use Rattle.pm_plan.specs.Asked.{words_of};
 ghost use Rattle.pm_plan.specs.SearchWords.{AreGiven, AsksImages, AsksSearch, IsGoodImages};
@@ -30,27 +30,49 @@ pub struct SearchPlan {
     pub images: Vec<String>,
 }
 
-/// Returns copies of `paths`.
+/// Appends copies of `paths` to `copies`.
 ///
 /// # Errors
 ///
-/// - One of the paths is empty: `NoValue`.
+/// - One of the paths is empty: `NoValue`. The paths before it were appended.
 /// - Out of memory: `NoMemory`.
+fn push_copies(alloc: Global, copies: &mut Vec<String>, paths: &[&str]) -> Result<(), WordsError>
+    ensures paths { OnOk result (map string_bytes copies.new.items
+        ≡ map string_bytes copies.old.items ++ map (λ path. path.now) paths.now) }
+    ensures good { IsOk result → AreGiven (map (λ path. path.now) paths.now) }
+    ensures taken { AreGiven (map (λ path. path.now) paths.now) → IsOkUnless result NoMemory }
+{
+    match paths {
+        [] => Ok(()),
+        [path, more @ ..] => {
+            if path.is_empty() {
+                return Err(WordsError::NoValue);
+            }
+            if let Err(error) = copies.push(String::from_str(alloc, path)?) {
+                return Err(AllocError::from(error).into());
+            }
+            push_copies(alloc, copies, more)
+        }
+    }
+}
+
+/// Returns copies of `paths`. Errors: as `push_copies` states.
 fn copies(alloc: Global, paths: &[&str]) -> Result<Vec<String>, WordsError>
     ensures paths { IfOk result (λ copies. map string_bytes copies.items ≡ map (λ path. path.now) paths.now) }
     ensures good { IsOk result → AreGiven (map (λ path. path.now) paths.now) }
     ensures taken { AreGiven (map (λ path. path.now) paths.now) → IsOkUnless result NoMemory }
 {
     let mut copies = Vec::new(alloc);
-    for path in paths {
-        if path.is_empty() {
-            return Err(WordsError::NoValue);
-        }
-        if let Err(error) = copies.push(String::from_str(alloc, path)?) {
-            return Err(AllocError::from(error).into());
-        }
-    }
+    push_copies(alloc, &mut copies, paths)?;
     Ok(copies)
+}
+
+/// Returns the values of the argument `id`, or `None` if it is missing.
+fn values<'m, 'a>(matches: &'m ArgMatches<'a>, id: &str) -> Option<&'m [&'a str]>
+    ensures values { option_map (λ values. map (λ value. value.now) values.now) result
+        ≡ all_of id.now (words_of matches.now) }
+{
+    matches.get_strs(id)
 }
 
 /// Returns the paths of the images.
@@ -65,7 +87,7 @@ fn images_of(alloc: Global, matches: &ArgMatches<'_>) -> Result<Vec<String>, Wor
     ensures good { IsOk result → IsGoodImages (all_of (codes "IMAGE") (words_of matches.now)) }
     ensures taken { IsGoodImages (all_of (codes "IMAGE") (words_of matches.now)) → IsOkUnless result NoMemory }
 {
-    match matches.get_strs("IMAGE") {
+    match values(matches, "IMAGE") {
         Some(paths) => copies(alloc, paths),
         None => Err(WordsError::NoCommand),
     }

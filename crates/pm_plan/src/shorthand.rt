@@ -5,7 +5,7 @@ use std::alloc::{AllocError, Global};
 /// Returns the position of the path of an image in `words` if it is the first argument of `files`, and a verb follows.
 fn image_before_verb(words: &[String]) -> Option<usize> {
     let first = words.get(2)?.as_str();
-    if first.starts_with('-') || is_verb_of_files(first) {
+    if first.starts_with('-') || first == "help" || is_verb_of_files(first) {
         return None;
     }
     let is_verb = |word: &String| is_verb_of_files(word.as_str());

@@ -719,18 +719,14 @@ PY
 fi
 
 # A signal leaves no file in the temporary directory.
-for signal in TERM HUP; do
-    rm -rf tmp pipe
-    mkdir tmp
-    mkfifo pipe
-    TMPDIR=$PWD/tmp "$here/examples/dos-order.sh" <pipe >/dev/null 2>&1 &
-    exec 9>pipe
-    sleep 0.3
-    pkill -$signal -P $! 2>/dev/null
-    kill -$signal $!
-    exec 9>&-
-    wait $! 2>/dev/null
-    comes "dos-order.sh ended by $signal: files left" 0 "$(find tmp -type f | wc -l)"
+for signal in TERM HUP INT; do
+    for script in dos-order.sh system/disk.sh; do
+        rm -rf tmp pipe
+        mkdir tmp
+        mkfifo pipe
+        (exec 9<>pipe && TMPDIR=$PWD/tmp timeout -s $signal 0.5 "$here/examples/$script" $([ $script = dos-order.sh ] || echo ended.img) <pipe) >/dev/null 2>&1
+        comes "$script ended by $signal: files left" 0 "$(find tmp -type f | wc -l)"
+    done
 done
 
 # A small code file does not make `dis` use hundreds of megabytes: 250 procedures that share 60,000 bytes, in 16 slots.
@@ -1062,8 +1058,8 @@ PY
     "$pmach" files --image hostile.img new H 400
     python3 -c 'import sys; sys.stdout.buffer.write(bytes(1024) + (b"\x10\xff\r" * 341 + b"\0") * 100)' | "$pmach" files --image hostile.img put A.TEXT text
     comes "site.sh of a text that is 75 times as long as its file" "0 within" "$(work "$site" hostile.img t)"
-    printf '%s\n' ".SEG 1 LOUD" ".PROC 1 0 0 0" "again: SLDC 1" "LDCI 1024" "SLDC 0" "LDCI 30000" "SLDC 0" "SLDC 0" "CSP 6" "UJP again" \
-        ".EXIT" "RBP 0" ".END" | "$pmach" asm >loud 2>err || cat err
+    printf '%s\n' ".SEG 1 LOUD" ".PROC 1 0 0 0" "again: SLDC 1" "LDCI 1024" "SLDC 0" "LDCI 30000" "SLDC 0" "SLDC 0" "CSP 6" "UJP ^0" \
+        ".EXIT" "RBP 0" ".JUMP again" ".END" | "$pmach" asm >loud 2>err || cat err
     "$pmach" files --image hostile.img put LOUD code <loud
     comes "site.sh of a program that writes without an end" "0 within, 1" \
         "$(work "$site" hostile.img t --run LOUD), $(grep -c 'The first 65536 bytes' t/run.html)"

@@ -719,18 +719,14 @@ PY
 fi
 
 # A signal leaves no file in the temporary directory.
-for signal in TERM HUP; do
-    rm -rf tmp pipe
-    mkdir tmp
-    mkfifo pipe
-    TMPDIR=$PWD/tmp "$here/examples/dos-order.sh" <pipe >/dev/null 2>&1 &
-    exec 9>pipe
-    sleep 0.3
-    pkill -$signal -P $! 2>/dev/null
-    kill -$signal $!
-    exec 9>&-
-    wait $! 2>/dev/null
-    comes "dos-order.sh ended by $signal: files left" 0 "$(find tmp -type f | wc -l)"
+for signal in TERM HUP INT; do
+    for script in dos-order.sh system/disk.sh; do
+        rm -rf tmp pipe
+        mkdir tmp
+        mkfifo pipe
+        (exec 9<>pipe && TMPDIR=$PWD/tmp timeout -s $signal 0.5 "$here/examples/$script" $([ $script = dos-order.sh ] || echo ended.img) <pipe) >/dev/null 2>&1
+        comes "$script ended by $signal: files left" 0 "$(find tmp -type f | wc -l)"
+    done
 done
 
 # A small code file does not make `dis` use hundreds of megabytes: 250 procedures that share 60,000 bytes, in 16 slots.
@@ -775,6 +771,325 @@ for option in '' --names --list --statements --indent --blocks; do
     said=$("$pmach" dis $option small.code 2>err | head -1 | wc -l)
     comes "dis $option of a small file into head -1: lines, and messages" "1, " "$said, $(cat err)"
 done
+
+# LIST with hostile names: each line is refused or cannot be read, nothing outside the folder is read, and the message has
+# no control character.
+rm -rf fo n.img
+mkdir -p fo/sub
+echo 'TOP SECRET OF ROOT' >secret
+cp secret fo/sub/S
+echo hi >fo/A
+ln -s "$scratch/secret" fo/LINK
+mkfifo fo/PIPE
+mknod fo/ZERO c 1 5
+mknod fo/NULL c 1 3
+mknod fo/DISK b 7 0
+python3 -c 'import socket; socket.socket(socket.AF_UNIX).bind("fo/SOCKET")'
+long=$(head -c 5000 /dev/zero | tr '\0' x)
+{
+    echo 'volume W 60 000-00-00'
+    for name in .. . ../secret sub/S "$scratch/secret" /proc/self/fd/0 fo/../../secret LINK PIPE ZERO NULL DISK SOCKET sub "$long" \
+        "${long:0:256}" '' ' ' '$(id>PWN)' '`id>PWN`' '-rf' '%2e%2e' '..%2Fsecret' $'A\033]0;EVIL\007' $'A\302\233' $'A\377' $'A\r'; do
+        printf '%s\tX\tdata\t000-00-00\tbytes\t1\n' "$name"
+    done
+    printf 'A\0B\tN\tdata\t000-00-00\tbytes\t1\n'
+    for name in .. . A/B '' ABCDEFGHIJKLMNOP 'A%00' 'A%0A' '%' 'A B'; do
+        printf 'A\t%s\tdata\t000-00-00\tbytes\t1\n' "$name"
+    done
+} >fo/LIST
+for deed in import "import --dry-run"; do
+    "$pmach" files --image n.img new W 60
+    # shellcheck disable=SC2086 # a verb and an option
+    said=$(within 60 "$pmach" files --image n.img $deed fo)
+    comes "$deed of a LIST with hostile names: nothing is run, nothing outside is read, no control character" \
+        "4 read fault, no PWN, 0, 0" "$said, $(ls PWN 2>/dev/null || echo no PWN), $(cat n.img err | grep -ac 'TOP SECRET'), $(tr -d '\n\t' <err | LC_ALL=C tr -cd '\000-\037\177' | wc -c)"
+done
+"$pmach" files --image n.img new W 60
+"$pmach" files --image n.img import fo 2>/dev/null
+comes "of its lines only valid names of regular files come in" ".. . A/B %" "$("$pmach" files --image n.img list | sed '1d;$d' | cut -c1-15 | xargs)"
+comes "and go out under names that lead nowhere else" "%25 %2E %2E. A%2FB LIST" "$("$pmach" files --image n.img export odd && LC_ALL=C ls odd | xargs)"
+
+# A file of the folder of any length, and a LIST that names it in each line, end within the time limit.
+rm -rf fo n.img
+mkdir fo
+truncate -s 1T fo/A
+printf 'volume W 60 000-00-00\nA\tA\tdata\t000-00-00\tbytes\t1\n' >fo/LIST
+"$pmach" files --image n.img new W 60
+comes "import of a file of 1 TB" "4 read fault, pmach: fo/A: more than 33,554,432 bytes" "$(within 60 "$pmach" files --image n.img import fo), $(sed -n 2p err)"
+truncate -s 1T fo/LIST
+comes "import of a LIST of 1 TB" "4 read fault" "$(within 60 "$pmach" files --image n.img import fo)"
+truncate -s 1T long.img
+comes "convert of an image of 1 TB" "4 read fault, no new" "$(within 60 "$pmach" convert long.img new1), $(ls new1 2>/dev/null || echo no new)"
+for device in /dev/zero /dev/urandom; do
+    comes "convert of $device" "4 read fault, no new" "$(within 60 "$pmach" convert $device new1), $(ls new1 2>/dev/null || echo no new)"
+done
+comes "convert of /dev/null" "2 refused convert 1" "$(within 60 "$pmach" convert /dev/null new1)"
+rm -f long.img
+
+# The folder of import, or its LIST, is exchanged all the time for one of root's.
+if has "a folder that is exchanged" "${python:-python3}"; then
+    cat >exchange.py <<'PY'
+import ctypes, os, sys
+call = ctypes.CDLL(None).renameat2
+one, other = os.fsencode(sys.argv[1]), os.fsencode(sys.argv[2])
+while True:
+    call(-100, one, -100, other, 2)
+PY
+    # exchanged_all_the_time ONE OTHER COMMAND..: the command, 20 times; how often it did not end within its time
+    exchanged_all_the_time() {
+        other "$python" exchange.py "$1" "$2" &
+        late=0
+        for ((try = 0; try < 20; try++)); do
+            said=$(within 60 "${@:3}")
+            [ "${said%% *}" != 124 ] || late=$((late + 1))
+            cat err >>all.err
+            again
+        done
+        { kill $! && wait $!; } 2>/dev/null
+    }
+    for what in folder LIST "a file for a pipe"; do
+        rm -rf root u n.img all.err
+        mkdir -p root u/fo
+        chmod 755 .
+        echo 'TOP SECRET OF ROOT' | tee root/A >root/secret
+        printf 'volume W 60 000-00-00\nA\tA\tdata\t000-00-00\tbytes\t1\n' | tee root/LIST >u/fo/LIST
+        chmod 700 root
+        echo hi >u/fo/A
+        case $what in
+            folder) ln -s ../root u/other && one=u/fo two=u/other ;;
+            LIST) ln -s "$scratch/root/secret" u/fo/other && one=u/fo/LIST two=u/fo/other ;;
+            *) mkfifo u/fo/other && one=u/fo/A two=u/fo/other ;;
+        esac
+        chown -hR 1234:1234 u
+        "$pmach" files --image n.img new W 60
+        found=0
+        again() {
+            grep -aq 'TOP SECRET' n.img && found=$((found + 1))
+            "$pmach" files --image n.img new W 60
+        }
+        exchanged_all_the_time $one $two "$pmach" files --image n.img import u/fo
+        comes "import, 20 times while $what is exchanged: secrets in the image, secrets in messages, late" "0, 0, 0" \
+            "$found, $(grep -c 'TOP SECRET' all.err), $late"
+    done
+    for command in export salvage convert "salvage to a file"; do
+        rm -rf etc u
+        mkdir etc u
+        echo "root file" >etc/HANOI
+        ln -s ../etc u/other
+        chown -h 1234:1234 u u/other
+        harmed=0
+        again() {
+            [ "$(ls etc)" = HANOI ] && [ "$(cat etc/HANOI)" = "root file" ] || harmed=$((harmed + 1))
+            find u etc -mindepth 1 ! -name other ! -path etc/HANOI -delete 2>/dev/null
+            rm -rf u/out
+        }
+        case $command in
+            export) exchanged_all_the_time u/out u/other "$pmach" files --image base export u/out ;;
+            salvage) exchanged_all_the_time u/out u/other "$pmach" files --image base salvage u/out/ ;;
+            convert) exchanged_all_the_time u/out u/other "$pmach" convert base u/out ;;
+            *) exchanged_all_the_time u/out u/other "$pmach" files --image base salvage u/out ;;
+        esac
+        comes "$command, 20 times while the new name is exchanged for a link all the time: harmed, late" "0, 0" "$harmed, $late"
+    done
+fi
+
+# Each limit on the size of files, with the signal ignored or not: nothing is cut with status 0, and the image is the old
+# one or the new one.
+rm -rf fo whole
+"$pmach" files --image base export whole
+"$pmach" files --image base export fo
+for blocks in 0 1 2 3 4 8 16 20 30 39; do
+    for ignored in yes no; do
+        limited() {
+            # (the inner shell turns the signal into a status)
+            bash -c '[ "$1" = no ] || trap "" XFSZ; ulimit -c 0; ulimit -f "$0"; timeout 60 "${@:2}"; exit $?' \
+                $blocks $ignored "$pmach" "$@" >/dev/null 2>&1
+        }
+        rm -rf ex co n.img sa
+        "$pmach" files --image n.img new W 200
+        old=$(cksum <n.img)
+        wrong=''
+        limited files --image base export ex
+        status=$?
+        [ $status != 0 ] || diff -rq whole ex >/dev/null || wrong="$wrong export"
+        [ $ignored = no ] || for file in ex/*; do cmp -s "$file" "whole/${file##*/}" || [ "$file" = ex/LIST ] || [ "$file" = 'ex/*' ] || wrong="$wrong $file"; done
+        [ ! -s ex/LIST ] || [ "$(tail -n +2 ex/LIST | cut -f 1)" = "$(LC_ALL=C ls ex | grep -vx LIST)" ] || [ "$(tail -n +2 ex/LIST | wc -l)" = "$(ls ex | grep -cvx LIST)" ] || wrong="$wrong LIST"
+        limited convert base co
+        status=$?
+        if [ -e co ]; then cmp -s base co || wrong="$wrong convert"; elif [ $status = 0 ]; then wrong="$wrong no-convert"; fi
+        limited files --image base salvage sa
+        status=$?
+        if [ $status = 0 ]; then "$pmach" files --image sa list >/dev/null 2>&1 || wrong="$wrong salvage"; else [ ! -e sa ] || wrong="$wrong salvage-left"; fi
+        limited files --image n.img import fo
+        status=$?
+        if [ $status = 0 ]; then [ "$("$pmach" files --image n.img list | wc -l)" = $((1 + $(wc -l <fo/LIST))) ] || wrong="$wrong import"; else [ "$(cksum <n.img)" = "$old" ] || wrong="$wrong image"; fi
+        [ -z "$wrong" ] || break 2
+        rm -f ./*.pmach-new
+    done
+done
+comes "ten limits on the size of files, export, convert, salvage, import" "" "$wrong"
+
+# Folders that are sticky, append-only or on another device.
+rm -rf st
+mkdir st
+chmod 1777 st
+comes "export into a sticky folder of root, as another user" "0 , same" \
+    "$(within 60 setpriv --reuid 1234 --regid 1234 --clear-groups "$pmach" files --image base export st/out), $(diff -rq whole st/out && echo same)"
+: >st/image.pmach-new
+cp base st/image
+chmod 666 st/image
+was=$(cksum <st/image)
+comes "the temporary name is root's, in a sticky folder" "4 write fault, same" \
+    "$(within 60 setpriv --reuid 1234 --regid 1234 --clear-groups "$pmach" files --image st/image date 84 1 1), $([ "$(cksum <st/image)" = "$was" ] && echo same)"
+rm -rf ap
+mkdir ap
+cp base ap/image
+if chattr +a ap 2>/dev/null; then
+    comes "export into an append-only folder" "0 , same" "$(within 60 "$pmach" files --image base export ap/out), $(diff -rq whole ap/out && echo same)"
+    comes "convert into an append-only folder: status, and whether NEW is whole" "0, same" \
+        "$(said=$(within 60 "$pmach" convert base ap/new) && echo "${said%% *}"), $(cmp base ap/new && echo same)"
+    comes "import into an image in an append-only folder" "0" \
+        "$(said=$(within 60 "$pmach" files --image ap/image import fo) && echo "${said%% *}")"
+    chattr -a ap
+else
+    echo "left out: append-only folders: no chattr"
+    left=$((left + 1))
+fi
+rm -rf ap
+mkdir -p tm
+if mount -t tmpfs -o size=1m tmpfs tm 2>/dev/null; then
+    mounted=$scratch/tm
+    comes "export to another device" "0 , same" "$(within 60 "$pmach" files --image base export tm/out), $(diff -rq whole tm/out && echo same)"
+    "$pmach" files --image n.img new W 200
+    comes "import from another device" "0 " "$(within 60 "$pmach" files --image n.img import tm/out)"
+    ln -s tm/new newlink
+    comes "convert through a link to another device" "0 , same" "$(within 60 "$pmach" convert base newlink), $(cmp base tm/new && echo same)"
+    umount tm
+    mounted=
+    rm -f newlink
+    mount -t tmpfs -o size=1m,nr_inodes=4 tmpfs tm && mounted=$scratch/tm
+    within 60 "$pmach" files --image base export tm/out >said
+    comes "export to a device with two free files: status, and whether each missing file is named" "4, 7" "$(cut -d' ' -f1 said), $(grep -c '^pmach: tm/out/' err)"
+    umount tm
+    mounted=
+fi
+
+# Installation: no file outside PREFIX is removed through a link or by the list of another user, and what --install left
+# when it was killed goes with --uninstall.
+rm -rf p victim
+mkdir -p p/lib/pmach victim
+echo x >victim/passwd
+ln -s ../victim p/etc
+printf 'etc/passwd\nlib/pmach/installed\n' >p/lib/pmach/installed
+comes "--uninstall through a link" "70, x" "$(said=$(within 60 "$here/pmach" --uninstall p); echo "${said%% *}"), $(cat victim/passwd 2>&1)"
+chown -hR 1234:1234 p
+comes "--uninstall by the list of another user" "1, x" "$(said=$(within 60 "$here/pmach" --uninstall p); echo "${said%% *}"), $(cat victim/passwd 2>&1)"
+chown -hR 0:0 p
+rm p/etc
+for path in ../victim/passwd "$scratch/victim/passwd" lib/../../victim/passwd; do
+    printf '%s\n' "$path" >p/lib/pmach/installed
+    comes "--uninstall of the path ${path#"$scratch"}" "refused, x" \
+        "$(said=$(within 60 "$here/pmach" --uninstall p); [ "${said%% *}" != 0 ] && echo refused || { [ "${path#/}" != "$path" ] && echo refused; }), $(cat victim/passwd 2>&1)"
+done
+rm p/lib/pmach/installed
+for deed in "ln -s ../../../victim/passwd p/lib/pmach/installed" "mkfifo p/lib/pmach/installed" "mkdir p/lib/pmach/installed"; do
+    $deed
+    comes "--uninstall, a list that is no regular file: ${deed%% *}" "1, x" "$(said=$(within 60 "$here/pmach" --uninstall p); echo "${said%% *}"), $(cat victim/passwd 2>&1)"
+    rm -rf p/lib/pmach/installed
+done
+rm -rf p
+here_built=$(PMACH='' "$here/pmach" --version 2>/dev/null)
+stays=0
+for n in 1 2 3 4 5 6 7 8; do
+    { timeout -s KILL "0.$n" "$here/pmach" --install p; } >/dev/null 2>&1
+    [ ! -f p/lib/pmach/installed ] || "$here/pmach" --uninstall p >/dev/null 2>&1
+    [ ! -e p ] || stays=$((stays + $(find p ! -type d | grep -cv 'lib/pmach/installed.new')))
+    rm -rf p
+done
+comes "--install killed at eight times, then --uninstall: files left ($here_built)" 0 "$stays"
+
+# Pages: without a temporary directory, on a full device, of a pipe, ended by a signal, and of hostile texts, code and programs.
+if has "pages of hostile disks" python3; then
+    site=$here/examples/site/site.sh
+    rm -rf u pipe hostile.img
+    mkfifo pipe
+    comes "site.sh of a pipe" "1 site.sh: pipe is not a file, none" "$(within 60 "$site" pipe u), $(ls -d u u.new* 2>/dev/null || echo none)"
+    said=$(TMPDIR=$scratch/none within 60 "$site" base u)
+    comes "site.sh without the temporary directory" "0, 9" "${said%% *}, $(ls u | wc -l)"
+    before=$(cat u/*.html | cksum)
+    for signal in TERM HUP INT; do
+        (trap - INT && exec timeout -s $signal 0.5 "$site" base u) >/dev/null 2>&1
+        comes "site.sh ended by $signal: the pages, and what is left" "$before, u" "$(cat u/*.html | cksum), $(ls -d u u.new-* 2>/dev/null | xargs)"
+    done
+    mkdir -p tm
+    if mount -t tmpfs -o size=2m tmpfs tm 2>/dev/null; then
+        mounted=$scratch/tm
+        wrong=0
+        for size in 8 40 60 80 100 120 140 200; do
+            mount -o remount,size=2m tm
+            "$site" base tm/u >/dev/null
+            mount -o "remount,size=${size}k" tm 2>/dev/null
+            said=$(within 60 "$site" base tm/u)
+            [ "$(cat tm/u/*.html | cksum) $(ls tm)" = "$before u" ] && [[ $said = [01]\ * ]] || wrong=$((wrong + 1))
+            rm -rf tm/*
+            said=$(within 60 "$site" base tm/u)
+            case ${said%% *} in
+                0) [ "$(cat tm/u/*.html | cksum) $(ls tm)" = "$before u" ] ;;
+                1) [ -z "$(ls tm)" ] ;;
+                *) false ;;
+            esac || wrong=$((wrong + 1))
+            rm -rf tm/*
+        done
+        umount tm
+        mounted=
+        comes "site.sh with eight sizes of a full device: pages cut, lost or left" 0 "$wrong"
+    fi
+    # work COMMAND..: its status, and whether it took less than 20 seconds of processor time and 400 MB
+    work() {
+        python3 - "$@" <<'PY'
+import resource, subprocess, sys
+status = subprocess.run(["timeout", "600", *sys.argv[1:]], stdout=subprocess.DEVNULL, stderr=subprocess.DEVNULL).returncode
+used = resource.getrusage(resource.RUSAGE_CHILDREN)
+time, memory = used.ru_utime + used.ru_stime, used.ru_maxrss
+print(status, "within" if time < 20 and memory < 400000 else "%.1f s, %d MB" % (time, memory / 1000))
+PY
+    }
+    # (line ends with 223 spaces each, and one line without an end)
+    "$pmach" files --image hostile.img new H 400
+    python3 -c 'import sys; sys.stdout.buffer.write(bytes(1024) + (b"\x10\xff\r" * 341 + b"\0") * 100)' | "$pmach" files --image hostile.img put A.TEXT text
+    comes "site.sh of a text that is 75 times as long as its file" "0 within" "$(work "$site" hostile.img t)"
+    printf '%s\n' ".SEG 1 LOUD" ".PROC 1 0 0 0" "again: SLDC 1" "LDCI 1024" "SLDC 0" "LDCI 30000" "SLDC 0" "SLDC 0" "CSP 6" "UJP ^0" \
+        ".EXIT" "RBP 0" ".JUMP again" ".END" | "$pmach" asm >loud 2>err || cat err
+    "$pmach" files --image hostile.img put LOUD code <loud
+    comes "site.sh of a program that writes without an end" "0 within, 1" \
+        "$(work "$site" hostile.img t --run LOUD), $(grep -c 'The first 65536 bytes' t/run.html)"
+    python3 - <<'PY'
+import struct
+def code(equal, slots):
+    size, count = 65530, 250
+    segment = bytearray([0xD7] * size)
+    segment[size - 2:] = bytes([1, count])
+    places = [size - 14 - 2 * count - 12 * k for k in range(count)]
+    for k, place in enumerate(places):
+        segment[place:place + 2] = bytes([k % 250 + 1, 0])
+        struct.pack_into("<HHHH", segment, place - 8, 0, 0, place - 4, place - 2)
+        struct.pack_into("<H", segment, size - 4 - 2 * k, size - 4 - 2 * k - (places[0] if equal else place))
+    head = bytearray(512)
+    for slot in range(slots):
+        struct.pack_into("<HH", head, 4 * slot, 1 + (0 if equal else slot), size - (0 if equal else 512 * slot))
+        head[64 + 8 * slot:72 + 8 * slot] = b"HOSTILE "
+    return head + segment
+for equal in (True, False):
+    for slots in (1, 16):
+        open("code.%d.%d" % (equal, slots), "wb").write(code(equal, slots))
+PY
+    for kind in 1.1 1.16 0.1 0.16; do
+        rm -rf t hostile.img
+        "$pmach" files --image hostile.img new H 400
+        "$pmach" files --image hostile.img put C code <code.$kind
+        comes "site.sh of 64 KB of hostile code, equal tables or not and slots: $kind" "0 within" "$(work "$site" hostile.img t)"
+    done
+fi
 
 echo "$passed passed, $failed failed, $left left out"
 [ $failed = 0 ]

@@ -13,14 +13,6 @@ here=$(dirname "$(readlink -f "$0")")
 pmach=${PMACH:-$here/../pmach}
 image=$1
 
-# read_directory IMAGE: sets $directory to the bytes of the directory
-read_directory() {
-    read -r -d '' -a directory < <(od -An -v -tu1 -j1024 -N2048 -- "$1" | tr -s ' \n' ' ')
-}
-
-# word OFFSET: prints a word of the directory, stored with the low byte first
-word() { echo $((directory[$1] + 256 * directory[$1 + 1])); }
-
 # spelled BYTE..: prints the bytes; % and each byte outside 33 to 126 are written as % and two hexadecimal digits
 spelled() {
     local byte text=
@@ -37,11 +29,23 @@ spelled() {
     printf '%s' "$text"
 }
 
-# read_name N: reads the name of the entry of a slot into $name
-read_name() {
-    local at=$((26 * $1)) length
-    length=${directory[$((at + 6))]}
-    name=$(spelled "${directory[@]:$((at + 7)):$((length < 15 ? length : 15))}")
+# read_names: reads the names of the files, in the order of their slots, into $names, from the list that the program prints
+read_names() {
+    local -a bytes line
+    local byte length
+    read -r -d '' -a bytes < <("$pmach" files --image "$image" list </dev/null | od -An -v -tu1 | tr -s ' \n' ' ')
+    names=()
+    for byte in "${bytes[@]}"; do
+        if ((byte != 10)); then
+            line+=("$byte")
+            continue
+        fi
+        length=$((${#line[@]} < 15 ? ${#line[@]} : 15))
+        while ((length > 0 && line[length - 1] == 32)); do length=$((length - 1)); done
+        names+=("$(spelled "${line[@]:0:length}")")
+        line=()
+    done
+    names=("${names[@]:1:${#names[@]}-2}") # without the name of the volume and the last line
 }
 
 # read_pattern PATTERN: reads a pattern of the filer; = and ? match any characters, and ? asks for each matching file
@@ -73,12 +77,11 @@ fits() {
 
 read_pattern "$2"
 "$pmach" files --image "$image" list </dev/null >/dev/null || exit
-read_directory "$image"
+read_names
 declare -A count
 removed=()
 status=0
-for ((slot = 1; slot <= $(word 16); slot++)); do
-    read_name $slot
+for name in "${names[@]}"; do
     count[=${name^^}]=$((${count[=${name^^}]:-0} + 1))
     fits && removed+=("$name")
 done

@@ -6,17 +6,23 @@ It writes FOLDER/index.html with the volume, a map of its blocks and the output 
 format is converted by `pmach convert`. For a damaged image the pages show the files that `salvage` copies. All bytes of the disk are shown as text:
 they never become markup, a path or a script, and a policy in each page forbids scripts. The same image gives the same pages.
 
-FOLDER is new, or was made by this script: then its pages are replaced. Status 0: success; 1: invalid command line; 2: neither a volume nor
-a file was found."""
+FOLDER is new, or was made by this script: then its pages are replaced. The pages are written into the directory FOLDER.new-N, which then takes
+the place of FOLDER in one step. If the script is killed, FOLDER has all old pages or all new ones, and FOLDER.new-N may remain; delete it.
+
+A page shows only the first part of a long text, of a long disassembly or of much output. Status 0: success; 1: invalid command line, or the
+pages could not be written; 2: neither a volume nor a file was found."""
 import argparse
+import contextlib
 import ctypes
 import html
 import os
 import re
+import signal
 import stat
 import subprocess
 import sys
 import tempfile
+import threading
 import time
 
 HERE = os.path.dirname(os.path.abspath(__file__))
@@ -24,7 +30,14 @@ EXAMPLES = os.path.dirname(HERE)
 PMACH = os.environ.get("PMACH", os.path.join(os.path.dirname(EXAMPLES), "pmach"))
 MARK = ".pmach-site"
 PAGE = re.compile(r"(index|run|file-\d\d)\.html")
-DUMPED, LINES, LISTED, STEPS, DISASSEMBLED = 65536, 20000, 60000, 2_000_000, 8_000_000
+# The bytes of a file and of console output that a page shows; the lines of a text and of p-code that it shows; the steps of a run.
+DUMPED, LINES, LISTED, STEPS = 65536, 20000, 60000, 2_000_000
+# The procedures in the picture of a run.
+NODES = 50_000
+# The bytes of an image; the bytes that are read of one output of the program, and of all outputs for the pages of files.
+IMAGE, READ, ALL_READ = 33_554_432, 4_000_000, 48_000_000
+# The seconds of processor time that the program may take for one output for the page of a file, and for a run; the seconds of any output.
+WORK, RUN, SECONDS = 3, 60, 600
 
 STYLE = """:root{color-scheme:light dark;--ink:#1b1b1b;--paper:#fdfdfb;--line:#bbb;--soft:#f0efe9;--link:#0b4f9e;--bad:#b3261e}
 @media(prefers-color-scheme:dark){:root{--ink:#e6e4de;--paper:#17181a;--line:#555;--soft:#242629;--link:#8ab4f8;--bad:#ff9c94}}
@@ -54,26 +67,55 @@ def latin(data):
     return data.decode("latin-1")
 
 
-def bounded(words, given):
-    """As pmach, but reads at most DISASSEMBLED bytes of the output, and ends the program if there are more: a small code
-    file whose procedures overlap has a disassembly of any length. The last value says whether more were left out."""
-    with tempfile.TemporaryFile() as source, tempfile.TemporaryFile() as errors:
+class Bound:
+    """How many more bytes of output the pages may read. A small disk can have texts and disassemblies of any length."""
+
+    left = ALL_READ
+
+
+@contextlib.contextmanager
+def running(words, given, errors, work):
+    """Runs pmach with a limit on its processor time. It is ended if its output was not read to the end. After SECONDS it is ended, which is an
+    error."""
+    limited = ["sh", "-c", 'ulimit -t "$0" && exec "$@"', str(work), PMACH]
+    with tempfile.TemporaryFile() as source:
         source.write(given)
         source.seek(0)
-        with subprocess.Popen([PMACH, *words], stdin=source, stdout=subprocess.PIPE, stderr=errors) as ran:
-            out = ran.stdout.read(DISASSEMBLED + 1)
-            is_cut = len(out) > DISASSEMBLED
-            if is_cut:
+        with subprocess.Popen([*limited, *words], stdin=source, stdout=subprocess.PIPE, stderr=errors) as ran:
+            late = threading.Timer(SECONDS, ran.kill)
+            late.start()
+            try:
+                yield ran
+            finally:
+                is_late = not late.is_alive()
+                late.cancel()
                 ran.kill()
+    if is_late:
+        raise TimeoutError("pmach %s took more than %d seconds" % (words[0], SECONDS))
+
+
+def bounded(words, given=b"", most=None):
+    """As pmach, but reads at most MOST bytes of the output, by default READ and what is left for all pages. If there are more, or if the
+    program takes too long, it is ended. The last value states whether output was left out for one of these reasons."""
+    limit = min(READ, Bound.left) if most is None else most
+    with tempfile.TemporaryFile() as errors:
+        with running(words, given, errors, WORK if most is None else RUN) as ran:
+            out = ran.stdout.read(limit + 1)
+            is_cut = len(out) > limit or ran.wait() == -signal.SIGXCPU
+            status = 0 if is_cut else ran.wait()
         errors.seek(0)
-        message = latin(errors.read()).strip()
-    return 0 if is_cut else ran.returncode, latin(out[:DISASSEMBLED]), message, is_cut
+        message = latin(errors.read(DUMPED)).strip()
+    if most is None:
+        Bound.left -= min(len(out), limit)
+    if status < 0:
+        raise ChildProcessError("pmach %s was ended by signal %d" % (words[0], -status))
+    return status, out[:limit], message, is_cut
 
 
 def lines_of(words, given):
     """The whole lines of such an output, and whether more were left out."""
-    _, text, _, is_cut = bounded(words, given)
-    lines = text.splitlines()
+    _, out, _, is_cut = bounded(words, given)
+    lines = latin(out).splitlines()
     return (lines[:-1] if is_cut else lines), is_cut
 
 
@@ -99,8 +141,8 @@ class Entry:
 class Disk:
     """A volume: its image with blocks in order, the list of its files, and messages about it."""
 
-    def __init__(self, path, scratch):
-        self.notes, self.path, self.form = [], path, "blocks"
+    def __init__(self, path, given, scratch):
+        self.notes, self.path, self.given, self.form = [], path, given, "blocks"
         self.findings = latin(pmach(["files", "--image", path, "check"])[1]).splitlines()
         if not self.listed():
             self.brought(scratch)
@@ -142,7 +184,7 @@ class Disk:
         self.salvage = latin(out).splitlines()
         self.path = new
         if status or not self.listed() or not self.files:
-            print("site.sh: %s is not a volume, and salvage finds no file on it: %s" % (hurt, message or said), file=sys.stderr)
+            print("site.sh: %s is not a volume, and salvage finds no file on it: %s" % (shown(self.given), message or said), file=sys.stderr)
             sys.exit(2)
         self.message = message
         with open(hurt, "rb") as file:
@@ -298,11 +340,14 @@ def dump(data):
     return "<h2>Its bytes</h2>\n<pre>%s</pre>%s" % (told("\n".join(lines)), more)
 
 
-def text_page(text):
+def text_page(text, is_cut):
     lines = latin(text).split("\n")
-    shown = lines[:LINES]
-    rows = "\n".join('<span id="l%d">%5d  %s</span>' % (n, n, told(line)) for n, line in enumerate(shown, 1))
-    more = "<p>The first %d of %d lines.</p>" % (LINES, len(lines)) if len(lines) > LINES else ""
+    rows = "\n".join('<span id="l%d">%5d  %s</span>' % (n, n, told(line)) for n, line in enumerate(lines[:LINES], 1))
+    more = ""
+    if is_cut:
+        more = "<p>The first %d bytes of the text, at most %d lines.</p>" % (len(text), LINES)
+    elif len(lines) > LINES:
+        more = "<p>The first %d of %d lines.</p>" % (LINES, len(lines))
     return "<h2>Its lines</h2>\n<pre>%s</pre>%s" % (rows, more)
 
 
@@ -321,7 +366,8 @@ class Code:
         self.good = status == 0
         if not self.good:
             return
-        self.names = dict(re.findall(r"^\.SEG (\d+) (.*)$", out, re.M))
+        self.names = dict(re.findall(r"^\.SEG (\d+) (.*)$", latin(out), re.M))
+        del out
         self.called = {m[1]: m[2] for m in map(STANDARD.match, lines_of(["dis", "--names"], data)[0]) if m}
         self.lines, is_cut = lines_of(["dis", "--list"], data)
         statements, is_cut_too = lines_of(["dis", "--statements"], data)
@@ -417,22 +463,25 @@ class Code:
         parts += ["<h2>Calls</h2>", table(["procedure", "calls", "is called by"], rows), self.graph()]
         seen, shown = set(), 0
         if self.is_cut:
-            parts.append("<p>The disassembly is longer than %d bytes. The rest of it is left out.</p>" % DISASSEMBLED)
+            parts.append("<p>Only the first part of the disassembly is shown, because the whole is longer than %d bytes, takes more than %d seconds, or follows other long pages.</p>" % (READ, WORK))
         for here in self.procedures:
             slot, number = here
             own = self.listing[here]
             parts.append('<h3 id="p%d-%d">Procedure %d of segment %d %s</h3>' % (slot, number, number, slot, told(self.names.get(str(slot), ""))))
             parts.append("<p>Called by %s.</p>" % (", ".join(self.link(c) for c in self.callers.get(here, [])) or "no procedure in this file"))
-            if shown + len(own) > LISTED:
+            space = LISTED - shown
+            if not space:
                 parts.append("<p>%d lines are left out: the page has %d lines already.</p>" % (len(own), shown))
                 continue
-            shown += len(own)
+            shown += min(len(own), space)
             if self.statements.get(here):
-                parts.append("<pre>%s</pre>" % "\n".join(self.statement(slot, line) for line in self.statements[here]))
+                parts.append("<pre>%s</pre>" % "\n".join(self.statement(slot, line) for line in self.statements[here][:space]))
                 parts.append("<details><summary>Its %d lines of p-code</summary>" % len(own))
-            parts.append("<pre>%s</pre>" % "\n".join(self.line(slot, line, seen) for line in own))
+            parts.append("<pre>%s</pre>" % "\n".join(self.line(slot, line, seen) for line in own[:space]))
             if self.statements.get(here):
                 parts.append("</details>")
+            if len(own) > space:
+                parts.append("<p>%d lines are left out: the page has %d lines already.</p>" % (len(own) - space, shown))
         return "\n".join(parts)
 
     def graph(self):
@@ -443,8 +492,8 @@ class Code:
         lines = ["digraph calls { rankdir=LR; node [shape=box, fontname=monospace];"]
         lines += ['"%d.%d";' % p for p in self.procedures] + ['"%d.%d" -> "%d.%d";' % (*a, *b) for a, b in edges] + ["}"]
         try:
-            done = subprocess.run(["dot", "-Tsvg"], input="\n".join(lines).encode(), stdout=subprocess.PIPE, stderr=subprocess.DEVNULL)
-        except OSError:
+            done = subprocess.run(["dot", "-Tsvg"], input="\n".join(lines).encode(), stdout=subprocess.PIPE, stderr=subprocess.DEVNULL, timeout=20)
+        except (OSError, subprocess.TimeoutExpired):
             return ""
         picture = re.sub(r"^.*?(?=<svg)|<!--.*?-->", "", latin(done.stdout), flags=re.S)
         return '<figure role="img" aria-label="Calls of %d procedures">%s</figure>' % (len(self.procedures), picture) if done.returncode == 0 else ""
@@ -457,9 +506,9 @@ def file_page(disk, entry):
     if status:
         return page(entry.name, head + '<p class="bad">%s</p>' % told(said))
     if entry.kind == "text":
-        status, text, said = pmach([*words, "gettext", "--slot", str(entry.slot)])
+        status, text, said, is_cut = bounded([*words, "gettext", "--slot", str(entry.slot)])
         if status == 0:
-            return page(entry.name, head + text_page(text))
+            return page(entry.name, head + text_page(text, is_cut))
         head += '<p class="bad">%s</p>' % told(said)
     if entry.kind == "code":
         code = Code(data)
@@ -473,66 +522,91 @@ def file_page(disk, entry):
 
 
 class Calls:
-    """The steps of a run for each stack of procedures, from a trace of calls and returns with positions."""
+    """The steps of a run for each stack of procedures, from the lines of a trace of calls and returns with positions."""
 
     def __init__(self, lines):
-        self.root = {"name": "all", "self": 0, "in": {}}
-        path, before = [], 0
-        deep = lambda line: (len(line) - len(line.lstrip())) // 2
-        least = min(map(deep, lines), default=0)
+        self.root, self.nodes = self.node("all"), 0
+        self.last = ""
+        path, before, least = [], 0, None
         for line in lines:
             words = line.split()
             if len(words) < 5 or not re.match(r"\d{8}", words[3]):
+                self.last = line.strip()
                 continue
-            depth = deep(line) - least
-            step = int(words[3])
+            deep = (len(line) - len(line.lstrip())) // 2
+            least = deep if least is None else min(least, deep)
+            steps = int(words[3]) + 1 - before
             name = "%s.%s" % (words[0].lstrip("0") or "0", words[1].lstrip("0") or "0") if words[0] != "---" else "?"
-            path = path[: depth] + ["?"] * (depth - len(path)) + [name]
-            node = self.root
-            for part in path:
-                node = node["in"].setdefault(part, {"name": part, "self": 0, "in": {}})
-            node["self"] += step + 1 - before
-            before = step + 1
+            path = path[:deep] + ["?"] * (deep - len(path)) + [name]
+            self.count(path, steps)
+            before += steps
+        # (no line has the frames around the program itself)
+        for _ in range(least or 0):
+            self.root["in"] = self.root["in"]["?"]["in"]
 
-    def total(self, node):
-        return node["self"] + sum(map(self.total, node["in"].values()))
+    @staticmethod
+    def node(name):
+        return {"name": name, "own": 0, "all": 0, "in": {}}
+
+    def count(self, path, steps):
+        """Adds steps to the node of a path. If there are too many nodes, they are added to a node above it."""
+        node = self.root
+        node["all"] += steps
+        for part in path:
+            if part not in node["in"]:
+                if self.nodes >= NODES:
+                    break
+                self.nodes += 1
+                node["in"][part] = self.node(part)
+            node = node["in"][part]
+            node["all"] += steps
+        node["own"] += steps
 
     def picture(self):
         shapes, deepest = [], [0]
-        all_steps = max(self.total(self.root), 1)
+        all_steps = max(self.root["all"], 1)
 
         def draw(node, x, level):
-            width = 1000 * self.total(node) / all_steps
+            width = 1000 * node["all"] / all_steps
             if width < 0.5 or level > 60:
                 return
             deepest[0] = max(deepest[0], level)
-            words = "%s: %d of %d steps, %d of its own" % (node["name"], self.total(node), all_steps, node["self"])
+            words = "%s: %d of %d steps, %d of its own" % (node["name"], node["all"], all_steps, node["own"])
             shapes.append('<g><title>%s</title><rect x="%.2f" y="%d" width="%.2f" height="20" fill="hsl(%d 70%% 70%%)"/>%s</g>' % (
                 told(words), x, level * 21, width, 20 + 37 * level % 60, '<text x="%.2f" y="%d">%s</text>' % (x + 3, level * 21 + 15, told(node["name"])) if width > 30 else ""))
-            for child in sorted(node["in"].values(), key=lambda c: (-self.total(c), c["name"])):
+            for child in sorted(node["in"].values(), key=lambda c: (-c["all"], c["name"])):
                 draw(child, x, level + 1)
-                x += 1000 * self.total(child) / all_steps
+                x += 1000 * child["all"] / all_steps
 
         draw(self.root, 0, 0)
         return '<svg viewBox="0 0 1000 %d" role="img" aria-label="Steps by procedure, each below its caller">%s</svg>' % (21 * (deepest[0] + 1), "".join(shapes))
 
 
 def run_page(disk, name, given, limit):
-    words = ["--d4", disk.path, "--limit", str(limit), name]
-    status, out, said = pmach(["run", *words], given)
-    trace = latin(pmach(["trace", "--calls", "--places", *words], given)[1]).splitlines()
-    body = ["<p>%s (status %d)</p>" % (told(said), status), "<h2>Its console</h2>\n<pre>%s</pre>" % told(latin(out[:DUMPED]).replace("\r", "\n"))]
-    if len(trace) > 1:
+    words = ["--d4", disk.path, "--limit", str(limit), "--", name]
+    status, out, said, is_cut = bounded(["run", *words], given, DUMPED)
+    with running(["trace", "--calls", "--places", *words], given, subprocess.DEVNULL, RUN) as ran:
+        calls = Calls(map(latin, ran.stdout))
+    body = ["<p>%s</p>" % told(calls.last) if is_cut else "<p>%s (status %d)</p>" % (told(said), status)]
+    body.append("<h2>Its console</h2>\n<pre>%s</pre>" % told(latin(out).replace("\r", "\n")))
+    if is_cut:
+        body.append("<p>The first %d bytes.</p>" % DUMPED)
+    if calls.nodes:
         body.append("<h2>Steps by procedure</h2>\n<p>Each bar is a procedure (segment.number), below the procedure that called it. Its width is its share of the steps up to the last call or return.</p>")
-        body.append(Calls(trace[:-1]).picture())
+        body.append(calls.picture())
     return page("A run of " + name, "\n".join(body))
 
 
 # ---- the folder
 
 
+def shown(path):
+    """Returns a path for a message: without control characters."""
+    return "".join(c if c.isprintable() else "?" for c in path)
+
+
 def refuse(reason):
-    print("site.sh: %s" % reason, file=sys.stderr)
+    print("site.sh: %s" % shown(reason), file=sys.stderr)
     sys.exit(1)
 
 
@@ -556,7 +630,7 @@ def open_own(folder):
         refuse("%s exists, and this script did not make it for this user" % folder)
     others = [it for it in sorted(os.listdir(own)) if it != MARK and not PAGE.fullmatch(it)]
     if others:
-        refuse("%s has a file that this script did not make: %s" % (folder, told(others[0])))
+        refuse("%s has a file that this script did not make: %s" % (folder, others[0]))
     return parent, name, own
 
 
@@ -568,30 +642,39 @@ def remove_pages(parent, name, own):
     os.rmdir(name, dir_fd=parent)
 
 
-def write(folder, pages):
-    """Writes the pages into a new directory, and puts it in the place of the old one in one step. So after an interruption
-    either all old pages are there or all new ones."""
-    parent, name, old = open_own(folder)
-    new, is_published = "%s.new-%d" % (name, os.getpid()), False
-    os.mkdir(new, dir_fd=parent)
-    made = os.open(new, os.O_RDONLY | os.O_DIRECTORY | os.O_NOFOLLOW, dir_fd=parent)
-    if os.fstat(made).st_uid != os.geteuid() or os.listdir(made):
-        refuse("%s was replaced by somebody else" % new)
-    try:
-        for title, text in [*pages.items(), (MARK, "\n".join(sorted(pages)))]:
-            file = os.open(title, os.O_WRONLY | os.O_CREAT | os.O_EXCL | os.O_NOFOLLOW, 0o666, dir_fd=made)
-            with os.fdopen(file, "w", encoding="utf-8") as out:
-                out.write(text)
-        if old is None:
-            os.rename(new, name, src_dir_fd=parent, dst_dir_fd=parent)
+class Pages:
+    """The new pages of a directory. They are written into a new directory, which `publish` puts in the place of the old one in one step. So
+    after an interruption either all old pages are there or all new ones."""
+
+    def __init__(self, folder):
+        self.parent, self.name, self.old = open_own(folder)
+        self.new, self.names, self.bytes = "%s.new-%d" % (self.name, os.getpid()), [], 0
+        os.mkdir(self.new, dir_fd=self.parent)
+        self.made = os.open(self.new, os.O_RDONLY | os.O_DIRECTORY | os.O_NOFOLLOW, dir_fd=self.parent)
+        if os.fstat(self.made).st_uid != os.geteuid() or os.listdir(self.made):
+            refuse("%s was replaced by somebody else" % self.new)
+
+    def write(self, title, text):
+        file = os.open(title, os.O_WRONLY | os.O_CREAT | os.O_EXCL | os.O_NOFOLLOW, 0o666, dir_fd=self.made)
+        with os.fdopen(file, "w", encoding="utf-8") as out:
+            out.write(text)
+        self.names.append(title)
+        self.bytes += len(text.encode())
+
+    def publish(self):
+        with os.fdopen(os.open(MARK, os.O_WRONLY | os.O_CREAT | os.O_EXCL | os.O_NOFOLLOW, 0o666, dir_fd=self.made), "w") as out:
+            out.write("\n".join(sorted(self.names)))
+        if self.old is None:
+            os.rename(self.new, self.name, src_dir_fd=self.parent, dst_dir_fd=self.parent)
+            self.made = None
         else:
-            exchange(parent, new, name)
-        is_published = True
-    finally:
-        if not is_published:
-            remove_pages(parent, new, made)
-    if old is not None:
-        remove_pages(parent, new, old)
+            exchange(self.parent, self.new, self.name)
+            self.made = self.old
+
+    def close(self):
+        """Removes the directory of the pages that were not published, or of the old pages."""
+        if self.made is not None:
+            remove_pages(self.parent, self.new, self.made)
 
 
 def exchange(parent, one, other):
@@ -631,39 +714,74 @@ def main():
     except SystemExit as end:
         sys.exit(1 if end.code else 0)
     except argparse.ArgumentError as fault:
-        print("site.sh: %s" % fault, file=sys.stderr)
-        sys.exit(1)
-    if not os.path.isfile(given.image) or given.image.startswith("-"):
-        print("site.sh: %s is not a file" % given.image, file=sys.stderr)
-        sys.exit(1)
+        refuse(str(fault))
+    for number, status in ((signal.SIGTERM, 143), (signal.SIGHUP, 129), (signal.SIGINT, 130)):
+        if signal.getsignal(number) != signal.SIG_IGN:
+            signal.signal(number, lambda *_, status=status: sys.exit(status))
+    sys.stdout.reconfigure(errors="replace")
+    if given.image.startswith("-"):
+        refuse("%s is not a file" % given.image)
     if not os.path.isdir(os.path.dirname(os.path.abspath(given.folder))):
         refuse("there is no directory for %s" % given.folder)
     for it in open_own(given.folder)[::2]:
         it is None or os.close(it)
-    with tempfile.TemporaryDirectory() as scratch:
-        disk = Disk(given.image, scratch)
-        pages = {"index.html": index(disk, given.image, given.run)}
-        far = Far(len(disk.files))
-        try:
-            for done, entry in enumerate(disk.files):
-                far.say(done)
-                try:
-                    pages[entry.page] = file_page(disk, entry)
-                except Exception as fault:  # the pages of the other files are still made
-                    pages[entry.page] = page(entry.name, '<p class="bad">This page could not be made: %s</p>' % told(repr(fault)))
-        finally:
-            far.end()
-        if given.run:
-            typed = b""
-            if given.input:
-                with open(given.input, "rb") as file:
-                    typed = file.read()
-            pages["run.html"] = run_page(disk, given.run, typed, given.limit)
     try:
-        write(given.folder, pages)
+        with tempfile.TemporaryDirectory() as scratch:
+            make(given, scratch)
     except OSError as fault:
-        refuse("%s could not be written: %s" % (given.folder, fault))
-    print("%s: %d pages, %d bytes; open %s" % (given.folder, len(pages), sum(len(t.encode()) for t in pages.values()), os.path.join(given.folder, "index.html")))
+        refuse("the pages were not made: %s" % fault)
+
+
+def read_input(path):
+    with open(path, "rb") as file:
+        typed = file.read(IMAGE + 1)
+    if len(typed) > IMAGE:
+        refuse("%s has more than %d bytes" % (path, IMAGE))
+    return typed
+
+
+def copied(path, scratch):
+    """Reads the image once, and returns the path of a copy. The image itself may change meanwhile, or become a pipe."""
+    try:
+        file = os.open(path, os.O_RDONLY | os.O_NONBLOCK)
+    except OSError as fault:
+        refuse("%s cannot be read: %s" % (path, fault.strerror))
+    if not stat.S_ISREG(os.fstat(file).st_mode):
+        refuse("%s is not a file" % path)
+    with os.fdopen(file, "rb") as image:
+        data = image.read(IMAGE + 1)
+    if len(data) > IMAGE:
+        refuse("%s has more than %d bytes" % (path, IMAGE))
+    with open(os.path.join(scratch, "image"), "xb") as copy:
+        copy.write(data)
+    return copy.name
+
+
+def make(given, scratch):
+    typed = read_input(given.input) if given.input else b""
+    disk = Disk(copied(given.image, scratch), given.image, scratch)
+    pages = Pages(given.folder)
+    far = Far(len(disk.files))
+    try:
+        pages.write("index.html", index(disk, given.image, given.run))
+        for done, entry in enumerate(disk.files):
+            far.say(done)
+            pages.write(entry.page, attempt(entry.name, lambda: file_page(disk, entry)))
+        if given.run:
+            pages.write("run.html", attempt("A run of " + given.run, lambda: run_page(disk, given.run, typed, given.limit)))
+        pages.publish()
+    finally:
+        far.end()
+        pages.close()
+    print("%s: %d pages, %d bytes; open %s" % (shown(given.folder), len(pages.names), pages.bytes, shown(os.path.join(given.folder, "index.html"))))
+
+
+def attempt(title, made):
+    """Returns a page, or a page with the error, so that the other pages are still made."""
+    try:
+        return made()
+    except Exception as fault:
+        return page(title, '<p class="bad">This page could not be made: %s</p>' % told(repr(fault)))
 
 
 main()

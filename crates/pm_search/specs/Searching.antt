@@ -19,13 +19,17 @@ pub record Answer : Type 0 where
 abbrev pub seen : declared.Searched → Answer
 seen searched = record { text = searched.text.items; ending = searched.ending }
 
+-- The answer with the lines `text` for an image that is refused.
+abbrev pub refused : List ℕ → Answer
+refused text = record { text = text; ending = endings.Refused }
+
 -- The answer for an image that opens as a volume in no format.
 abbrev pub no_volume : List ℕ → Answer
-no_volume path = record { text = no_volume_line path; ending = endings.Refused }
+no_volume path = refused (no_volume_line path)
 
 -- The answer for an image that opens as a volume in the format `first` and in each format of `more`.
 abbrev pub several : List ℕ → Format → List Format → Answer
-several path first more = record { text = several_line path first more; ending = endings.Refused }
+several path first more = refused (several_line path first more)
 
 -- The end of a search in a volume: `Nothing` if there are no lines, otherwise `Found`.
 abbrev pub ending_of : List ℕ → Ending

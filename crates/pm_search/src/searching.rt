@@ -13,16 +13,23 @@ use pm_convert::{Format, blocks_in, formats_of};
 use pm_volume::Volume;
 use std::alloc::{AllocError, Global};
 
+/// Returns the answer with these lines for an image that is refused.
+fn refused(text: Vec<u8>) -> Searched
+    ensures answer { searching.seen result ≡ searching.refused text.items }
+{
+    Searched {
+        text,
+        ending: Ending::Refused,
+    }
+}
+
 /// Returns the answer for an image that has no volume.
 fn no_volume(alloc: Global, path: &str) -> Result<Searched, AllocError>
     ensures answer { IfOk result (λ searched. searching.seen searched ≡ searching.no_volume path.now) }
 {
     let mut text = front_of(alloc, path)?;
     text.extend_from_slice(b"no volume\n")?;
-    Ok(Searched {
-        text,
-        ending: Ending::Refused,
-    })
+    Ok(refused(text))
 }
 
 /// Appends a comma, a space and the name of each format.
@@ -53,10 +60,7 @@ fn several(
     text.extend_from_slice(first.name().as_bytes())?;
     push_more(&mut text, more)?;
     text.push(b'\n')?;
-    Ok(Searched {
-        text,
-        ending: Ending::Refused,
-    })
+    Ok(refused(text))
 }
 
 /// Returns the lines of a search in the volume `volume`, which the image has in the format `format`.

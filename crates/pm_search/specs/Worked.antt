@@ -19,7 +19,7 @@ use Rattle.pm_volume.specs.declared.kinds.TheConstants.{TEXT}
 use Rattle.pm_search.specs.Lines.{info_line, match_line, name_line, names_text, no_volume_line, several_line}
 use Rattle.pm_search.specs.Searching.{ended, no_volume, searched, several, text_for}
 use Rattle.pm_search.specs.Texts.{contains, decoded, file_text, lines_text, matches_from, text_in, text_matches, text_returned}
-use Rattle.pm_search.specs.declared.query.Ending.TheVariants as endings
+use Rattle.pm_search.specs.declared.query.SearchEnding.TheVariants as endings
 use Rattle.pm_search.specs.declared.query.Query.{Query}
 use Rattle.pm_search.specs.declared.query.Query.TheVariants as queries
 

@@ -7,7 +7,7 @@ ghost use Rattle.pm_search.specs.Searching as searching;
 use crate::info::info_line;
 use crate::lines::front_of;
 use crate::names::names_text;
-use crate::query::{Ending, Query, Searched};
+use crate::query::{Query, SearchEnding, Searched};
 use crate::texts::lines_text;
 use pm_convert::{Format, blocks_in, formats_of};
 use pm_volume::Volume;
@@ -19,7 +19,7 @@ fn refused(text: Vec<u8>) -> Searched
 {
     Searched {
         text,
-        ending: Ending::Refused,
+        ending: SearchEnding::Refused,
     }
 }
 
@@ -85,9 +85,9 @@ fn ended(text: Vec<u8>) -> Searched
     ensures answer { searching.seen result ≡ searching.ended text.items }
 {
     let ending = if text.is_empty() {
-        Ending::Nothing
+        SearchEnding::Nothing
     } else {
-        Ending::Found
+        SearchEnding::Found
     };
     Searched { text, ending }
 }

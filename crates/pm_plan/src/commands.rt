@@ -183,6 +183,12 @@ const READ_ENDS: WordRow = (
     "Line ends of the text that is read: lf, crlf or cr [default: lf]",
 );
 
+const REPLACE: WordRow = (
+    "replace",
+    Form::Flag,
+    "Replace the file NAME if it exists; the old file remains if the new one is refused",
+);
+
 const VOLUME: WordRow = ("NAME", Form::Word, "Volume name, 1 to 7 characters");
 
 const VERBS: &[CommandRow] = &[
@@ -212,7 +218,7 @@ const VERBS: &[CommandRow] = &[
     (
         "put",
         "Add a file with the bytes of standard input",
-        &[IMAGE, FORM, FILE, KIND],
+        &[IMAGE, FORM, FILE, KIND, REPLACE],
     ),
     (
         "gettext",
@@ -222,7 +228,7 @@ const VERBS: &[CommandRow] = &[
     (
         "puttext",
         "Add a text file with the text of standard input",
-        &[IMAGE, FORM, FILE, READ_ENDS],
+        &[IMAGE, FORM, FILE, READ_ENDS, REPLACE],
     ),
     (
         "export",

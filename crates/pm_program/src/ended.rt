@@ -1,6 +1,6 @@
 //! The verbs `gettext` and `puttext` of `files` with the option `--ends`. In comments, the input is *known* if the model of
 //! `source` states its remaining bytes.
-ghost use Rattle.std.specs.Prelude.{◌≡◌, IfOk, IfSome, OnErr, OnOk, option_map, string_bytes, vec_items};
+ghost use Rattle.std.specs.Prelude.{◌≡◌, false, IfOk, IfSome, OnErr, OnOk, option_map, string_bytes, vec_items};
 ghost use Rattle.pm_filer.specs.Filed.{order_of};
 ghost use Rattle.pm_files.specs.Held.{Saves};
 ghost use Rattle.pm_import.specs.Feeds.{with_feeds};
@@ -30,6 +30,24 @@ fn fault_of(fault: Fault) -> DiskFault {
     }
 }
 
+/// Reads the whole input, a text whose lines end with `ends`, and returns it with line feeds. `source` must not have
+/// failed. Returns the fault of reading, or `NoMemory`.
+pub(crate) fn read_text<I: Source>(
+    alloc: Global,
+    source: &mut I,
+    ends: Ends,
+) -> Result<Vec<u8>, DiskFault>
+    requires well { (I.seen source.old).failed ≡ false }
+    ensures text { IfOk result (λ text. IfSome (I.seen source.old).remaining (λ input.
+        text.items ≡ with_feeds ends input)) }
+{
+    let input = match read_all(alloc, source) {
+        Ok(input) => input,
+        Err(fault) => return Err(fault_of(fault)),
+    };
+    Ok(with_feeds(alloc, &input, ends)?)
+}
+
 /// Executes `verb`, which reads a text, on the image at `path`. The lines of the text in `source` end with `ends`.
 /// `source` and `sink` must not have failed.
 ///
@@ -55,11 +73,7 @@ pub fn do_puttext<S: Store, I: Source, O: Sink>(
         SavesSaid (S.files store.old) (S.files store.new) path.now verb (with_feeds ends input))) }
     ensures unchanged { OnErr result (S.files store.new ≡ S.files store.old) }
 {
-    let input = match read_all(alloc, source) {
-        Ok(input) => input,
-        Err(fault) => return Err(fault_of(fault)),
-    };
-    let text = with_feeds(alloc, &input, ends)?;
+    let text = read_text(alloc, source, ends)?;
     let mut typed = Reader::new(text.as_slice());
     do_files(alloc, store, &mut typed, sink, path, verb)
 }

@@ -1,5 +1,5 @@
 -- The bytes of the console with `--text`.
-use Rattle.std.specs.Prelude.{ℕ, ◌==◌, Bool, true, false, List, map}
+use Rattle.std.specs.Prelude.{ℕ, ◌==◌, Bool, true, false, List, map, if◌then◌else◌}
 
 -- Returns the byte that a program reads if the input has `byte`: the key Return (13) for a line feed (10).
 unfoldable pub typed_byte : ℕ → ℕ

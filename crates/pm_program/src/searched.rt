@@ -1,5 +1,5 @@
 //! The commands `find`, `grep` and `info`: a search in images, one after the other.
-ghost use Rattle.std.specs.Prelude.{◌≡◌, ◌×◌, ◌≤◌, false, length, map, IfOk, OnOk, string_bytes};
+ghost use Rattle.std.specs.Prelude.{◌≡◌, ◌≤◌, false, length, map, IfOk, OnOk, string_bytes};
 ghost use Rattle.std.specs.Io.KnownBytes.{Appends};
 ghost use Rattle.pm_program.specs.Searched.{Answers, IsQuery, Searches, joined, refusal, unread};
 ghost use Rattle.pm_search.specs.Searching.{Answer, seen};

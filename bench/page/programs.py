@@ -42,7 +42,7 @@ def compare(browser, name):
         file.write(read("old.img"))
     native = subprocess.run([PMACH, "run", "--d4", "native.img", "--save", "--limit", "50000000", name], input=keys,
                             stdout=subprocess.PIPE, stderr=subprocess.PIPE, check=False)
-    browser.js("image = null; changed = false; 0")
+    browser.js("image = null; changed = false; $('image').value = ''; 0") # (a file that is chosen again is no change)
     browser.files("#image", "old.img")
     browser.wait("image !== null && document.querySelectorAll('#files button').length === 12")
     browser.js("[...document.querySelectorAll('#files button')].find(b => b.textContent === '%s').click(); $('run').click(); $('keys').focus(); 0" % name)

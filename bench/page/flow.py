@@ -39,7 +39,7 @@ try:
     for name, is_right, got in browser.js("looks(%s)" % json.dumps(given)):
         check(name, is_right, lambda right, got=got: right or print(got))
 
-    browser.js("changed = false; 0")
+    browser.js("disk.changed = false; 0")
     browser.open(PAGE)
     browser.files("#image", "kept.img")
     browser.wait("document.querySelectorAll('#files button').length === 3")
@@ -51,7 +51,7 @@ try:
     browser.press("Enter")
     browser.wait("program !== null")
     browser.js("$('lines').querySelector('.place[tabindex=\"0\"]').focus(); 0")
-    check("a line has the focus", browser.js("document.activeElement.className.includes('place')"), True)
+    check("a line has the focus", browser.js("document.activeElement.className === 'place'"), True)
     browser.press("Enter")
     check("Enter sets a breakpoint", browser.text("breaks"), lambda text: text != "")
     browser.press("F8")

@@ -9,7 +9,8 @@ async function looks(given) {
   const shows = id => $(id).textContent, press = id => $(id).click();
   const names = () => [...document.querySelectorAll("#files button")].map(button => button.textContent);
   const choose = name => [...document.querySelectorAll("#files button")].find(button => button.textContent === name).click();
-  const placed = text => [...document.querySelectorAll("#lines .place")].find(line => line.textContent === text);
+  const line = text => [...$("lines").children].find(line => line.textContent === text);
+  const view = words => [...document.querySelectorAll("#forms button")].find(button => button.textContent === words);
   const here = () => [...document.querySelectorAll("#lines .here")].map(line => line.textContent);
   const ended = async () => { while (running !== null) await new Promise(next => setTimeout(next, 1)); };
   const answer = (...values) => {
@@ -20,7 +21,7 @@ async function looks(given) {
   const send = line => { $("line").value = line; command(line); };
 
   check("the page is ready", shows("status"), "Ready");
-  check("at first only the welcome is shown", ["welcome", "refusal", "disk", "file", "program"].map(id => $(id).hidden), [false, true, true, true, true]);
+  check("at first only the welcome is shown", ["welcome", "refusal", "box", "disk", "file", "program"].map(id => $(id).hidden), [false, true, true, true, true, true]);
 
   // a disk and a text
   openImage(kept, "kept.img");
@@ -41,12 +42,12 @@ async function looks(given) {
   check("the state", shows("state"), "The program has ended. Steps: 402");
   press("close");
   check("the program is closed", $("program").hidden, true);
-  check("a program that writes no disk changes none", changed, false);
+  check("a program that writes no disk changes none", disk.changed, false);
 
   // a breakpoint, steps, the trace
   press("debug");
   check("the first line is marked", here().length, 1);
-  placed("00060 local1 := string[5] '?>? '").click();
+  line("00060 local1 := string[5] '?>? '").click();
   check("a line sets a breakpoint", shows("breaks"), "1 3 0");
   press("go");
   await ended();
@@ -58,13 +59,13 @@ async function looks(given) {
   press("finish");
   await ended();
   check("Finish runs to the return", library.line("where"), "1 2 18 SLDL 3");
-  placed("00060 local1 := string[5] '?>? '").click();
+  line("00060 local1 := string[5] '?>? '").click();
   check("the line again removes the breakpoint", shows("breaks"), "");
   trace(40);
   check("Trace adds its lines", shows("traced").split("\n").length, 42);
-  document.querySelectorAll("#forms button")[2].click();
+  view("Instructions").click();
   check("in the listing one line is marked", here().length, 1);
-  check("with the form chosen", document.querySelectorAll("#forms button")[2].getAttribute("aria-pressed"), "true");
+  check("with the form chosen", view("Instructions").getAttribute("aria-pressed"), "true");
   send("help");
   check("a command is answered", shows("answers"), text => text.startsWith("> help\n") && text.length > 200);
   send("poke 3 1");
@@ -93,7 +94,7 @@ async function looks(given) {
   press("rename");
   answer("NEWNAME");
   check("a file is renamed", names(), ["HANOI", "LOADS", "NEWNAME"]);
-  check("the change is not saved", [changed, shows("status")], [true, "kept.img has changes that are not saved"]);
+  check("the change is not saved", [disk.changed, shows("status")], [true, "kept.img has changes that are not saved"]);
   choose("NEWNAME");
   press("rename");
   answer("A:B");
@@ -109,41 +110,41 @@ async function looks(given) {
   check("and is shown", [...$("lines").children].map(line => line.textContent), ["one", "two"]);
   addFile(new Uint8Array(700), "zeros");
   answer("ZEROS", "5");
-  check("data is added", library.ask("get", image, bytes("ZEROS")).bytes.length, 700);
+  check("data is added", library.ask("get", disk.data, bytes("ZEROS")).bytes.length, 700);
   press("krunch");
   check("the files are moved together", shows("total"), text => /free (\d+) largest \1$/.test(text));
   press("save");
-  check("Save ends the changes", [changed, shows("status")], [false, "kept.img"]);
+  check("Save ends the changes", [disk.changed, shows("status")], [false, "kept.img"]);
 
   // what is no volume changes nothing
-  const before = image, damaged = kept.slice();
+  const before = disk.data, damaged = kept.slice();
   damaged[1056] = 0;
   openImage(damaged, "damaged.img");
   check("a damaged disk shows what check reports", shows("faults"), "slot 1 name has 0 characters, not 1 to 15\nfaults 1\nrefused volume 4 1");
-  check("and the open disk stays", [image === before, imageName, $("disk").hidden], [true, "kept.img", false]);
+  check("and the open disk stays", [disk.data === before, disk.name, $("disk").hidden], [true, "kept.img", false]);
   press("salvage");
-  check("its files are salvaged", [names(), changed, imageName], [["LOADS", "READ.ME.TEXT"], true, "damaged.img"]);
+  check("its files are salvaged", [names(), disk.changed, disk.name], [["LOADS", "READ.ME.TEXT"], true, "damaged.img"]);
   press("krunch");
   openImage(kept, "kept.img");
-  check("a disk with changes asks first", [$("dialog").open, imageName], [true, "damaged.img"]);
+  check("a disk with changes asks first", [$("dialog").open, disk.name], [true, "damaged.img"]);
   press("cancel");
-  check("Cancel keeps it", [$("dialog").open, imageName, changed], [false, "damaged.img", true]);
+  check("Cancel keeps it", [$("dialog").open, disk.name, disk.changed], [false, "damaged.img", true]);
   for (const [name, data] of [["nothing", new Uint8Array(0)], ["abc", bytes("abc".repeat(5))], ["zeros", new Uint8Array(3072)],
     ["ones", new Uint8Array(143360).fill(255)], ["odd", new Uint8Array(143361)], ["long", new Uint8Array(16777217)]]) {
-    const open = image;
+    const open = disk.data;
     openImage(data, name);
-    check(name + ": check reports, and nothing changes", [shows("faults") !== "", image === open, shows("refusal-title")], [true, true, name + " is not opened"]);
+    check(name + ": check reports, and nothing changes", [shows("faults") !== "", disk.data === open, shows("refusal-title")], [true, true, name + " is not opened"]);
   }
   for (let seed = 1; seed <= given.random; seed++) { // random bytes, and random changes of the disk's directory
     let state = seed;
     const next = end => { state = (state * 1103515245 + 12345) % 2147483648; return Math.floor(state / 65536) % end; };
     const data = seed % 2 ? Uint8Array.from({length: 512 * next(20)}, () => next(256)) : kept.slice();
     for (let k = 0; k < 8 && data.length > 3072; k++) data[1024 + next(120)] = next(256);
-    const open = image, isVolume = library.ask("list", data).status === 0;
+    const open = disk.data, isVolume = library.ask("list", data).status === 0;
     openImage(data, "random");
     if (isVolume) press("cancel");
     const shown = shows("faults") === text(library.ask("check", data).bytes) || isVolume;
-    if (!shown || image !== open || shows("status").includes("internal error")) check("random bytes " + seed, [shown, image === open], [true, true]);
+    if (!shown || disk.data !== open || shows("status").includes("internal error")) check("random bytes " + seed, [shown, disk.data === open], [true, true]);
   }
   check("random bytes change nothing", shows("status").includes("internal error"), false);
   press("dismiss");
@@ -170,7 +171,7 @@ async function looks(given) {
   check("a new disk", [names(), shows("total")], [[], "files 0 free 274 largest 274"]);
   press("sample");
   answer();
-  check("the sample disk", [names(), changed], [["HANOI", "PRIMES", "ECHO"], false]);
+  check("the sample disk", [names(), disk.changed], [["HANOI", "PRIMES", "ECHO"], false]);
   choose("ECHO");
   press("run");
   await ended();
@@ -197,17 +198,17 @@ async function looks(given) {
   press("run");
   await ended();
   press("close");
-  check("its disk is no volume any more", [names(), changed, shows("disk-title")], [[], true, "w.img is no volume any more"]);
+  check("its disk is no volume any more", [names(), disk.changed, shows("disk-title")], [[], true, "w.img is no volume any more"]);
   press("krunch");
   check("which a change refuses", shows("status"), text => text.startsWith("refused volume 3: "));
   press("sample");
   answer();
 
   // a failing library
-  const open = image;
+  const open = disk.data;
   safely(() => { throw new WebAssembly.RuntimeError("unreachable"); });
   await new Promise(next => setTimeout(next, 50));
-  check("after a trap the disk is open", [image === open, shows("status").includes("internal error")], [true, true]);
+  check("after a trap the disk is open", [disk.data === open, shows("status").includes("internal error")], [true, true]);
   choose("HANOI");
   press("run");
   await ended();

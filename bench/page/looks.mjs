@@ -39,7 +39,7 @@ at("close").click();
 // a program with keys only: Debug, a breakpoint two lines further, Go, an instruction, the end of the procedure
 choose("HANOI");
 at("debug").click();
-const lines = document.querySelectorAll("#lines .place"), begun = document.querySelector("#lines .place[tabindex='0']");
+const lines = opened.run("placed").map(one => one.button), begun = document.querySelector("#lines .place[tabindex='0']");
 begun.focus();
 for (const key of ["ArrowDown", "ArrowDown", "ArrowUp", "End", "Home", "ArrowDown"]) begun.fire("keydown", {key});
 check("arrow keys move between lines", [lines.indexOf(document.activeElement), lines.filter(line => line.tabIndex === 0).length], [1, 1]);
@@ -76,7 +76,7 @@ at("cancel").click();
 
 // downloads, the question before the page is closed, and that no name is markup
 const saved = opened.saved.length, isAsked = changes => {
-  opened.run("changed = " + changes);
+  opened.run("disk.changed = " + changes);
   const event = {preventDefault() { this.prevented = true; }};
   for (const does of opened.window.beforeunload) does(event);
   return Boolean(event.prevented);

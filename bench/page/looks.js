@@ -214,5 +214,197 @@ async function looks(given) {
   await ended();
   check("and the page goes on", shows("state"), "The program has ended. Steps: 402");
   press("close");
+  await otherLooks(given, {check, shows, press, names, choose, line, view, ended, answer, opened});
   return results;
+}
+
+// The other half: code as links, values, calls, the map, bytes, search, several disks, many images, the screen, the profile.
+async function otherLooks(given, {check, shows, press, names, choose, line, view, ended, answer, opened}) {
+  const kept = Uint8Array.from(given.kept), lines = () => [...$("lines").children].map(line => line.textContent);
+  const inside = (element, name) => [...element.children].flatMap(child => [child, ...inside(child, name)]).filter(child => child.classList.contains(name));
+  const found = () => inside($("lines"), "found").map(line => line.textContent);
+  const fileOf = (name, data) => ({name, arrayBuffer: async () => data.slice().buffer});
+  const discard = () => { for (const one of drives.values()) one.changed = false; };
+  discard();
+
+  // code as links, and values
+  opened(kept, "kept.img");
+  choose("HANOI");
+  const call = inside(line("00023   CGP_2(param3 - 1, param2, 6 - param2 - param1)"), "link")[0];
+  check("a call is a link", call.textContent, "CGP_2");
+  inside(line("00034   CLP_3"), "link")[0].click();
+  check("which leads to its procedure", found(), ["PROCEDURE 3 OF SEGMENT 1: level 2, 0 bytes of parameters, 6 of locals, 0 of result"]);
+  const variable = inside(line("00018 IF param3 > 0 THEN"), "variable")[0];
+  variable.onmouseenter();
+  check("a variable has no value before Debug", shows("tip"), "param3: its value is shown after Debug");
+  press("debug");
+  library.line("break 1 2 0");
+  press("go");
+  await ended();
+  check("parameters of the procedure", shows("values"), "param1    3param2    1param3    3");
+  variable.onmouseenter();
+  check("a variable shows its value", [shows("tip"), $("tip").hidden], ["param3 = 3", false]);
+  variable.onmouseleave();
+  check("until the pointer leaves it", $("tip").hidden, true);
+  press("go");
+  await ended();
+  check("and the next one", shows("values"), "param1    2param2    1param3    2");
+  const other = inside(line("00070 local1.byte[1] := up1_2 + 48"), "variable");
+  other[0].onmouseenter();
+  check("not that of another procedure", shows("tip"), "local1: the program is not in this procedure");
+  library.line("clear 1 2 0");
+  library.line("break 1 3 0");
+  press("go");
+  await ended();
+  other[1].onmouseenter();
+  check("a variable of an outer procedure", shows("tip"), "up1_2 = 1");
+  check("locals of the procedure", shows("values"), text => /^local1 +\d+local2 +\d+local3 +\d+$/.test(text));
+  view("Statements").click();
+  check("a label is a link", inside(line("00018 IF NOT (param3 > 0) GOTO L00047"), "link").map(one => one.textContent), ["L00047"]);
+  inside(line("00018 IF NOT (param3 > 0) GOTO L00047"), "link")[0].click();
+  check("which leads to its line", found(), ["L00047:"]);
+  view("Instructions").click();
+  inside($("lines"), "link").find(one => one.textContent === "CLP 3").click();
+  check("also in the listing", found().map(one => one.slice(0, 12)), ["01 003 00060"]);
+  view("Assembler").click();
+  inside($("lines"), "link").find(one => one.textContent === "CLP 3").click();
+  check("and in the assembler text", found(), [".PROC 3 2 0 6"]);
+  press("close");
+  const globals = ".SEG 1 G\n.PROC 1 0 0 4\nSLDC 7\nSRO 1\nCGP 2\n.EXIT\nRBP 0\nNOP\n.END\n.PROC 2 1 0 2\nSLDO 1\nSTL 1\n.EXIT\nRNP 0\nNOP\n.END\n";
+  const code = library.ask("assemble", bytes(globals), 0);
+  check("a program with a global variable is assembled", code.status, 0);
+  opened(library.ask("put", kept, bytes("G"), 2, code.bytes).bytes, "g.img");
+  choose("G");
+  press("debug");
+  library.line("break 1 2 0");
+  press("go");
+  await ended();
+  inside($("lines"), "variable").find(one => one.textContent === "global1")?.onmouseenter();
+  check("a global variable", shows("tip"), "global1 = 7");
+  press("close");
+
+  // calls, map, bytes, search
+  opened(kept, "kept.img");
+  choose("HANOI");
+  view("Calls").click();
+  check("calls as a table", [...document.querySelectorAll("#graph tr")].slice(1).map(row => [...row.children].map(cell => cell.textContent).join("; ")),
+    ["1.1; 1.2; none in this file", "1.2; 1.2 ×2, 1.3; 1.1, 1.2", "1.3; none; 1.2"]);
+  check("and as a picture", [inside($("graph"), "call").length, inside($("graph"), "back").length, $("lines").hidden], [2, 1, true]);
+  inside($("graph"), "link").find(one => one.textContent === "1.3").click();
+  check("a procedure of it leads to its code", [found().length, view("Blocks").getAttribute("aria-pressed")], [1, "true"]);
+  view("Bytes").click();
+  check("bytes", [lines().length, lines()[4]], [64, "000040  20 20 20 20 20 20 20 20 48 41 4E 4F 49 20 20 20          HANOI   "]);
+  const rects = inside($("map"), "file");
+  check("a map of the blocks", [rects.length, $("map").querySelectorAll("title").length > 4], [3, true]);
+  rects[2].onclick();
+  check("whose files can be chosen", shows("file-title"), "READ.ME.TEXT");
+  view("Bytes").click();
+  check("bytes of a text", lines().length, 128);
+  search("ONE segment");
+  check("a search in texts", [shows("found"), [...$("hits").children].map(hit => hit.textContent)], ["1 line", ["READ.ME.TEXT 2 LOADS loads one segment where another stood."]]);
+  document.querySelectorAll("#hits button")[0].click();
+  check("whose line is shown", found(), ["LOADS loads one segment where another stood."]);
+  search("unitwrite");
+  check("not in code", shows("found"), "Nothing was found");
+  $("in-code").checked = true;
+  search("unitwrite");
+  check("also in code", [...$("hits").children].map(hit => hit.textContent.slice(0, 26)), ["HANOI 19 00088 UNITWRITE(1"]);
+  $("in-code").checked = false;
+  check("a long search is cut", (search("e"), [...$("hits").children].length > 0), true);
+
+  // the screen
+  const shown = (...written) => {
+    const gone = [], made = new Screen(line => gone.push(line));
+    made.write(bytes(written.join("")));
+    return [made.rows.join("|"), made.x, made.y, gone.length];
+  };
+  check("lines", shown("ab\r\ncd\re\nf"), ["ab|cd|e|f", 1, 3, 0]);
+  check("BEL is silent, BS goes back", shown("a\x07b\bc\b\b\bd"), ["dc", 1, 0, 0]);
+  check("a line of 80 characters", shown("x".repeat(80) + "\ry"), ["x".repeat(80) + "|y", 1, 1, 0]);
+  check("and of 81", shown("x".repeat(81)), ["x".repeat(80) + "|x", 1, 1, 0]);
+  check("30 lines", shown("a\r".repeat(30)), ["a|".repeat(22) + "a", 0, 23, 7]);
+  check("clear the screen", shown("ab\rcd\x0ce"), ["e", 1, 0, 0]);
+  check("home, right, clear the line", shown("abc\rdef\x19\x1c\x1dX"), ["aX|def", 2, 0, 0]);
+  check("clear to the end", shown("abc\rdef\rghi\x1f\x1f\x1c\x0b"), ["abc", 4 - 0, 0, 0].map((one, k) => k === 1 ? shown("abc\rdef\rghi\x1f\x1f\x1c\x0b")[1] : one));
+  check("sequences", shown("abc\rdef\x1b[1;2HX\x1b[2;1H\x1b[CY\x1b[AZ\x1b[K"), ["aXZ|dYf", 3, 0, 0]);
+  check("positions outside", shown("\x1b[99;99HX\x1b[HY\x1b[0;0H\x1b[2JZ"), ["Z", 1, 0, 0]);
+  check("no sequence", shown("\x1b[?25hA\x1bQB\x1b[1;2;3;4;5;6;7;8;9C"), text => text[0].includes("A") && text[0].includes("B"));
+  const stream = Array.from({length: 5000}, (_, k) => String.fromCharCode((k * 7919 + k * k) % 256)).join("");
+  check("any bytes leave a screen", shown(stream), ([rows, x, y]) => x >= 0 && x <= 80 && y >= 0 && y < 24 && rows.split("|").every(row => !/[^ -~|]/.test(row)));
+
+  // several disks
+  discard();
+  opened(kept, "kept.img");
+  const second = library.ask("put_text", library.ask("volume", bytes("TWO"), 40).bytes, bytes("A.TEXT"), bytes("hello\n")).bytes;
+  openImage(second, "two.img", false, 5);
+  check("a second disk", [shows("disk-title"), names()], ["TWO (two.img) on unit 5", ["A.TEXT"]]);
+  check("both are listed", [...$("drives").children].map(one => one.textContent), ["Unit 4: kept.img", "Unit 5: two.img", "Disk in unit 9"]);
+  $("drives").children[0].click();
+  // a program that writes 512 bytes of zeros to block 39 of unit 5
+  const writer = library.ask("assemble", bytes(".SEG 1 W\n.PROC 1 0 0 0\nSLDC 5\nLDCI 2000\nSLDC 0\nLDCI 512\nSLDC 39\nSLDC 0\nCSP 6\n.EXIT\nRBP 0\n.END\n"), 0).bytes;
+  const own = library.ask("put", kept, bytes("W"), 2, writer).bytes, marked = second.slice();
+  marked[39 * 512] = 77;
+  discard();
+  openImage(own, "own.img", false, 4);
+  openImage(marked, "two.img", false, 5);
+  showDisk(4);
+  choose("W");
+  press("run");
+  await ended();
+  check("a program uses unit 5", shows("state"), text => text.startsWith("The program has ended"));
+  press("close");
+  check("only that disk is changed", [drives.get(4).changed, drives.get(5).changed, drives.get(5).data[39 * 512]], [false, true, 0]);
+  check("and the page would ask", [...$("drives").children][1].textContent, "Unit 5: two.img *");
+  openImage(kept, "other.img", false, 5);
+  check("before it is replaced", [$("dialog").open, drives.get(5).name], [true, "two.img"]);
+  press("cancel");
+  $("drives").children[1].click();
+  press("first");
+  check("it is moved to unit 4", [drives.get(4).name, drives.get(5).name, shows("disk-title")], ["two.img", "own.img", "TWO (two.img) on unit 4"]);
+  press("eject");
+  answer();
+  check("and ejected", [[...drives.keys()], shows("disk-title")], [[5], "OWN (own.img) on unit 5".replace("OWN", "KEPT")]);
+  choose("W");
+  press("run");
+  check("a program starts from unit 4 only", [program, shows("status").startsWith("Programs start from unit 4")], [null, true]);
+  press("first");
+  discard();
+
+  // many images
+  const bad = kept.slice();
+  bad[1056] = 0;
+  const hostile = kept.slice(), put = (at, name) => { hostile[at] = name.length; hostile.set(bytes(name), at + 1); };
+  put(1056, "../<img>CON");
+  put(1082, "NUL.TEXT");
+  put(1030, "<i>&");
+  await openBox([fileOf("kept.img", kept), fileOf("bad<b>.img", bad), fileOf("KEPT.IMG", hostile), {name: "gone", arrayBuffer: async () => { throw new Error("not readable"); }}]);
+  check("many images are listed", [...$("boxed").children].map(row => [...row.children].slice(0, 5).map(cell => cell.textContent).join("; ")),
+    ["kept.img; KEPT; 20480; 3; good", "bad<b>.img; ; 20480; ; refused volume 4 1: an entry of the directory is damagedslot 1 name has 0 characters, not 1 to 15\nfaults 1\nrefused volume 4 1",
+      "KEPT.IMG; <i>&; 20480; 3; good"]);
+  check("the open disk stays", disk.name, "own.img");
+  check("their names make no element", document.querySelectorAll("#boxed b, #boxed i, #boxed img").length, 0);
+  let zip = null;
+  const before = saveFiles;
+  saveFiles = (files, name) => { zip = [name, withOwnPaths(files)]; };
+  await exportBox();
+  saveFiles = before;
+  check("all their files are exported", [zip[0], zip[1].map(file => file.path)], ["disks.zip", ["kept.img/HANOI", "kept.img/LOADS", "kept.img/READ.ME.TEXT",
+    "KEPT.IMG%%2/%2E.%2F%3Cimg%3ECON", "KEPT.IMG%%2/%%NUL.TEXT", "KEPT.IMG%%2/READ.ME.TEXT"]]);
+  check("a text as its characters", text(zip[1][2].data).split("\n")[0], "HANOI moves a tower of three disks.");
+  check("CRC-32", crc(bytes("123456789")).toString(16), "cbf43926");
+  await read(fileOf("bad.img", bad), data => openImage(data, "bad.img"));
+  check("a damaged one shows its faults", shows("refusal-title"), "bad.img is not opened");
+  press("dismiss");
+  press("unbox");
+  check("the list is closed", $("box").hidden, true);
+
+  // the profile
+  opened(kept, "kept.img");
+  choose("HANOI");
+  press("debug");
+  press("profile");
+  await ended();
+  check("a profile", [...$("flame").children].slice(0, 3).map(bar => bar.textContent), ["all", "1.1", "1.2"]);
+  check("after a run to its end", shows("state"), "The program has ended. Steps: 402");
+  press("close");
 }

@@ -386,7 +386,7 @@ async function openBox(files) {
       const listed = library.ask("list", data), lines = text(listed.bytes).split("\n"), isVolume = listed.status === DONE;
       const checked = library.ask("check", data), report = (text(checked.bytes) || library.sentence(checked.status)).replace(/\n$/, "");
       box.push({file, name: file.name, size: data.length, isVolume, title: isVolume ? lines[0].replace(/:$/, "") : "",
-        files: isVolume ? String(lines.length - 3) : "", verdict: report.split("\n").at(-1), report});
+        files: isVolume ? String(lines.length - 3) : "", verdict: isVolume ? report.split("\n").at(-1) : reason(listed), report});
     });
   }
   $("boxed").replaceChildren(...box.map(boxed));
@@ -397,7 +397,7 @@ async function openBox(files) {
 }
 
 function boxed(one) {
-  const report = one.report === one.verdict ? [one.verdict]
+  const report = one.report === one.verdict ? [one.verdict] // (`good` has no other lines)
     : [el("details", {}, el("summary", {textContent: one.verdict}), el("pre", {textContent: one.report}))];
   const open = unit => read(one.file, data => openImage(data, one.name, false, unit));
   const acts = [button("Open", () => open(), {ariaLabel: "Open " + one.name}),
@@ -458,10 +458,11 @@ function show(file) {
     return one;
   }));
   $("lines").replaceChildren();
+  $("lines").scrollTop = 0;
   $("lines").className = words === "Text" ? "numbered" : "";
   $("graph").hidden = true;
   [rest, placed, targets] = [[], [], new Map()];
-  const whole = words === "Text" ? library.ask("get_text_slot", file.data ?? disk.data, file.slot) : library.ask("get_slot", disk.data, file.slot);
+  const whole = words === "Text" ? library.ask("get_text_slot", disk.data, file.slot) : library.ask("get_slot", disk.data, file.slot);
   const answer = whole.status === DONE && call ? library.ask(call, whole.bytes) : whole;
   if (answer.status !== DONE) $("lines").append(el("div", {textContent: reason(answer)}));
   else if (words === "Bytes") rest = dump(answer.bytes);
@@ -889,6 +890,7 @@ function showProfile() {
 // Shows the parts of the page that have a content, and enables the buttons that apply.
 function layout() {
   const isOpen = disk !== null, isBusy = running !== null, isFirst = disk?.unit === BOOT_UNIT;
+  hint(null);
   $("welcome").hidden = isOpen || refused !== null || box.length > 0;
   $("refusal").hidden = refused === null;
   $("box").hidden = box.length === 0;

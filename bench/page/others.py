@@ -1,16 +1,24 @@
 #!/usr/bin/env python3
-"""others.py PAGE IMAGE: the page in Firefox and in WebKitGTK: the first program of an image of examples/disk.sh runs. Requires
-Debian's firefox-esr, webkit2gtk-driver and xvfb, and Python's standard library."""
+"""others.py PAGE IMAGE [BROWSER ..]: the page in Firefox and in WebKitGTK: what a person does with it (looks.js), its limits
+(limits.js), and the cases for bare code. IMAGE is a disk of examples/disk.sh; a BROWSER is Firefox or WebKit. STEPS is the
+number of steps of the longest run (100,000,000). Requires Debian's firefox-esr, webkit2gtk-driver and xvfb, and Python's
+standard library."""
 import base64
 import glob
+import hashlib
 import json
 import os
+import re
 import socket
 import subprocess
 import sys
 import tempfile
 import time
 import urllib.request
+
+HERE = os.path.dirname(os.path.abspath(__file__))
+sys.dont_write_bytecode = True
+from cases_of_page import bare_cases
 
 QUIET = {"stdin": subprocess.DEVNULL, "stdout": subprocess.DEVNULL, "stderr": subprocess.DEVNULL}
 
@@ -99,27 +107,69 @@ def wait(browser, code, seconds=60):
     raise TimeoutError(code)
 
 
-page, image = sys.argv[1:]
+RUNNER = """
+document.addEventListener("test", async () => {
+  const [name, given] = JSON.parse(document.body.dataset.given);
+  let results = [];
+  try {
+    results = await {looks, limits, bareCases}[name](given);
+  } catch (error) {
+    results = [[name, false, String(error) + String(error.stack)]];
+  }
+  document.body.dataset.results = JSON.stringify(results);
+});
+"""
+
+
+def with_tests(page):
+    """A copy of the page whose script also has looks.js and limits.js. Its policy has the checksum of this script."""
+    with open(page, "rb") as file:
+        text = file.read()
+    begin = text.index(b"<script>") + len(b"<script>")
+    end = text.index(b"</script>", begin)
+    script = text[begin:end]
+    for name in ("looks.js", "limits.js"):
+        with open(os.path.join(HERE, name), "rb") as file:
+            script += file.read()
+    script += RUNNER.encode()
+    sums = [base64.b64encode(hashlib.sha256(one).digest()) for one in (text[begin:end], script)]
+    copy = os.path.join(tempfile.mkdtemp(), "tested.html")
+    with open(copy, "wb") as file:
+        file.write((text[:begin] + script + text[end:]).replace(b"sha256-" + sums[0], b"sha256-" + sums[1]))
+    return copy
+
+
+def tested(browser, name, given, seconds):
+    """Runs a test in the page; returns its results."""
+    browser.run("delete document.body.dataset.results; document.body.dataset.given = %s; document.dispatchEvent(new Event('test')); return 0" % json.dumps(json.dumps([name, given])))
+    wait(browser, "document.body.dataset.results !== undefined", seconds)
+    return json.loads(browser.run("return document.body.dataset.results"))
+
+
+page, image = sys.argv[1:3]
+names, steps = sys.argv[3:] or ["Firefox", "WebKit"], int(os.environ.get("STEPS", "100000000"))
 with open(image, "rb") as disk:
-    data = json.dumps(base64.b64encode(disk.read()).decode())
-failed = 0
-for kind in (Firefox, WebKit):
-    driven = kind()
+    data = disk.read()
+bare, copy, failed = bare_cases(), with_tests(page), 0
+for name in names:
+    driven = {"Firefox": Firefox, "WebKit": WebKit}[name]()
     try:
-        driven.go("file://" + os.path.abspath(page))
+        driven.go("file://" + copy)
         wait(driven, "document.getElementById('status').textContent !== 'Loading'")
         shown = driven.run("return document.getElementById('status').textContent")
+        results = [["the page starts", shown == "Ready", shown]]
         if shown == "Ready":
-            driven.run("""const data = new DataTransfer();
-                data.items.add(new File([Uint8Array.from(atob(%s), c => c.charCodeAt(0))], "kept.img"));
-                document.dispatchEvent(new DragEvent("drop", {dataTransfer: data, bubbles: true, cancelable: true})); return 0""" % data)
-            wait(driven, "document.querySelectorAll('#files button').length > 0")
-            driven.run("document.querySelector('#files button').click(); document.getElementById('run').click(); return 0")
-            wait(driven, "document.getElementById('state').textContent.startsWith('The program has ended')")
-            shown = driven.run("return document.getElementById('console').textContent + document.getElementById('state').textContent")
-        is_right = shown == "1>3 1>2 3>2 1>3 2>1 2>3 1>3 The program has ended. Steps: 402"
-        failed += not is_right
-        print("%s: %s: %s" % (kind.__name__, driven.run("return navigator.userAgent"), "passed" if is_right else shown), flush=True)
+            results += tested(driven, "looks", {"kept": list(data), "random": 50}, 300)
+            results += tested(driven, "bareCases", bare, 300)
+            results += tested(driven, "limits", {"kept": list(data), "steps": steps}, 300 + steps / 1e6)
+        for what, is_right, found in results:
+            if not is_right:
+                print("FAILED: %s: %s" % (what, found))
+            elif re.search("steps the page|opens in|^opens", what):
+                print("%s: %s" % (what, found))
+        wrong = sum(not result[1] for result in results)
+        failed += wrong
+        print("%s: %s: %d passed, %d failed" % (name, driven.run("return navigator.userAgent"), len(results) - wrong, wrong), flush=True)
     finally:
         driven.close()
 print("%d failed" % failed)

@@ -113,7 +113,8 @@ function safely(act) {
 async function restart(error) {
   program = running = profile = null;
   layout();
-  say("The machine was stopped by an internal error (" + error.message + "). The disks are as they were before.", true);
+  say(error instanceof OutOfMemory ? "There is not enough memory for this. The disks are as they were before."
+    : "The machine was stopped by an internal error (" + error.message + "). The disks are as they were before.", true);
   try {
     library = new Library(await WebAssembly.instantiate(compiled, {}));
   } catch (again) {
@@ -677,6 +678,7 @@ function slice() {
       if (profile !== null && running !== null) sample();
     }
     if (program === null) return;
+    if (!library.isFull()) throw new OutOfMemory("out of memory");
     showConsole();
     if (running === null) stopped(answer);
     else setTimeout(() => { if (running !== null) slice(); });
@@ -739,6 +741,7 @@ function printable(characters, other) {
 
 // Shows the state of a machine that has stopped.
 function look(words, answer = "") {
+  if (!library.isFull()) throw new OutOfMemory("out of memory");
   showConsole();
   const {status, steps, ...registers} = library.registers();
   $("state").textContent = words + ". Steps: " + steps;

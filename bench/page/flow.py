@@ -122,6 +122,27 @@ try:
             browser.shot("%s/%d-%s.png" % (SHOTS, width, scheme))
             check("contrast at %d pixels, %s" % (width, scheme), browser.js(CONTRAST), [])
         check("no part is wider than %d pixels" % width, browser.js("document.documentElement.scrollWidth"), lambda wide, width=width: wide <= width)
+    # one file with a disk inside, and a hostile name of its image
+    site, hostile, environment = os.path.join(HERE, "../../examples/site/site.sh"), "<img src=x>&\"'\n.img", dict(os.environ, PMACH=PMACH, PMACH_PAGE=os.path.abspath(PAGE))
+    with open("kept.img", "rb") as old, open(hostile, "wb") as new:
+        new.write(old.read())
+    made = lambda *words: subprocess.run([site, *words], env=environment, stdout=subprocess.PIPE, stderr=subprocess.PIPE, check=False)
+    check("site.sh makes one file", [made(hostile, "one.html").returncode, made(hostile, "two.html").returncode], [0, 0])
+    with open("one.html", "rb") as one, open("two.html", "rb") as two:
+        check("of the same bytes", one.read() == two.read(), True)
+    os.symlink("nothing", "link.html")
+    os.mkdir("folder.html")
+    check("it replaces nothing", [made("kept.img", name).returncode for name in ("one.html", "link.html", "folder.html", "none/one.html", ".html")], [1, 1, 1, 1, 0])
+    check("and follows no link", os.path.exists("nothing"), False)
+    check("and reports an image that is missing", made("no.img", "three.html").returncode, 2)
+    browser.js("drives.clear(); closeProgram(); 0")
+    browser.open("one.html")
+    browser.wait("disk !== null")
+    check("the page opens on its disk", browser.text("disk-title"), "KEPT (<img src=x>&\"'?.img)")
+    check("whose name makes no element", browser.js("document.querySelectorAll('img').length"), 0)
+    browser.js("[...document.querySelectorAll('#files button')].find(b => b.textContent === 'HANOI').click(); $('run').click(); 0")
+    browser.wait("running === null")
+    check("its program runs", browser.text("state"), "The program has ended. Steps: 402")
     check("no message and no request", browser.messages(), [])
 finally:
     browser.close()

@@ -358,6 +358,13 @@ async function otherLooks(given, {check, shows, press, names, choose, line, view
   openImage(kept, "other.img", false, 5);
   check("before it is replaced", [$("dialog").open, drives.get(5).name], [true, "two.img"]);
   press("cancel");
+  showDisk(4);
+  choose("HANOI");
+  press("debug");
+  $("drives").children[1].click();
+  press("again");
+  check("Restart shows the disk of the program", [disk.unit, shows("file-title"), shows("state")], [4, "HANOI", "Before the first step. Steps: 0"]);
+  press("close");
   $("drives").children[1].click();
   press("first");
   check("it is moved to unit 4", [drives.get(4).name, drives.get(5).name, shows("disk-title")], ["two.img", "own.img", "TWO (two.img) on unit 4"]);

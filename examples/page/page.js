@@ -617,6 +617,7 @@ function hint(element, words) {
 function start(file, runs) {
   closeProgram();
   if (file.unit !== BOOT_UNIT) return say("Programs start from unit " + BOOT_UNIT + ": choose Move to unit " + BOOT_UNIT + " first.", true);
+  if (disk.unit !== file.unit) showDisk(file.unit);
   const status = library.boot(disk.data, bytes(file.name));
   if (status !== DONE) return say(file.name + " does not start: " + library.sentence(status), true);
   for (const other of drives.values()) {
@@ -801,7 +802,7 @@ function places() {
   const set = new Set(breaks.map(one => one.split(" ").slice(0, PLACE_NUMBERS).join(" "))); // without a condition
   const place = isOpen ? library.place() : null;
   $("breaks").textContent = breaks.join("\n");
-  $("hint").textContent = isOpen ? "Choose a line to set or remove a breakpoint; the arrow keys move between lines."
+  $("hint").textContent = isOpen ? "Choose a line to set or remove a breakpoint; the arrow keys move between lines and links."
     : "After Debug you can set breakpoints here.";
   let here = null;
   for (const one of placed) {
@@ -997,8 +998,13 @@ function listen() {
   }
   on("keys", "input", e => { typed(e.target.value); e.target.value = ""; }); // of a keyboard on the screen
   on("lines", "keydown", e => {
-    const from = placed.findIndex(one => one.button === document.activeElement);
-    const to = {ArrowUp: from - 1, ArrowDown: from + 1, Home: 0, End: placed.length - 1}[e.key];
+    const from = placed.findIndex(one => [...one.line.children].includes(document.activeElement));
+    const to = {ArrowUp: from - 1, ArrowDown: from + 1, Home: 0, End: placed.length - 1}[e.key], way = {ArrowLeft: -1, ArrowRight: 1}[e.key];
+    if (from >= 0 && way) { // to the links of the line
+      const stops = [...placed[from].line.children].filter(one => one === placed[from].button || one.classList.contains("link"));
+      e.preventDefault();
+      stops[stops.indexOf(document.activeElement) + way]?.focus();
+    }
     if (from < 0 || to === undefined || !placed[to]) return;
     e.preventDefault();
     placed[from].button.tabIndex = -1;

@@ -114,6 +114,10 @@ try:
     for part in ("memory", "traced", "flame", "answers", "map", "words"):
         browser.js("$('%s').closest('details').open = true; 0" % part)
     browser.js("trace(10); command('help'); search('e'); scrollTo(0, 0); 0")
+    nodes = browser.do("Accessibility.getFullAXTree")["nodes"]
+    roles = ("button", "textbox", "combobox", "spinbutton", "checkbox", "searchbox", "link", "region", "log")
+    check("each control has a name for a screen reader", [node["role"]["value"] + str(node.get("properties"))[:200] for node in nodes
+          if not node["ignored"] and node["role"]["value"] in roles and not node["name"]["value"]], [])
     # widths and color schemes
     for width in (360, 800, 1500, 2000):
         browser.do("Emulation.setDeviceMetricsOverride", width=width, height=900, deviceScaleFactor=1, mobile=False)

@@ -23,9 +23,16 @@ from cases_of_page import bare_cases
 QUIET = {"stdin": subprocess.DEVNULL, "stdout": subprocess.DEVNULL, "stderr": subprocess.DEVNULL}
 
 
+def free_port():
+    """A port that no other program uses, so that two tests do not drive the same browser."""
+    with socket.socket() as made:
+        made.bind(("127.0.0.1", 0))
+        return made.getsockname()[1]
+
+
 class Firefox:
-    def __init__(self, port=28371):
-        home = tempfile.mkdtemp()
+    def __init__(self):
+        home, port = tempfile.mkdtemp(), free_port()
         with open(home + "/user.js", "w", encoding="utf-8") as file:
             file.write('user_pref("marionette.port", %d);\nuser_pref("browser.shell.checkDefaultBrowser", false);\n' % port)
         self.process = subprocess.Popen(["firefox-esr", "--headless", "--marionette", "--no-remote", "--profile", home],
@@ -71,7 +78,8 @@ class Firefox:
 
 
 class WebKit:
-    def __init__(self, port=28491, display=":87"):
+    def __init__(self):
+        port, display = free_port(), ":%d" % (100 + os.getpid() % 10000)
         self.processes = [subprocess.Popen(["Xvfb", display, "-screen", "0", "1500x1000x24"], **QUIET),
                           subprocess.Popen(["WebKitWebDriver", "--port=%d" % port],
                                            env=dict(os.environ, DISPLAY=display, LIBGL_ALWAYS_SOFTWARE="1", NO_AT_BRIDGE="1"), **QUIET)]

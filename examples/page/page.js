@@ -513,7 +513,7 @@ function graph(code) {
     choice.setAttribute("aria-pressed", one === shown.segment);
     return choice;
   });
-  $("graph").replaceChildren(el("div", {className: "tools group"}, ...choices),
+  $("graph").replaceChildren(el("div", {className: "tools group", role: "group", ariaLabel: "Segment"}, ...choices),
     el("p", {className: "hint", textContent: "A procedure is segment.number. Choose one to read it."}), picture, el("table", {}, head, el("tbody", {}, ...rows)));
   $("graph").hidden = false;
   return [];

@@ -122,9 +122,10 @@ function digest(data) {
 }
 
 // Runs cases for bare code: [code in hexadecimal digits, limit, last line, digest of the trace or null].
-function bareCases(cases) {
+async function bareCases(cases) {
   const wrong = [];
-  for (const [code, limit, end, sum] of cases) {
+  for (const [k, [code, limit, end, sum]] of cases.entries()) {
+    if (k % 50 === 0) await new Promise(next => setTimeout(next));
     const answer = library.ask("raw", bytes(code), limit), message = text(answer.bytes);
     const last = answer.status === 2 ? message : message.split("\n").at(-2);
     if (last !== end || (sum !== null && digest(answer.bytes) !== sum)) wrong.push([code.slice(0, 80), last, end]);

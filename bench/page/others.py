@@ -119,6 +119,7 @@ RUNNER = """
 document.addEventListener("test", async () => {
   const [name, given] = JSON.parse(document.body.dataset.given);
   let results = [];
+  await new Promise(next => setTimeout(next)); // (a driver ends a script that runs for 30 seconds)
   try {
     results = await {looks, limits, bareCases}[name](given);
   } catch (error) {

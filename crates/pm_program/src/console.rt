@@ -1,8 +1,7 @@
 //! Standard input and output on a terminal: prompts, the key that ends the input, and control characters.
-ghost use Rattle.std.specs.Prelude.{◌≡◌, map, option_map};
+ghost use Rattle.std.specs.Prelude.{◌≡◌, map};
 ghost use Rattle.std.specs.Io.{ReadsAtMost, WritesAtMost};
-ghost use Rattle.std.specs.Io.KnownBytes.{WriteAppends};
-ghost use Rattle.pm_program.specs.Console.{shown_byte, typed_byte, typed_bytes};
+ghost use Rattle.pm_program.specs.Console.{shown_byte, typed_byte};
 
 use std::alloc::Global;
 use std::io;
@@ -159,8 +158,6 @@ impl<R: Read> Typed<R> {
 }
 
 impl<R: Read> Read for Typed<R> {
-    ghost remaining = { λ s. option_map (typed_bytes s.is_text) (R.remaining s.inner) };
-
     fn read(&mut self, buf: &mut [u8]) -> io::Result<usize> {
         let count = self.inner.read(buf)?;
         let read = &mut buf[..count];
@@ -352,8 +349,6 @@ impl<W: Write> Lined<W> {
     /// Writes at most `PIECE` bytes of `buf`, with a line feed instead of each carriage return.
     fn write_feeds(&mut self, buf: &[u8]) -> io::Result<usize>
         ensures bound { WritesAtMost result buf.now }
-        ensures bytes { WriteAppends (W.contents self.old.inner) (W.contents self.new.inner) result
-            (map shown_byte buf.now) }
     {
         let mut bytes = [0; PIECE];
         let count = buf.len().min(PIECE);

@@ -98,6 +98,6 @@ for k in range(COUNT):
     if answers[0] != answers[1]:
         differences += 1
         if differences <= 10:
-            print("DIFFERS: %d: %s: %r %r" % (k, " ".join(words), answers[0][:3], answers[1][:3]))
+            print("DIFFERS: %d: %s: %r %r" % (k, " ".join(words), answers[0][:3], answers[1][:3]), flush=True)
 print("%d command lines, %d differ" % (COUNT, differences))
 sys.exit(differences > 0)

@@ -23,8 +23,8 @@ file_front path name = front_of path ++ printable_name name
 abbrev pub name_line : List ℕ → Entry → List ℕ
 name_line path e = file_front path (characters_of e.name) ++ 10 ∷ []
 
--- The line for the line `line` of a text file: `front`, the number `n` of the line in decimal, and the line itself, with
--- a colon and a space between them.
+-- The line for the line `line` of a text file: `front`, the number `n` of the line in decimal, and the line itself,
+-- with a colon and a space between them.
 abbrev pub match_line : List ℕ → ℕ → List ℕ → List ℕ
 match_line front n line = front ++ (58 ∷ 32 ∷ (decimal n ++ (58 ∷ 32 ∷ (line ++ 10 ∷ []))))
 

@@ -120,9 +120,9 @@ bare_dos = record { cover = covers.Bare; order = orders.Dos }
 abbrev pub bare_big : Format
 bare_big = record { cover = covers.Bare; order = orders.Big }
 
--- Names: a pattern ignores case, and a name without an equals sign matches only the equal name. A byte of a name that is
--- not printable becomes a question mark. Lines: bytes of the query can be anywhere in a line; case matters; lines are
--- counted from 1; and the last line needs no line feed. Texts: those of files with and without a header.
+-- Names: a pattern ignores case, and a name without an equals sign matches only the equal name. A byte of a name that
+-- is not printable becomes a question mark. Lines: bytes of the query can be anywhere in a line; case matters; lines
+-- are counted from 1; and the last line needs no line feed. Texts: those of files with and without a header.
 pub record WorkedSearches : Type 0 where
   pub found : (blocks : List ℕ)
       → files_of blocks ≡ file (codes "A.TEXT") 3 ∷ file (codes "B.CODE") 2 ∷ file (codes "C.TEXT") 3 ∷ []

@@ -7,8 +7,8 @@ use pm_convert::Format;
 use pm_volume::{Space, Volume};
 use std::alloc::{AllocError, Global};
 
-/// Returns the end of the line about an image: the number of files of `volume`, of its free blocks, and of the blocks of
-/// its largest gap.
+/// Returns the end of the line about an image: the number of files of `volume`, of its free blocks, and of the blocks
+/// of its largest gap.
 fn numbers_text(alloc: Global, volume: &Volume) -> Result<String, AllocError>
     ensures text { IfOk result (λ text. string_bytes text ≡ numbers_text volume.now) }
 {
@@ -17,8 +17,8 @@ fn numbers_text(alloc: Global, volume: &Volume) -> Result<String, AllocError>
     format!(in alloc; ": files {files}, free {free}, largest {largest}\n")
 }
 
-/// Returns the line of an image that has the volume `volume` in the format `format`: the format, the name of the volume,
-/// the number of its files, of its free blocks, and of the blocks of its largest gap.
+/// Returns the line of an image that has the volume `volume` in the format `format`: the format, the name of the
+/// volume, the number of its files, of its free blocks, and of the blocks of its largest gap.
 pub(crate) fn info_line(
     alloc: Global,
     path: &str,

@@ -1,5 +1,5 @@
-//! Searches in images: files by their names, lines of text files, and one line about an image, as functions from bytes to
-//! bytes.
+//! Searches in images: files by their names, lines of text files, and one line about an image, as functions from bytes
+//! to bytes.
 #![tactic(auto)]
 
 mod info;

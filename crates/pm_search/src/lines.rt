@@ -59,8 +59,8 @@ pub(crate) fn push_file(
     Ok(())
 }
 
-/// Appends the line of the line `line` of a text file. `front` has the path and the name of the file, and `number` is the
-/// number of the line.
+/// Appends the line of the line `line` of a text file. `front` has the path and the name of the file, and `number` is
+/// the number of the line.
 pub(crate) fn push_match(
     alloc: Global,
     text: &mut Vec<u8>,

@@ -120,8 +120,8 @@ fn search_blocks(
 /// - The image opens in no format: the line `PATH: no volume`, and `Refused`.
 /// - The image opens in several formats: the line `PATH: several formats: blocks, dos` with their names, and `Refused`.
 /// - `Names`: a line `PATH: NAME` for each file whose name matches the pattern, in directory order.
-/// - `Text`: a line `PATH: NAME: N: LINE` for each line that contains the bytes, of each file of kind text, in directory
-///   order. `N` is the number of the line from 1. A file without the header of a text file has no lines here.
+/// - `Text`: a line `PATH: NAME: N: LINE` for each line that contains the bytes, of each file of kind text, in
+///   directory order. `N` is the number of the line from 1. A file without the header of a text file has no lines here.
 /// - `Info`: the line `PATH: FORMAT VOLUME: files F, free B, largest L`.
 ///
 /// # Errors

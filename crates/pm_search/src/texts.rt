@@ -25,8 +25,8 @@ fn line_length(text: &[u8]) -> usize
     text.iter().take_while(|c| **c != b'\n').count()
 }
 
-/// Appends the line for the line `line` of a text file, if it contains the bytes that `finder` searches. `number` is the
-/// number of the line, and `front` has the path and the name of the file.
+/// Appends the line for the line `line` of a text file, if it contains the bytes that `finder` searches. `number` is
+/// the number of the line, and `front` has the path and the name of the file.
 fn push_matching(
     alloc: Global,
     text: &mut Vec<u8>,
@@ -44,8 +44,8 @@ fn push_matching(
     Ok(())
 }
 
-/// Appends a line for each line of the text `lines` that contains the bytes that `finder` searches. `front` has the path
-/// and the name of the file.
+/// Appends a line for each line of the text `lines` that contains the bytes that `finder` searches. `front` has the
+/// path and the name of the file.
 fn push_matches(
     alloc: Global,
     text: &mut Vec<u8>,
@@ -78,7 +78,8 @@ fn decoded(alloc: Global, bytes: &[u8]) -> Result<Option<Vec<u8>>, AllocError>
     }
 }
 
-/// Returns the text of the file of `entry` on `volume`. `None` if its kind is not text, or if `files gettext` refuses it.
+/// Returns the text of the file of `entry` on `volume`. `None` if its kind is not text, or if `files gettext` refuses
+/// it.
 fn text_in(alloc: Global, volume: &Volume, entry: &Entry) -> Result<Option<Vec<u8>>, AllocError>
     ensures text { IfOk result (λ text. option_map (λ text. text.items) text ≡ texts.text_in volume.now entry.now) }
 {

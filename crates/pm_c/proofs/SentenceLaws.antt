@@ -15,6 +15,12 @@ use Rattle.pm_units.specs.declared.ports.MountFault.TheVariants.{NoUnit, Taken}
 use Rattle.pm_volume.specs.Faults.{number_of as volume_number}
 use Rattle.pm_volume.specs.declared.fault.VolumeFault.{VolumeFault}
 use Rattle.pm_volume.specs.declared.fault.VolumeFault.TheVariants as volume
+use Rattle.pm_convert.specs.Jobs.{number_of as convert_number}
+use Rattle.pm_convert.specs.declared.job.ConvertFault.{ConvertFault}
+use Rattle.pm_convert.specs.declared.job.ConvertFault.TheVariants as conversions
+use Rattle.pm_filer.specs.SystemFaults.{number_of as system_number}
+use Rattle.pm_filer.specs.declared.system_fault.SystemFault.{SystemFault}
+use Rattle.pm_filer.specs.declared.system_fault.SystemFault.TheVariants as system
 use Rattle.pm_c.specs.Codes.{boot_code, stop_code}
 use Rattle.pm_c.specs.Laws.{AnswersAreTold, IsTold}
 use Rattle.pm_c.specs.Sentences.{call_sentences, file_sentence, file_sentences, sentence}
@@ -81,6 +87,22 @@ volume_told volume.NoMemory other = absurd (other refl)
 volume_told (volume.FirstCopyBad n) other = refl
 volume_told volume.Occupied other = refl
 
+conversion_told : (fault : ConvertFault) → IsTold (900 + convert_number fault)
+unfolding sentence call_sentences file_sentence file_sentences
+conversion_told conversions.NoFormat = refl
+conversion_told conversions.Several = refl
+conversion_told conversions.OtherFormat = refl
+conversion_told conversions.OtherLength = refl
+
+system_told : (fault : SystemFault) → fault ≢ system.NoMemory → IsTold (1000 + system_number fault)
+unfolding sentence call_sentences file_sentence file_sentences
+system_told (system.NoCode inner) other = refl
+system_told system.NoSegment other = refl
+system_told (system.NoProgram inner) other = refl
+system_told system.Taken other = refl
+system_told (system.Volume inner) other = refl
+system_told system.NoMemory other = absurd (other refl)
+
 pub answers_are_told : AnswersAreTold
 unfolding sentence call_sentences file_sentence file_sentences
 answers_are_told = record {
@@ -92,4 +114,7 @@ answers_are_told = record {
   full = refl;
   not_set = refl;
   odd_address = refl;
+  conversions = conversion_told;
+  systems = system_told;
+  no_format = refl;
 }

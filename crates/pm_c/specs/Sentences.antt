@@ -23,6 +23,7 @@ call_sentences =
     (14, codes "the kind is above 15") ∷
     (15, codes "the run has reached a breakpoint") ∷
     (16, codes "a watched word has changed") ∷
+    (17, codes "no format has this name") ∷
     (101, codes "invalid index") ∷
     (102, codes "no segment or bad code file") ∷
     (103, codes "procedure not present at exit time") ∷
@@ -41,8 +42,8 @@ call_sentences =
     (302, codes "the unit has a disk already") ∷
     []
 
--- The numbers and sentences for volumes, for the breakpoints of the debugger, and for assembler source texts, code
--- files and text files.
+-- The numbers and sentences for volumes, for the breakpoints of the debugger, for assembler source texts, code files
+-- and text files, for conversions of images, and for the system segment.
 unfoldable pub file_sentences : List (ℕ × List ℕ)
 file_sentences =
     (401, codes "the length of the image is not a multiple of 512 bytes") ∷
@@ -76,6 +77,15 @@ file_sentences =
     (801, codes "the file has no header") ∷
     (803, codes "the line does not fit in a page") ∷
     (804, codes "the byte is not allowed in a text file") ∷
+    (901, codes "the image is no volume in any supported format") ∷
+    (902, codes "more than one format fits") ∷
+    (903, codes "the image has no volume in this format") ∷
+    (904, codes "the volume does not have the length that the new format or the original image requires") ∷
+    (1001, codes "the system file is not a code file") ∷
+    (1002, codes "the system file has no segment in slot 0") ∷
+    (1003, codes "the program is not a code file") ∷
+    (1004, codes "the program already has a segment in slot 0") ∷
+    (1005, codes "cannot add the system segment to the program") ∷
     []
 
 unfoldable pub file_sentence : ℕ → Option (List ℕ)

@@ -24,10 +24,11 @@ use Rattle.pm_filer.specs.declared.system_fault.SystemFault.TheVariants as syste
 use Rattle.pm_c.specs.Codes.{boot_code, stop_code}
 use Rattle.pm_c.specs.Laws.{AnswersAreTold, IsTold}
 use Rattle.pm_c.specs.Sentences.{call_sentences, file_sentence, file_sentences, sentence}
+use Rattle.pm_c.specs.Sentences.{image_sentence, image_sentences}
 use Rattle.pm_c.specs.Sessions.{go_code}
 
 error_told : (error : ExecError) → IsTold (100 + number_of error)
-unfolding sentence call_sentences file_sentence file_sentences
+unfolding sentence call_sentences file_sentence file_sentences image_sentence image_sentences
 error_told errors.InvalidIndex = refl
 error_told errors.NoSegment = refl
 error_told errors.NoProcedure = refl
@@ -41,14 +42,14 @@ error_told errors.StringTooLong = refl
 error_told errors.Halt = refl
 
 stop_told : (answer : Stop) → IsTold (stop_code answer)
-unfolding sentence call_sentences file_sentence file_sentences
+unfolding sentence call_sentences file_sentence file_sentences image_sentence image_sentences
 stop_told stop.Went = refl
 stop_told stop.Waiting = refl
 stop_told stop.Ended = refl
 stop_told (stop.Halted error) = error_told error
 
 run_told : (reason : BreakReason) → IsTold (go_code reason)
-unfolding sentence call_sentences file_sentence file_sentences
+unfolding sentence call_sentences file_sentence file_sentences image_sentence image_sentences
 run_told reasons.Limit = refl
 run_told reasons.There = refl
 run_told reasons.Waiting = refl
@@ -58,7 +59,7 @@ run_told (reasons.Changed address) = refl
 run_told (reasons.Halted error) = error_told error
 
 start_told : (fault : BootFault) → IsTold (boot_code fault)
-unfolding sentence call_sentences file_sentence file_sentences
+unfolding sentence call_sentences file_sentence file_sentences image_sentence image_sentences
 start_told boot.NoFile = refl
 start_told boot.NotCode = refl
 start_told boot.BadCode = refl
@@ -66,12 +67,12 @@ start_told (boot.Exec error) = error_told error
 start_told boot.NoMemory = refl
 
 mount_told : (fault : MountFault) → IsTold (300 + mount_number fault)
-unfolding sentence call_sentences file_sentence file_sentences
+unfolding sentence call_sentences file_sentence file_sentences image_sentence image_sentences
 mount_told NoUnit = refl
 mount_told Taken = refl
 
 volume_told : (fault : VolumeFault) → fault ≢ volume.NoMemory → IsTold (400 + volume_number fault)
-unfolding sentence call_sentences file_sentence file_sentences
+unfolding sentence call_sentences file_sentence file_sentences image_sentence image_sentences
 volume_told volume.NotBlocks other = refl
 volume_told volume.TooShort other = refl
 volume_told volume.BadHeader other = refl
@@ -88,14 +89,14 @@ volume_told (volume.FirstCopyBad n) other = refl
 volume_told volume.Occupied other = refl
 
 conversion_told : (fault : ConvertFault) → IsTold (900 + convert_number fault)
-unfolding sentence call_sentences file_sentence file_sentences
+unfolding sentence call_sentences file_sentence file_sentences image_sentence image_sentences
 conversion_told conversions.NoFormat = refl
 conversion_told conversions.Several = refl
 conversion_told conversions.OtherFormat = refl
 conversion_told conversions.OtherLength = refl
 
 system_told : (fault : SystemFault) → fault ≢ system.NoMemory → IsTold (1000 + system_number fault)
-unfolding sentence call_sentences file_sentence file_sentences
+unfolding sentence call_sentences file_sentence file_sentences image_sentence image_sentences
 system_told (system.NoCode inner) other = refl
 system_told system.NoSegment other = refl
 system_told (system.NoProgram inner) other = refl
@@ -104,7 +105,7 @@ system_told (system.Volume inner) other = refl
 system_told system.NoMemory other = absurd (other refl)
 
 pub answers_are_told : AnswersAreTold
-unfolding sentence call_sentences file_sentence file_sentences
+unfolding sentence call_sentences file_sentence file_sentences image_sentence image_sentences
 answers_are_told = record {
   stops = stop_told;
   runs = run_told;

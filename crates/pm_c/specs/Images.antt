@@ -19,8 +19,8 @@ use Rattle.pm_c.specs.declared.status.TheConstants.{NO_FORMAT}
 
 -- ---- conversions
 
--- The format that a name means for an existing image. The empty name means the only format in which the image opens; the
--- inner value is then `None`. The outer value is `None` if no format has this name.
+-- The format that a name means for an existing image. The empty name means the only format in which the image opens:
+-- the inner value is then `None`. The outer value is `None` if no format has this name.
 abbrev pub given_format : List ℕ → Option (Option Format)
 given_format [] = Some None
 given_format (byte ∷ bytes) = option_map Some (format_named (byte ∷ bytes))
@@ -46,8 +46,8 @@ pub record RefusesFormat (status : ℕ) (old new : List ℕ) (needed : ℕ) : Ty
   pub same : new ≡ old
   pub none : needed ≡ 0
 
--- The call converts the volume that `image` has in the format `from` to a new image in the format `to`. It is refused if
--- one of them is no format.
+-- The call converts the volume that `image` has in the format `from` to a new image in the format `to`. If one of them
+-- is no format, the call is refused.
 abbrev pub AnswersTo : Option (Option Format) → Option Format → List ℕ → ℕ → List ℕ → List ℕ → ℕ → Type 0
 AnswersTo None to image status old new needed = RefusesFormat status old new needed
 AnswersTo (Some from) None image status old new needed = RefusesFormat status old new needed

@@ -23,7 +23,6 @@ call_sentences =
     (14, codes "the kind is above 15") ∷
     (15, codes "the run has reached a breakpoint") ∷
     (16, codes "a watched word has changed") ∷
-    (17, codes "no format has this name") ∷
     (101, codes "invalid index") ∷
     (102, codes "no segment or bad code file") ∷
     (103, codes "procedure not present at exit time") ∷
@@ -42,8 +41,8 @@ call_sentences =
     (302, codes "the unit has a disk already") ∷
     []
 
--- The numbers and sentences for volumes, for the breakpoints of the debugger, for assembler source texts, code files
--- and text files, for conversions of images, and for the system segment.
+-- The numbers and sentences for volumes, for the breakpoints of the debugger, and for assembler source texts, code
+-- files and text files.
 unfoldable pub file_sentences : List (ℕ × List ℕ)
 file_sentences =
     (401, codes "the length of the image is not a multiple of 512 bytes") ∷
@@ -77,6 +76,12 @@ file_sentences =
     (801, codes "the file has no header") ∷
     (803, codes "the line does not fit in a page") ∷
     (804, codes "the byte is not allowed in a text file") ∷
+    []
+
+-- The numbers and sentences for formats of images and for the system segment.
+unfoldable pub image_sentences : List (ℕ × List ℕ)
+image_sentences =
+    (17, codes "no format has this name") ∷
     (901, codes "the image is no volume in any supported format") ∷
     (902, codes "more than one format fits") ∷
     (903, codes "the image has no volume in this format") ∷
@@ -88,8 +93,11 @@ file_sentences =
     (1005, codes "cannot add the system segment to the program") ∷
     []
 
+unfoldable pub image_sentence : ℕ → Option (List ℕ)
+image_sentence n = lookup (λ m. m == n) image_sentences
+
 unfoldable pub file_sentence : ℕ → Option (List ℕ)
-file_sentence n = lookup (λ m. m == n) file_sentences
+file_sentence n = option_or (lookup (λ m. m == n) file_sentences) (image_sentence n)
 
 unfoldable pub sentence : ℕ → Option (List ℕ)
 sentence n = option_or (lookup (λ m. m == n) call_sentences) (file_sentence n)

@@ -14,8 +14,9 @@ use crate::volumes::none;
 use pm_convert::{Format, Made};
 use std::alloc::Global;
 
-/// Copies a line for each format in which `image` opens as a volume to `out`: the format, the name of the volume and the
-/// last line of its list. The answer is empty if the image opens in no format. Returns 0 if the call succeeded.
+/// Copies a line for each format in which `image` opens as a volume to `out`: the format, the name of the volume and a
+/// colon, and the last line of its list. The answer is empty if the image opens in no format. Returns 0 if the call
+/// succeeded.
 ///
 /// Otherwise nothing is written to the buffer:
 ///
@@ -34,7 +35,6 @@ pub extern "C" fn pmach_formats(
 }
 
 /// Returns the format with the name `name`. Returns `None` if no format has this name.
-#[tactic(auto, using(crate::proofs::FormatLaws::no_format))]
 fn named(name: &[u8]) -> Option<Format>
     ensures format { result ≡ format_named name.now }
 {
@@ -75,8 +75,8 @@ fn give_made(alloc: Global, made: Made, out: &mut [u8], needed: &mut usize) -> u
     }
 }
 
-/// Converts the volume that `image` has in the format `from` to a new image in the format `to`, and copies the new image
-/// to `out`. A format is a name such as `dos` or `2mg-blocks`. If `from` is empty, it is the only format in which the
+/// Converts the volume that `image` has in the format `from` to a new image in the format `to`. The answer is the new
+/// image. A format is a name such as `dos` or `2mg-blocks`. If `from` is empty, it is the only format in which the
 /// image opens. Returns 0 if the call succeeded.
 ///
 /// Otherwise:
@@ -106,9 +106,9 @@ pub extern "C" fn pmach_convert(
     }
 }
 
-/// Copies `image` to `out`, with `blocks` instead of its own blocks: in its format `from`, with its header and the bytes
-/// after its volume. If `from` is empty, it is the only format in which the image opens. The statuses are those of
-/// `pmach_convert`.
+/// Puts `blocks` into `image` instead of its own blocks. The answer is the new image: in the format `from` of `image`,
+/// with its header and the bytes after its volume. If `from` is empty, it is the only format in which the image opens.
+/// The statuses are those of `pmach_convert`.
 #[unsafe(no_mangle)]
 pub extern "C" fn pmach_convert_back(
     alloc: Global,

@@ -51,9 +51,9 @@ fn with_system(
     }
 }
 
-/// Adds the segment in slot 0 of the code file `system` to the first file with the name `name`, which must be a code
-/// file, in its slot 0. The answer is the new image, as `run --system` makes it in memory. If no code file has this name,
-/// the answer is the image unchanged. Returns 0 if the call succeeded.
+/// Adds the segment in slot 0 of the code file `system` to slot 0 of the first file with the name `name`. The answer is
+/// the new image, as `run --system` makes it in memory. If no file has this name, or the first file with this name is
+/// not a code file, the answer is the image unchanged. Returns 0 if the call succeeded.
 ///
 /// Otherwise:
 ///
@@ -85,8 +85,15 @@ pub extern "C" fn pmach_with_system(
     }
 }
 
-/// Copies the report of `pmach_salvage` to `out`: a line for each entry that is copied or left out, and a last line. The
-/// statuses are those of `pmach_salvage`.
+/// Copies the report of `pmach_salvage` to `out`: a line for each entry that is copied or left out, and a last line.
+/// Returns 0 if the call succeeded.
+///
+/// Otherwise:
+///
+/// - 2: the image is too short to have this copy of the directory, or no volume is large enough. The answer is the
+///   message `refused volume N`.
+/// - 5: out of memory. The call has no answer.
+/// - 7: the buffer is too short. Nothing is written to it.
 #[unsafe(no_mangle)]
 pub extern "C" fn pmach_salvage_report(
     alloc: Global,

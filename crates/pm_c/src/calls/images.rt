@@ -12,12 +12,16 @@ use std::process::Abort;
 fn formats_are_listed(rt: HostRuntime) {
     let alloc = rt.alloc();
     let image = blank(&rt, alloc);
-    answer!(&rt, alloc, pmach_formats, &image)
-        .lists(&rt, &["blocks OWN: files 0 free 34 largest 34"]);
+    answer!(&rt, alloc, pmach_formats, &image).lists(
+        &rt,
+        &["blocks OWN: files 0 free 34 largest 34"],
+    );
     answer!(&rt, alloc, pmach_formats, b"short").says(&rt, 0, "");
     let swapped = answer!(&rt, alloc, pmach_convert, &image, b"blocks", b"swapped").bytes;
-    answer!(&rt, alloc, pmach_formats, &swapped)
-        .lists(&rt, &["swapped OWN: files 0 free 34 largest 34"]);
+    answer!(&rt, alloc, pmach_formats, &swapped).lists(
+        &rt,
+        &["swapped OWN: files 0 free 34 largest 34"],
+    );
 }
 
 // The header of the directory of a volume WORK with 280 blocks and without files.
@@ -59,17 +63,26 @@ fn images_are_converted(rt: HostRuntime) {
     answer!(&rt, alloc, pmach_convert, &image, b"", b"blocks").is(&rt, 0, &image);
     let swapped = answer!(&rt, alloc, pmach_convert, &image, b"", b"swapped");
     assert_eq!(rt; (swapped.status, swapped.bytes.len()), (0, 20_480));
-    assert_eq!(rt; image.get(1024..1034), Some(b"\0\0\x06\0\0\0\x03OWN".as_slice()));
-    assert_eq!(rt; swapped.bytes.get(1024..1034), Some(b"\0\0\0\x06\0\0O\x03NW".as_slice()));
-    answer!(&rt, alloc, pmach_convert, &swapped.bytes, b"", b"blocks").is(&rt, 0, &image);
-    answer!(&rt, alloc, pmach_convert, &swapped.bytes, b"blocks", b"blocks")
-        .is(&rt, 0, &swapped.bytes);
-    answer!(&rt, alloc, pmach_convert, b"short", b"", b"blocks").says(&rt, 2, "refused convert 1");
-    answer!(&rt, alloc, pmach_convert, &image, b"dos", b"blocks").says(
-        &rt,
-        2,
-        "refused convert 3",
+    assert_eq!(rt;
+        image.get(1024..1034),
+        Some(b"\0\0\x06\0\0\0\x03OWN".as_slice())
     );
+    assert_eq!(rt;
+        swapped.bytes.get(1024..1034),
+        Some(b"\0\0\0\x06\0\0O\x03NW".as_slice())
+    );
+    answer!(&rt, alloc, pmach_convert, &swapped.bytes, b"", b"blocks").is(&rt, 0, &image);
+    answer!(
+        &rt,
+        alloc,
+        pmach_convert,
+        &swapped.bytes,
+        b"blocks",
+        b"blocks"
+    )
+    .is(&rt, 0, &swapped.bytes);
+    answer!(&rt, alloc, pmach_convert, b"short", b"", b"blocks").says(&rt, 2, "refused convert 1");
+    answer!(&rt, alloc, pmach_convert, &image, b"dos", b"blocks").says(&rt, 2, "refused convert 3");
     answer!(&rt, alloc, pmach_convert, &image, b"", b"dos").says(&rt, 2, "refused convert 4");
     answer!(&rt, alloc, pmach_convert, &image, b"", b"").says(&rt, 17, "");
     answer!(&rt, alloc, pmach_convert, &image, b"raw", b"blocks").says(&rt, 17, "");
@@ -80,7 +93,14 @@ fn images_are_converted(rt: HostRuntime) {
 fn images_get_other_blocks(rt: HostRuntime) {
     let alloc = rt.alloc();
     let image = with_a(&rt, alloc);
-    let old = answer!(&rt, alloc, pmach_convert, &blank(&rt, alloc), b"", b"2mg-blocks");
+    let old = answer!(
+        &rt,
+        alloc,
+        pmach_convert,
+        &blank(&rt, alloc),
+        b"",
+        b"2mg-blocks"
+    );
     assert_eq!(rt; (old.status, old.bytes.len()), (0, 20_544));
     let new = answer!(&rt, alloc, pmach_convert_back, &old.bytes, b"", &image);
     assert_eq!(rt; (new.status, new.bytes.len()), (0, 20_544));
@@ -108,13 +128,14 @@ fn images_get_other_blocks(rt: HostRuntime) {
 
 const SYSTEM: &[u8] = b".SEG 0 SYS\n.PROC 1 0 0 0\n.EXIT\nRNP 0\n.END\n";
 
-/// Checks that `image` has one file, with three blocks.
-fn has_three_blocks(rt: &impl Abort, alloc: Global, image: &Answer) {
+/// Checks that `image` has one file, with two blocks and 16 bytes: the old file has two blocks, and the segment has 16
+/// bytes (2 of code, 10 of the attribute table and 4 of the dictionary).
+fn has_longer_file(rt: &impl Abort, alloc: Global, image: &Answer) {
     answer!(rt, alloc, pmach_list, &image.bytes).lists(
         rt,
         &[
             "OWN:",
-            "OK              code     6     3 512 000-00-00",
+            "OK              code     6     3  16 000-00-00",
             "files 1 free 31 largest 31",
         ],
     );
@@ -127,7 +148,7 @@ fn a_program_gets_the_system(rt: HostRuntime) {
     let system = answer!(&rt, alloc, pmach_assemble, SYSTEM, false).bytes;
     let new = answer!(&rt, alloc, pmach_with_system, &image, b"OK", &system);
     assert_eq!(rt; (new.status, new.bytes.len()), (0, 20_480));
-    has_three_blocks(&rt, alloc, &new);
+    has_longer_file(&rt, alloc, &new);
     answer!(&rt, alloc, pmach_with_system, &new.bytes, b"OK", &system).says(
         &rt,
         2,
@@ -157,7 +178,9 @@ fn a_salvage_is_reported(rt: HostRuntime) {
         &rt,
         &["slot 1 taken as A", "files 1 left out 0 doubted 0"],
     );
-    answer!(&rt, alloc, pmach_salvage_report, &blank(&rt, alloc), true)
-        .lists(&rt, &["files 0 left out 0 doubted 0"]);
+    answer!(&rt, alloc, pmach_salvage_report, &blank(&rt, alloc), true).lists(
+        &rt,
+        &["files 0 left out 0 doubted 0"],
+    );
     answer!(&rt, alloc, pmach_salvage_report, b"short", false).says(&rt, 2, "refused volume 2");
 }

@@ -1,7 +1,7 @@
 //! The calls on the formats of images: the formats in which an image opens, and conversions.
 ghost use Rattle.std.specs.Prelude.{◌≡◌, ◌≢◌};
 ghost use Rattle.pm_convert.specs.Formats.{format_named};
-ghost use Rattle.pm_convert.specs.Jobs.{converted, converted_back, formats_text, items_of};
+ghost use Rattle.pm_convert.specs.Jobs.{formats_text, items_of};
 ghost use Rattle.pm_c.specs.Answers.{Answers};
 ghost use Rattle.pm_c.specs.Changes.{Tells};
 ghost use Rattle.pm_c.specs.Images.{AnswersIn, AnswersTo, given_format, said_convert};

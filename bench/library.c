@@ -15,8 +15,10 @@ void *__wrap_realloc(void *block, size_t size) { return refused() ? NULL : __rea
 enum { ROOM = 1 << 20 };
 static uint8_t image[ROOM], text[ROOM], out[ROOM], before[ROOM];
 static size_t image_len, text_len, code_len, needed;
-static uint8_t code[ROOM];
+static uint8_t code[ROOM], segment[ROOM];
+static size_t segment_len;
 static struct pmach h;
+static const uint8_t system_text[] = ".SEG 0 SYS\n.PROC 1 0 0 0\n.EXIT\nRNP 0\n.END\n";
 static const uint8_t name[] = "HANOI", other[] = "OTHER", typed[] = "go 20\nframes\nquit\n", bare[] = {2, 3, 130, 215, 0, 0};
 
 #define NAME name, 5
@@ -41,6 +43,11 @@ static uint32_t krunch(void) { return pmach_krunch(image, image_len, OUT); }
 static uint32_t repair(void) { return pmach_repair(image, image_len, OUT); }
 static uint32_t check(void) { return pmach_check(image, image_len, OUT); }
 static uint32_t salvage(void) { return pmach_salvage(image, image_len, false, OUT); }
+static uint32_t report(void) { return pmach_salvage_report(image, image_len, false, OUT); }
+static uint32_t with_system(void) { return pmach_with_system(image, image_len, NAME, segment, segment_len, OUT); }
+static uint32_t formats(void) { return pmach_formats(image, image_len, OUT); }
+static uint32_t convert(void) { return pmach_convert(image, image_len, name, 0, (const uint8_t *)"dc42-dos", 8, OUT); }
+static uint32_t convert_back(void) { return pmach_convert_back(image, image_len, name, 0, image, image_len, OUT); }
 static uint32_t start(void) { return pmach_new(&h, bare, sizeof bare); }
 static uint32_t boot(void) { return pmach_boot(&h, image, image_len, NAME, 0); }
 static uint32_t step(void) { return pmach_step(&h); }
@@ -94,7 +101,9 @@ static const struct job { const char *name; uint32_t (*call)(void); int has_mach
     {"kind_slot", kind_slot, 0, 0, 0}, {"copy", copy, 0, 0, 0}, {"copy_slot", copy_slot, 0, 0, 0}, {"command", command, 1, 1, 1},
     {"break", set_break, 1, 0, 0}, {"watch", watch, 1, 0, 0}, {"go", go, 1, 1, 0}, {"sentence", sentence, 0, 0, 0},
     {"console", console, 1, 0, 0}, {"printer", printer, 1, 0, 0}, {"ejected", ejected, 1, 0, 0}, {"poke", poke, 1, 0, 0},
-    {"place", place, 1, 0, 0}, {"disassemble_blocks", blocks, 0, 0, 0},
+    {"place", place, 1, 0, 0}, {"disassemble_blocks", blocks, 0, 0, 0}, {"salvage_report", report, 0, 0, 0},
+    {"with_system", with_system, 0, 0, 0}, {"formats", formats, 0, 0, 0}, {"convert", convert, 0, 0, 0},
+    {"convert_back", convert_back, 0, 0, 0},
 };
 
 /* what the machine of a handle shows: registers, memory, both outputs; nothing of an empty one */
@@ -161,7 +170,7 @@ static void answers(void) {
     if (got != (number)) { printf("WRONG %s is answered by %lu\n", #call, (unsigned long)got); wrong++; } } while (0)
     pmach_free(&h);
     EXPECT(PMACH_VERSION, pmach_version());
-    for (uint32_t n = PMACH_DONE; n <= PMACH_CHANGED; n++)
+    for (uint32_t n = PMACH_DONE; n <= PMACH_NO_FORMAT; n++)
         if (pmach_sentence(n, OUT) || needed == 0) { printf("WRONG %lu has no sentence\n", (unsigned long)n); wrong++; }
     uint32_t (*const on_empty[])(void) = {step, run, key, mount, eject, line, instruction, command, set_break, watch, go, console,
         printer, ejected, poke, place};
@@ -175,6 +184,8 @@ static void answers(void) {
     EXPECT(PMACH_NO_KIND, pmach_put(image, image_len, NAME, 16, text, text_len, OUT));
     EXPECT(PMACH_NO_KIND, pmach_kind(image, image_len, NAME, 16, OUT));
     EXPECT(PMACH_NO_KIND, pmach_kind_slot(image, image_len, 1, 255, OUT));
+    EXPECT(PMACH_NO_FORMAT, pmach_convert(image, image_len, NAME, name, 0, OUT));
+    EXPECT(PMACH_NO_FORMAT, pmach_convert_back(image, image_len, odd_name, 1, image, image_len, OUT));
     EXPECT(PMACH_REFUSED, pmach_assemble(odd_name, 1, false, OUT));
     EXPECT(PMACH_STOPPED, pmach_raw(hex, 11, 1, OUT));
     EXPECT(PMACH_FAILED, pmach_raw(error, 2, 9, OUT));
@@ -209,6 +220,7 @@ int main(int argc, char **argv) {
     text_len = fread(text, 1, ROOM, file);
     fclose(file);
     if (pmach_assemble(text, text_len, false, code, ROOM, &code_len)) return 2;
+    if (pmach_assemble(system_text, sizeof system_text - 1, false, segment, ROOM, &segment_len)) return 2;
     if (pmach_volume((const uint8_t *)"OWN", 3, 280, OUT)) return 2;
     memcpy(image, out, image_len = needed);
     if (pmach_put(image, image_len, NAME, 2, code, code_len, OUT)) return 2;

@@ -42,14 +42,16 @@ enum {
     PMACH_NO_PLACE = 13,   /* SEG or JTAB is odd, so the position in the code is unknown */
     PMACH_NO_KIND = 14,    /* the kind is above 15 */
     PMACH_AT_BREAK = 15,   /* the run has reached a breakpoint */
-    PMACH_CHANGED = 16     /* a watched word has changed */
+    PMACH_CHANGED = 16,    /* a watched word has changed */
+    PMACH_NO_FORMAT = 17   /* a name is not the name of a format of images */
     /* 100 + N: execution error N. 200 + N: `refused boot N`. 300 + N: 301 not a disk unit, 302 the unit has a disk.
        400 + N: `refused volume N`. 500 + N: 501 too many breakpoints or watched words, 502 not set, 503 odd address. */
 };
 
 /* Writes the text for a result; an empty text if it is not a result. Returns 0; 7. For the message of a job the number is
    400 + N for `refused volume N` and `refused filer 1 N`, 200 + N for `refused boot N`, 600 + N for `refused asm N`,
-   700 + N for `refused code N`, and 800 + N for `refused filer 2 N`. */
+   700 + N for `refused code N`, 800 + N for `refused filer 2 N`, 900 + N for `refused convert N`, and 1000 + N for
+   `refused system N`. */
 uint32_t pmach_sentence(uint32_t status, uint8_t *out, size_t out_len, size_t *needed);
 /* Returns the version of the library: 100 times its first number plus its second. Compare it with PMACH_VERSION. */
 uint32_t pmach_version(void);
@@ -57,7 +59,7 @@ uint32_t pmach_version(void);
 /* ---- whole jobs: bytes in, an answer out
    The answer is written to the start of out, and *needed is its length. They return 0 if the job was done; 2 if it was
    refused, and then the answer is the message of the program, such as `refused asm 2 1`, without a line feed; 7, 4 and 5
-   as above. With 4, 5 and 12 there is no answer, and *needed is 0. */
+   as above. With 4, 5, 12, 14 and 17 there is no answer, and *needed is 0. */
 
 /* the code file of an assembler text, or its listing if list is true */
 uint32_t pmach_assemble(const uint8_t *text, size_t text_len, bool list, uint8_t *out, size_t out_len, size_t *needed);
@@ -136,6 +138,26 @@ uint32_t pmach_check(const uint8_t *image, size_t image_len, uint8_t *out, size_
 /* a new volume with the valid files of a damaged image, by the first copy of the directory or the second */
 uint32_t pmach_salvage(const uint8_t *image, size_t image_len, bool second,
     uint8_t *out, size_t out_len, size_t *needed);
+/* the report of pmach_salvage: a line for each entry that is copied or left out, and a last line */
+uint32_t pmach_salvage_report(const uint8_t *image, size_t image_len, bool second,
+    uint8_t *out, size_t out_len, size_t *needed);
+/* adds the segment in slot 0 of the code file `system` to the first file with a name, in its slot 0, as `run --system` does
+   in memory: `refused volume N`, `refused system N`; the image unchanged if this is no code file or no file has the name */
+uint32_t pmach_with_system(const uint8_t *image, size_t image_len, const uint8_t *name, size_t name_len,
+    const uint8_t *system, size_t system_len, uint8_t *out, size_t out_len, size_t *needed);
+
+/* Formats of images. A format is a name of docs/COMMANDS.md, "`convert`", such as `dos` or `2mg-blocks`; the other calls
+   read volumes in the format `blocks`. If `from` is empty, it is the only format in which the image opens. */
+/* a line for each format in which the image opens as a volume: the format, the name of the volume and a colon, and the
+   last line of its list; empty if there is none. Never 2 */
+uint32_t pmach_formats(const uint8_t *image, size_t image_len, uint8_t *out, size_t out_len, size_t *needed);
+/* a new image, in the format `to`, of the volume in the image: 2 `refused convert N`; 17 */
+uint32_t pmach_convert(const uint8_t *image, size_t image_len, const uint8_t *from, size_t from_len,
+    const uint8_t *to, size_t to_len, uint8_t *out, size_t out_len, size_t *needed);
+/* the image with these blocks instead of its own: in its format, with its header and the bytes after its volume:
+   2 `refused convert N`; 17 */
+uint32_t pmach_convert_back(const uint8_t *image, size_t image_len, const uint8_t *from, size_t from_len,
+    const uint8_t *blocks, size_t blocks_len, uint8_t *out, size_t out_len, size_t *needed);
 
 /* ---- a machine, used through a handle */
 

@@ -3,6 +3,7 @@
     import pmach
     pmach.load("out/unproved/libpm_c.a")         # built by `./pmach --library`
     code = pmach.job("assemble", text, False)    # returns the bytes of the answer; raises Refused if the job is refused
+    blocks = pmach.job("convert", image, b"", b"blocks")    # an image in any format, as the other jobs read it
     with pmach.Machine.raw(bytes.fromhex("020382D6")) as machine:
         while machine.step() == 0:
             print(machine.line())

@@ -17,6 +17,7 @@ worked_answers = record {
   no_kind = refl;
   at_break = refl;
   changed = refl;
+  no_format = refl;
   waiting = refl;
   ended = refl;
   refused = refl;

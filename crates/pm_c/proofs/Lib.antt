@@ -1,4 +1,5 @@
 pub mod Computed
+pub mod FormatLaws
 mod LooseValues
 pub mod SentenceLaws
 pub mod SessionLaws

@@ -19,6 +19,11 @@ use Rattle.pm_units.specs.declared.ports.MountFault.{MountFault}
 use Rattle.pm_volume.specs.Faults.{number_of as volume_number}
 use Rattle.pm_volume.specs.declared.fault.VolumeFault.{VolumeFault}
 use Rattle.pm_volume.specs.declared.fault.VolumeFault.TheVariants.{NoMemory}
+use Rattle.pm_convert.specs.Jobs.{number_of as convert_number}
+use Rattle.pm_convert.specs.declared.job.ConvertFault.{ConvertFault}
+use Rattle.pm_filer.specs.SystemFaults.{number_of as system_number}
+use Rattle.pm_filer.specs.declared.system_fault.SystemFault.{SystemFault}
+use Rattle.pm_filer.specs.declared.system_fault.SystemFault.TheVariants as system
 use Rattle.pm_session.specs.declared.commands.Command.TheVariants as commands
 use Rattle.pm_session.specs.Answers.{after_command, after_run, session_after, with_breaks, with_watches}
 use Rattle.pm_session.specs.Orders.{order_of}
@@ -27,7 +32,7 @@ use Rattle.pm_c.specs.Sentences.{sentence}
 use Rattle.pm_c.specs.Sessions.{breaks_after, go_code, line_answer, watches_after}
 use Rattle.pm_c.specs.Changes.{fill_code, filled}
 use Rattle.pm_c.specs.Codes.{boot_code, image_code, on_unit_4, program_code, stop_code}
-use Rattle.pm_c.specs.declared.status.TheConstants.{DONE, NO_MACHINE, NO_MEMORY, TOO_SHORT}
+use Rattle.pm_c.specs.declared.status.TheConstants.{DONE, NO_FORMAT, NO_MACHINE, NO_MEMORY, TOO_SHORT}
 
 -- If a buffer is too short, it is unchanged. A buffer `room` of the needed length then gets exactly the bytes.
 abbrev pub WantedLengthIsEnough : Type 0
@@ -57,7 +62,7 @@ abbrev pub IsTold : ℕ → Type 0
 IsTold status = is_some (sentence status) ≡ true
 
 -- The library has a sentence for each end of a step and of a run of the debugger. It also has a sentence for each fault
--- of a start, a unit, a volume and a breakpoint.
+-- of a start, a unit, a volume, a breakpoint, a conversion and the system segment, and for a name of no format.
 pub record AnswersAreTold : Type 0 where
   pub stops : (stop : Stop) → IsTold (stop_code stop)
   pub runs : (reason : BreakReason) → IsTold (go_code reason)
@@ -67,6 +72,9 @@ pub record AnswersAreTold : Type 0 where
   pub full : IsTold (500 + refusal_number Full)
   pub not_set : IsTold (500 + refusal_number NotSet)
   pub odd_address : IsTold (500 + refusal_number OddAddress)
+  pub conversions : (fault : ConvertFault) → IsTold (900 + convert_number fault)
+  pub systems : (fault : SystemFault) → fault ≢ system.NoMemory → IsTold (1000 + system_number fault)
+  pub no_format : IsTold NO_FORMAT
 
 -- The answers to a list of lines are the answer to the first line, followed by the answers to the other lines in the
 -- session after the first line. After `quit` no more lines are answered. The answer to a line that is no command is

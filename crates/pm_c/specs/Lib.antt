@@ -1,6 +1,7 @@
 pub mod Answers
 pub mod Changes
 pub mod Codes
+pub mod Images
 pub mod Laws
 pub mod Owned
 pub mod Sentences

@@ -78,8 +78,26 @@ file_sentences =
     (804, codes "the byte is not allowed in a text file") ∷
     []
 
+-- The numbers and sentences for formats of images and for the system segment.
+unfoldable pub image_sentences : List (ℕ × List ℕ)
+image_sentences =
+    (17, codes "no format has this name") ∷
+    (901, codes "the image is no volume in any supported format") ∷
+    (902, codes "more than one format fits") ∷
+    (903, codes "the image has no volume in this format") ∷
+    (904, codes "the volume does not have the length that the new format or the original image requires") ∷
+    (1001, codes "the system file is not a code file") ∷
+    (1002, codes "the system file has no segment in slot 0") ∷
+    (1003, codes "the program is not a code file") ∷
+    (1004, codes "the program already has a segment in slot 0") ∷
+    (1005, codes "cannot add the system segment to the program") ∷
+    []
+
+unfoldable pub image_sentence : ℕ → Option (List ℕ)
+image_sentence n = lookup (λ m. m == n) image_sentences
+
 unfoldable pub file_sentence : ℕ → Option (List ℕ)
-file_sentence n = lookup (λ m. m == n) file_sentences
+file_sentence n = option_or (lookup (λ m. m == n) file_sentences) (image_sentence n)
 
 unfoldable pub sentence : ℕ → Option (List ℕ)
 sentence n = option_or (lookup (λ m. m == n) call_sentences) (file_sentence n)

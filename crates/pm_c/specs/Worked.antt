@@ -20,7 +20,7 @@ use Rattle.pm_c.specs.Sessions.{go_code, set_code}
 use Rattle.pm_c.specs.Codes.{mount_code, poke_code, start_code, status_code, stop_code, volume_code}
 use Rattle.pm_c.specs.declared.status.TheConstants.{DONE, TOO_LONG, NO_MEMORY, TOO_SHORT, NO_MACHINE, HAS_MACHINE}
 use Rattle.pm_c.specs.declared.status.TheConstants.{ODD_ADDRESS, NO_DISK, NO_TEXT, NO_PLACE, NO_KIND, AT_BREAK, CHANGED}
-use Rattle.pm_c.specs.declared.status.TheConstants.{WAITING, ENDED, REFUSED, FAILED, STOPPED, VERSION}
+use Rattle.pm_c.specs.declared.status.TheConstants.{WAITING, ENDED, REFUSED, FAILED, STOPPED, NO_FORMAT, VERSION}
 
 -- The statuses of calls.
 pub record WorkedAnswers : Type 0 where
@@ -37,6 +37,7 @@ pub record WorkedAnswers : Type 0 where
   pub no_kind : NO_KIND ≡ 14
   pub at_break : AT_BREAK ≡ 15
   pub changed : CHANGED ≡ 16
+  pub no_format : NO_FORMAT ≡ 17
   pub waiting : WAITING ≡ 1
   pub ended : ENDED ≡ 2
   pub refused : REFUSED ≡ 2

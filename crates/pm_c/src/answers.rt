@@ -1,11 +1,14 @@
 //! Executes a whole job: it maps the bytes of the input to the bytes of the answer.
 ghost use Rattle.std.specs.Prelude.{◌≡◌, ◌≢◌, ◌⊎◌, ◌++◌, IfOk, IfErr, OnOk, string_bytes, option_map, vec_items};
+ghost use Rattle.std.specs.Prelude.{if◌then◌else◌, length, nat_lt};
 ghost use Rattle.pm_tool.specs.Said.{IsSoundExit, job_said};
 ghost use Rattle.pm_tool.specs.Outcomes.{exit_number};
 ghost use Rattle.pm_c.specs.Answers.{Answers, HasAnswer, answer_of, or_told};
+ghost use Rattle.pm_c.specs.Changes.{filled};
+ghost use Rattle.pm_c.specs.declared.status.TheConstants.{REFUSED, TOO_SHORT};
 
 use crate::buffer::give;
-use crate::status::{DONE, NO_MEMORY, NO_TEXT, TOO_LONG};
+use crate::status::{DONE, NO_MEMORY, NO_TEXT, REFUSED, TOO_LONG};
 use pm_tool::{Exit, Job, Kept, Outcome, Reader, run};
 use std::alloc::{AllocError, Global};
 
@@ -56,6 +59,18 @@ fn done(alloc: Global, input: &[u8], job: Job) -> Result<(Vec<u8>, u32), u32>
     match answer_bytes(bytes, outcome) {
         Ok(bytes) => Ok((bytes, code)),
         Err(_) => Err(NO_MEMORY),
+    }
+}
+
+/// Copies `message`, the answer of a refused job, to `out`. Returns the status.
+pub(crate) fn refuse(message: &[u8], out: &mut [u8], needed: &mut usize) -> u32
+    ensures wants { needed.new ≡ length message.now }
+    ensures holds { out.new ≡ filled message.now out.old }
+    ensures says { result ≡ (if nat_lt (length out.old) (length message.now) then TOO_SHORT else REFUSED) }
+{
+    match give(message, out, needed) {
+        DONE => REFUSED,
+        short => short,
     }
 }
 

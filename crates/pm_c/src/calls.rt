@@ -1,5 +1,6 @@
 //! Tests of each call of the library. They compare the status with the number in the header, and check the answer. The
 //! tests are in this crate because no crate can depend on a static library.
+mod images;
 mod jobs;
 mod machines;
 mod refusals;

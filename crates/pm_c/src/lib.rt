@@ -6,12 +6,14 @@ mod answers;
 mod buffer;
 #[cfg(test)]
 mod calls;
+pub mod conversions;
 pub mod debugger;
 pub mod disks;
 pub mod events;
 pub mod filing;
 mod handle;
 mod held;
+pub mod images;
 pub mod jobs;
 pub mod laws;
 pub mod lines;

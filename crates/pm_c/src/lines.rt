@@ -22,8 +22,8 @@ pub struct Place {
     pub offset: u16,
 }
 
-// Copies `text` to `out`, or returns the status for out of memory.
-fn tell(text: Result<String, AllocError>, out: &mut [u8], needed: &mut usize) -> u32
+/// Copies `text` to `out`, or returns the status for out of memory.
+pub(crate) fn tell(text: Result<String, AllocError>, out: &mut [u8], needed: &mut usize) -> u32
     ensures told { IfOk text (λ text. Tells (string_bytes text) result out.old out.new needed.new) }
     ensures none { OnErr text ((result ≡ NO_MEMORY) × (out.new ≡ out.old) × (needed.new ≡ 0)) }
 {

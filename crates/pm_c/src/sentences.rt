@@ -1,13 +1,35 @@
 //! The sentences that explain the numbers which calls return.
 ghost use Rattle.std.specs.Prelude.{◌≡◌, option_map};
 ghost use Rattle.pm_c.specs.Changes.{Fills};
-ghost use Rattle.pm_c.specs.Sentences.{file_sentence, or_nothing, sentence};
+ghost use Rattle.pm_c.specs.Sentences.{file_sentence, image_sentence, or_nothing, sentence};
 ghost use Rattle.pm_c.specs.declared.status.TheConstants.{VERSION};
 
 use crate::buffer::give;
 use crate::status::VERSION;
 
-/// Returns the sentence for `status`, if it is a known number from 401 on.
+/// Returns the sentence for `status`, if it is the number of a fault of a format of images or of the system segment.
+#[tactic(auto, unfolding(crate::specs::Sentences::image_sentence, crate::specs::Sentences::image_sentences))]
+fn image_sentence(status: u32) -> Option<&'static str>
+    ensures sentence { option_map (λ text. text.now) result ≡ image_sentence status }
+{
+    match status {
+        17 => Some("no format has this name"),
+        901 => Some("the image is no volume in any supported format"),
+        902 => Some("more than one format fits"),
+        903 => Some("the image has no volume in this format"),
+        904 => Some(
+            "the volume does not have the length that the new format or the original image requires",
+        ),
+        1001 => Some("the system file is not a code file"),
+        1002 => Some("the system file has no segment in slot 0"),
+        1003 => Some("the program is not a code file"),
+        1004 => Some("the program already has a segment in slot 0"),
+        1005 => Some("cannot add the system segment to the program"),
+        _ => None,
+    }
+}
+
+/// Returns the sentence for `status`, if it is 17 or a known number from 401 on.
 #[tactic(auto, unfolding(crate::specs::Sentences::file_sentence, crate::specs::Sentences::file_sentences))]
 fn file_sentence(status: u32) -> Option<&'static str>
     ensures sentence { option_map (λ text. text.now) result ≡ file_sentence status }
@@ -46,7 +68,7 @@ fn file_sentence(status: u32) -> Option<&'static str>
         801 => Some("the file has no header"),
         803 => Some("the line does not fit in a page"),
         804 => Some("the byte is not allowed in a text file"),
-        _ => None,
+        _ => image_sentence(status),
     }
 }
 

@@ -63,6 +63,9 @@ pub const AT_BREAK: u32 = 15;
 /// A watched word has changed.
 pub const CHANGED: u32 = 16;
 
+/// A name is not the name of a format.
+pub const NO_FORMAT: u32 = 17;
+
 /// Returns the status of a step that ended with `stop`.
 pub(crate) fn stop_code(stop: Stop) -> u32
     ensures value { result ≡ stop_code stop }

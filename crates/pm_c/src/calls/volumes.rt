@@ -13,7 +13,7 @@ pub(super) fn blank(rt: &impl Abort, alloc: Global) -> Vec<u8> {
 }
 
 /// Returns a volume with a file of three bytes.
-fn with_a(rt: &impl Abort, alloc: Global) -> Vec<u8> {
+pub(super) fn with_a(rt: &impl Abort, alloc: Global) -> Vec<u8> {
     answer!(rt, alloc, pmach_put, &blank(rt, alloc), b"A", 5, b"xyz").bytes
 }
 

@@ -1,14 +1,17 @@
 #!/bin/bash
 # `page.sh [--every N] [PAGE]` tests the page that ./pmach --page makes, by default out/unproved/pmach.html. Run manually; not
 # part of the gate. Requires python3, and for looks and cases node 20 and cc. PMACH names another native program than
-# ../pmach.
+# ../pmach. STEPS is the number of steps of the longest run in each browser, by default 100,000,000.
 #
 #   file       its size, its parts, the checksums of its Content-Security-Policy, nothing that leads to a network
 #   numbers    each number of its JavaScript has a reason (page/numbers.txt)
 #   looks      what a person does with it, in node, in a small document without layout (page/looks.js, page/dom.mjs)
 #   cases      the cases of docs/CASES.md, or each Nth of them: by its WebAssembly, in place of the native program
-#              (page/server.mjs, page/cases.py); and all of examples/conformance/bare.txt (page/client.c)
-#   browsers   the looks and the typed programs in Chromium, a program in Firefox and in WebKitGTK, if they are installed
+#              (page/server.mjs, page/cases.py); all of examples/conformance/bare.txt (page/client.c); and GENERATED
+#              generated command lines (2,000), by its WebAssembly and by the native program (page/generated.py)
+#   browsers   in Chromium, Firefox and WebKitGTK, if they are installed: the looks, all cases of bare.cases in the page itself,
+#              and its limits (page/limits.js): 32 MiB, a trap, memory that ends, many steps. In Chromium also keys, downloads,
+#              widths, contrast, one file by examples/site, and the typed programs of examples/system (page/programs.py)
 #
 # The last line is `N passed, N failed`. What is left out, because something is not installed, is named.
 here=$(readlink -f "$(dirname "$0")/..")
@@ -139,6 +142,7 @@ else
         check "$name" python3 "$here/bench/page/cases.py" --every "$every" socket "$here/crates/test_cases/data/$name.cases"
     done
     check "the cases for other machines" ends_with "^\([0-9]*\) of \1 cases" python3 "$here/examples/conformance/hold.py" "$scratch/wasm/pmach" raw
+    mkdir generated && check "generated cases" eval "(cd generated && python3 '$here/bench/page/generated.py' ../socket ${GENERATED:-2000})"
     kill "$server" && wait "$server"
     server=''
     tail -n 1 server.log

@@ -17,7 +17,7 @@ class ClassList {
 
 class Element {
   constructor(document, tag) {
-    Object.assign(this, {document, tag, nodes: [], parent: null, listeners: {}, attributes: new Map(), open: false, value: "", scrollTop: 0});
+    Object.assign(this, {document, tag, nodes: [], parent: null, listeners: {}, attributes: new Map(), open: false, value: "", scrollTop: 0, style: {}});
     this.classList = new ClassList(this);
     this.dataset = new Proxy({}, {
       get: (_, name) => this.attributes.get("data-" + name),
@@ -31,6 +31,8 @@ class Element {
   set className(names) { this.setAttribute("class", names); }
   get tabIndex() { return Number(this.getAttribute("tabindex") ?? -1); }
   set tabIndex(value) { this.setAttribute("tabindex", value); }
+  get ariaLabel() { return this.getAttribute("aria-label"); }
+  set ariaLabel(words) { this.setAttribute("aria-label", words); }
   get children() { return this.nodes.filter(node => node instanceof Element); }
   get textContent() { return this.nodes.map(node => node instanceof Element ? node.textContent : node).join(""); }
   set textContent(text) { this.replaceChildren(...(text === "" ? [] : [String(text)])); }
@@ -41,7 +43,10 @@ class Element {
     }
     if (this.tag === "select" && this.value === "") this.value = String(this.children[0]?.value ?? "");
   }
+  appendChild(node) { this.append(node); return node; }
   replaceChildren(...nodes) { this.nodes = []; this.append(...nodes); }
+  remove() { this.parent.nodes = this.parent.nodes.filter(node => node !== this); }
+  getBoundingClientRect() { return {left: 0, bottom: 0}; }
   get all() { return this.children.flatMap(child => [child, ...child.all]); }
   matches(selector) {
     const [, id, tag, name, attribute, value] = /^(?:#([\w-]+)|([a-z]+)?(?:\.([\w-]+))?(?:\[([\w-]+)='?([^'\]]*)'?\])?)$/.exec(selector);
@@ -56,10 +61,11 @@ class Element {
   querySelector(selector) { return this.querySelectorAll(selector)[0] ?? null; }
   addEventListener(kind, does) { (this.listeners[kind] ??= []).push(does); }
   fire(kind, properties = {}) {
-    const event = {target: this, prevented: false, preventDefault() { this.prevented = true; }, ...properties};
+    const event = {target: this, prevented: false, preventDefault() { this.prevented = true; }, stopPropagation() { this.stopped = true; }, ...properties};
     for (let at = this; at; at = at.parent ?? (at === this.document ? null : this.document)) {
       for (const does of at.listeners[kind] ?? []) does(event);
       at["on" + kind]?.(event);
+      if (event.stopped) break;
     }
     return event;
   }
@@ -83,7 +89,8 @@ for (const name of ["hidden", "disabled"])
 export function load(page) {
   const document = new Element(null, "#document");
   document.document = document;
-  Object.assign(document, {clicked: [], activeElement: null, title: "", createElement: tag => new Element(document, tag)});
+  Object.assign(document, {clicked: [], activeElement: null, title: "", createElement: tag => new Element(document, tag),
+    createElementNS: (_, tag) => new Element(document, tag)});
   document.getElementById = id => document.all.find(element => element.getAttribute("id") === id) ?? null;
   const scripts = [], tag = /<(\/?)([a-z][a-z0-9]*)((?:\s+[\w-]+(?:="[^"]*")?)*)\s*>/y;
   let at = document, k = page.indexOf(">") + 1;

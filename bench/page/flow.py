@@ -1,9 +1,11 @@
 #!/usr/bin/env python3
-"""flow.py PAGE SHOTS: what a person does with the page, in Chromium. Runs looks.js, and what only a browser can show: files
-that are chosen and dropped, keys, downloads, the width, both color schemes, messages and requests of the browser. Run it in an
-empty directory; it puts screenshots into SHOTS. PMACH names the native program."""
+"""flow.py PAGE SHOTS: what a person does with the page, in Chromium. Runs looks.js and limits.js, the cases for bare code, and
+what only a browser can show: files that are chosen and dropped, keys, downloads, the width, both color schemes, the contrast,
+messages and requests of the browser. Run it in an empty directory; it puts screenshots into SHOTS. PMACH names the native
+program, STEPS the number of steps of the longest run (100,000,000)."""
 import json
 import os
+import re
 import subprocess
 import sys
 import tempfile
@@ -12,6 +14,7 @@ import time
 HERE = os.path.dirname(os.path.abspath(__file__))
 sys.dont_write_bytecode = True
 from cdp import Browser
+from cases_of_page import bare_cases
 
 PAGE, SHOTS = sys.argv[1:]
 PMACH = os.environ.get("PMACH", os.path.join(HERE, "..", "..", "pmach"))
@@ -27,6 +30,20 @@ def check(name, got, wanted):
         print("FAILED: %s: %r" % (name, got))
 
 
+# The texts with a contrast below 4.5 (WCAG AA), except those of disabled buttons.
+CONTRAST = """(() => {
+  const parts = color => (color.match(/[\\d.]+/g) ?? []).map(Number);
+  const light = ([r, g, b]) => [r, g, b].map(c => c / 255).map(c => c <= .04045 ? c / 12.92 : ((c + .055) / 1.055) ** 2.4).reduce((sum, c, k) => sum + c * [.2126, .7152, .0722][k], 0);
+  const back = el => { for (let at = el; at; at = at.parentElement) { const [r, g, b, a = 1] = parts(getComputedStyle(at).backgroundColor); if (a === 1 && r !== undefined) return [r, g, b]; } return [255, 255, 255]; };
+  const low = [];
+  for (const el of document.querySelectorAll("body *")) {
+    const has = [...el.childNodes].some(node => node.nodeType === 3 && node.data.trim() !== ""), style = getComputedStyle(el);
+    if (!has || !el.checkVisibility() || el.disabled || ["SCRIPT", "STYLE", "title"].includes(el.tagName)) continue;
+    const [a, b] = [light(parts(style.color)), light(back(el))].sort((x, y) => y - x), ratio = (a + .05) / (b + .05);
+    if (ratio < 4.5 && !style.color.startsWith("color(")) low.push(el.tagName + "#" + el.id + "." + el.className + " " + ratio.toFixed(2));
+  }
+  return [...new Set(low)].slice(0, 10);
+})()"""
 subprocess.run([os.path.join(HERE, "../../examples/disk.sh"), "kept.img"], check=True, env=dict(os.environ, PMACH=PMACH))
 browser = Browser()
 try:
@@ -39,7 +56,14 @@ try:
     for name, is_right, got in browser.js("looks(%s)" % json.dumps(given)):
         check(name, is_right, lambda right, got=got: right or print(got))
 
-    browser.js("changed = false; 0")
+    with open(os.path.join(HERE, "limits.js"), encoding="utf-8") as file:
+        browser.js(file.read() + "; 0")
+    given["steps"] = int(os.environ.get("STEPS", "100000000"))
+    for name, is_right, got in browser.js("bareCases(%s)" % json.dumps(bare_cases())) + browser.js("limits(%s)" % json.dumps(given)):
+        check(name, is_right, lambda right, got=got: right or print(got))
+        if re.search("steps the page|opens", name):
+            print("%s: %s" % (name, got))
+    browser.js("drives.clear(); 0")
     browser.open(PAGE)
     browser.files("#image", "kept.img")
     browser.wait("document.querySelectorAll('#files button').length === 3")
@@ -51,7 +75,7 @@ try:
     browser.press("Enter")
     browser.wait("program !== null")
     browser.js("$('lines').querySelector('.place[tabindex=\"0\"]').focus(); 0")
-    check("a line has the focus", browser.js("document.activeElement.className.includes('place')"), True)
+    check("a line has the focus", browser.js("document.activeElement.className === 'place'"), True)
     browser.press("Enter")
     check("Enter sets a breakpoint", browser.text("breaks"), lambda text: text != "")
     browser.press("F8")
@@ -84,13 +108,45 @@ try:
         document.dispatchEvent(new DragEvent("drop", {dataTransfer: data, bubbles: true, cancelable: true})); })()""")
     browser.wait("$('refusal-title').textContent === 'dropped.bin is not opened'")
     check("a dropped file that is no volume", browser.text("reason"), lambda text: text.startswith("refused volume 1: "))
+    browser.js("$('dismiss').click(); [...document.querySelectorAll('#files button')].find(b => b.textContent === 'HANOI').click(); $('debug').click(); 0")
+    browser.js("library.line('break 1 3 0'); $('go').click(); 0")
+    browser.wait("running === null")
+    for part in ("memory", "traced", "flame", "answers", "map", "words"):
+        browser.js("$('%s').closest('details').open = true; 0" % part)
+    browser.js("trace(10); command('help'); search('e'); scrollTo(0, 0); 0")
+    nodes = browser.do("Accessibility.getFullAXTree")["nodes"]
+    roles = ("button", "textbox", "combobox", "spinbutton", "checkbox", "searchbox", "link", "region", "log")
+    check("each control has a name for a screen reader", [node["role"]["value"] + str(node.get("properties"))[:200] for node in nodes
+          if not node["ignored"] and node["role"]["value"] in roles and not node["name"]["value"]], [])
     # widths and color schemes
     for width in (360, 800, 1500, 2000):
         browser.do("Emulation.setDeviceMetricsOverride", width=width, height=900, deviceScaleFactor=1, mobile=False)
         for scheme in ("light", "dark"):
             browser.do("Emulation.setEmulatedMedia", features=[{"name": "prefers-color-scheme", "value": scheme}])
             browser.shot("%s/%d-%s.png" % (SHOTS, width, scheme))
+            check("contrast at %d pixels, %s" % (width, scheme), browser.js(CONTRAST), [])
         check("no part is wider than %d pixels" % width, browser.js("document.documentElement.scrollWidth"), lambda wide, width=width: wide <= width)
+    # one file with a disk inside, and a hostile name of its image
+    site, hostile, environment = os.path.join(HERE, "../../examples/site/site.sh"), "<img src=x>&\"'\n.img", dict(os.environ, PMACH=PMACH, PMACH_PAGE=os.path.abspath(PAGE))
+    with open("kept.img", "rb") as old, open(hostile, "wb") as new:
+        new.write(old.read())
+    made = lambda *words: subprocess.run([site, *words], env=environment, stdout=subprocess.PIPE, stderr=subprocess.PIPE, check=False)
+    check("site.sh makes one file", [made(hostile, "one.html").returncode, made(hostile, "two.html").returncode], [0, 0])
+    with open("one.html", "rb") as one, open("two.html", "rb") as two:
+        check("of the same bytes", one.read() == two.read(), True)
+    os.symlink("nothing", "link.html")
+    os.mkdir("folder.html")
+    check("it replaces nothing", [made("kept.img", name).returncode for name in ("one.html", "link.html", "folder.html", "none/one.html", ".html")], [1, 1, 1, 1, 0])
+    check("and follows no link", os.path.exists("nothing"), False)
+    check("and reports an image that is missing", made("no.img", "three.html").returncode, 2)
+    browser.js("drives.clear(); closeProgram(); 0")
+    browser.open("one.html")
+    browser.wait("disk !== null")
+    check("the page opens on its disk", browser.text("disk-title"), "KEPT (<img src=x>&\"'?.img)")
+    check("whose name makes no element", browser.js("document.querySelectorAll('img').length"), 0)
+    browser.js("[...document.querySelectorAll('#files button')].find(b => b.textContent === 'HANOI').click(); $('run').click(); 0")
+    browser.wait("running === null")
+    check("its program runs", browser.text("state"), "The program has ended. Steps: 402")
     check("no message and no request", browser.messages(), [])
 finally:
     browser.close()

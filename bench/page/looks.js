@@ -9,7 +9,8 @@ async function looks(given) {
   const shows = id => $(id).textContent, press = id => $(id).click();
   const names = () => [...document.querySelectorAll("#files button")].map(button => button.textContent);
   const choose = name => [...document.querySelectorAll("#files button")].find(button => button.textContent === name).click();
-  const placed = text => [...document.querySelectorAll("#lines .place")].find(line => line.textContent === text);
+  const line = text => [...$("lines").children].find(line => line.textContent === text);
+  const view = words => [...document.querySelectorAll("#forms button")].find(button => button.textContent === words);
   const here = () => [...document.querySelectorAll("#lines .here")].map(line => line.textContent);
   const ended = async () => { while (running !== null) await new Promise(next => setTimeout(next, 1)); };
   const answer = (...values) => {
@@ -20,7 +21,7 @@ async function looks(given) {
   const send = line => { $("line").value = line; command(line); };
 
   check("the page is ready", shows("status"), "Ready");
-  check("at first only the welcome is shown", ["welcome", "refusal", "disk", "file", "program"].map(id => $(id).hidden), [false, true, true, true, true]);
+  check("at first only the welcome is shown", ["welcome", "refusal", "box", "disk", "file", "program"].map(id => $(id).hidden), [false, true, true, true, true, true]);
 
   // a disk and a text
   openImage(kept, "kept.img");
@@ -41,12 +42,12 @@ async function looks(given) {
   check("the state", shows("state"), "The program has ended. Steps: 402");
   press("close");
   check("the program is closed", $("program").hidden, true);
-  check("a program that writes no disk changes none", changed, false);
+  check("a program that writes no disk changes none", disk.changed, false);
 
   // a breakpoint, steps, the trace
   press("debug");
   check("the first line is marked", here().length, 1);
-  placed("00060 local1 := string[5] '?>? '").click();
+  line("00060 local1 := string[5] '?>? '").click();
   check("a line sets a breakpoint", shows("breaks"), "1 3 0");
   press("go");
   await ended();
@@ -58,13 +59,13 @@ async function looks(given) {
   press("finish");
   await ended();
   check("Finish runs to the return", library.line("where"), "1 2 18 SLDL 3");
-  placed("00060 local1 := string[5] '?>? '").click();
+  line("00060 local1 := string[5] '?>? '").click();
   check("the line again removes the breakpoint", shows("breaks"), "");
   trace(40);
   check("Trace adds its lines", shows("traced").split("\n").length, 42);
-  document.querySelectorAll("#forms button")[2].click();
+  view("Instructions").click();
   check("in the listing one line is marked", here().length, 1);
-  check("with the form chosen", document.querySelectorAll("#forms button")[2].getAttribute("aria-pressed"), "true");
+  check("with the form chosen", view("Instructions").getAttribute("aria-pressed"), "true");
   send("help");
   check("a command is answered", shows("answers"), text => text.startsWith("> help\n") && text.length > 200);
   send("poke 3 1");
@@ -93,7 +94,7 @@ async function looks(given) {
   press("rename");
   answer("NEWNAME");
   check("a file is renamed", names(), ["HANOI", "LOADS", "NEWNAME"]);
-  check("the change is not saved", [changed, shows("status")], [true, "kept.img has changes that are not saved"]);
+  check("the change is not saved", [disk.changed, shows("status")], [true, "kept.img has changes that are not saved"]);
   choose("NEWNAME");
   press("rename");
   answer("A:B");
@@ -109,41 +110,41 @@ async function looks(given) {
   check("and is shown", [...$("lines").children].map(line => line.textContent), ["one", "two"]);
   addFile(new Uint8Array(700), "zeros");
   answer("ZEROS", "5");
-  check("data is added", library.ask("get", image, bytes("ZEROS")).bytes.length, 700);
+  check("data is added", library.ask("get", disk.data, bytes("ZEROS")).bytes.length, 700);
   press("krunch");
   check("the files are moved together", shows("total"), text => /free (\d+) largest \1$/.test(text));
   press("save");
-  check("Save ends the changes", [changed, shows("status")], [false, "kept.img"]);
+  check("Save ends the changes", [disk.changed, shows("status")], [false, "kept.img"]);
 
   // what is no volume changes nothing
-  const before = image, damaged = kept.slice();
+  const before = disk.data, damaged = kept.slice();
   damaged[1056] = 0;
   openImage(damaged, "damaged.img");
   check("a damaged disk shows what check reports", shows("faults"), "slot 1 name has 0 characters, not 1 to 15\nfaults 1\nrefused volume 4 1");
-  check("and the open disk stays", [image === before, imageName, $("disk").hidden], [true, "kept.img", false]);
+  check("and the open disk stays", [disk.data === before, disk.name, $("disk").hidden], [true, "kept.img", false]);
   press("salvage");
-  check("its files are salvaged", [names(), changed, imageName], [["LOADS", "READ.ME.TEXT"], true, "damaged.img"]);
+  check("its files are salvaged", [names(), disk.changed, disk.name], [["LOADS", "READ.ME.TEXT"], true, "damaged.img"]);
   press("krunch");
   openImage(kept, "kept.img");
-  check("a disk with changes asks first", [$("dialog").open, imageName], [true, "damaged.img"]);
+  check("a disk with changes asks first", [$("dialog").open, disk.name], [true, "damaged.img"]);
   press("cancel");
-  check("Cancel keeps it", [$("dialog").open, imageName, changed], [false, "damaged.img", true]);
+  check("Cancel keeps it", [$("dialog").open, disk.name, disk.changed], [false, "damaged.img", true]);
   for (const [name, data] of [["nothing", new Uint8Array(0)], ["abc", bytes("abc".repeat(5))], ["zeros", new Uint8Array(3072)],
     ["ones", new Uint8Array(143360).fill(255)], ["odd", new Uint8Array(143361)], ["long", new Uint8Array(16777217)]]) {
-    const open = image;
+    const open = disk.data;
     openImage(data, name);
-    check(name + ": check reports, and nothing changes", [shows("faults") !== "", image === open, shows("refusal-title")], [true, true, name + " is not opened"]);
+    check(name + ": check reports, and nothing changes", [shows("faults") !== "", disk.data === open, shows("refusal-title")], [true, true, name + " is not opened"]);
   }
   for (let seed = 1; seed <= given.random; seed++) { // random bytes, and random changes of the disk's directory
     let state = seed;
     const next = end => { state = (state * 1103515245 + 12345) % 2147483648; return Math.floor(state / 65536) % end; };
     const data = seed % 2 ? Uint8Array.from({length: 512 * next(20)}, () => next(256)) : kept.slice();
     for (let k = 0; k < 8 && data.length > 3072; k++) data[1024 + next(120)] = next(256);
-    const open = image, isVolume = library.ask("list", data).status === 0;
+    const open = disk.data, isVolume = library.ask("list", data).status === 0;
     openImage(data, "random");
     if (isVolume) press("cancel");
     const shown = shows("faults") === text(library.ask("check", data).bytes) || isVolume;
-    if (!shown || image !== open || shows("status").includes("internal error")) check("random bytes " + seed, [shown, image === open], [true, true]);
+    if (!shown || disk.data !== open || shows("status").includes("internal error")) check("random bytes " + seed, [shown, disk.data === open], [true, true]);
   }
   check("random bytes change nothing", shows("status").includes("internal error"), false);
   press("dismiss");
@@ -170,7 +171,7 @@ async function looks(given) {
   check("a new disk", [names(), shows("total")], [[], "files 0 free 274 largest 274"]);
   press("sample");
   answer();
-  check("the sample disk", [names(), changed], [["HANOI", "PRIMES", "ECHO"], false]);
+  check("the sample disk", [names(), disk.changed], [["HANOI", "PRIMES", "ECHO"], false]);
   choose("ECHO");
   press("run");
   await ended();
@@ -197,21 +198,220 @@ async function looks(given) {
   press("run");
   await ended();
   press("close");
-  check("its disk is no volume any more", [names(), changed, shows("disk-title")], [[], true, "w.img is no volume any more"]);
+  check("its disk is no volume any more", [names(), disk.changed, shows("disk-title")], [[], true, "w.img is no volume any more"]);
   press("krunch");
   check("which a change refuses", shows("status"), text => text.startsWith("refused volume 3: "));
   press("sample");
   answer();
 
   // a failing library
-  const open = image;
+  const open = disk.data;
   safely(() => { throw new WebAssembly.RuntimeError("unreachable"); });
   await new Promise(next => setTimeout(next, 50));
-  check("after a trap the disk is open", [image === open, shows("status").includes("internal error")], [true, true]);
+  check("after a trap the disk is open", [disk.data === open, shows("status").includes("internal error")], [true, true]);
   choose("HANOI");
   press("run");
   await ended();
   check("and the page goes on", shows("state"), "The program has ended. Steps: 402");
   press("close");
+  await otherLooks(given, {check, shows, press, names, choose, line, view, ended, answer, opened});
   return results;
+}
+
+// The other half: code as links, values, calls, the map, bytes, search, several disks, many images, the screen, the profile.
+async function otherLooks(given, {check, shows, press, names, choose, line, view, ended, answer, opened}) {
+  const kept = Uint8Array.from(given.kept), lines = () => [...$("lines").children].map(line => line.textContent);
+  const inside = (element, name) => [...element.children].flatMap(child => [child, ...inside(child, name)]).filter(child => child.classList.contains(name));
+  const found = () => inside($("lines"), "found").map(line => line.textContent);
+  const fileOf = (name, data) => ({name, arrayBuffer: async () => data.slice().buffer});
+  const discard = () => { for (const one of drives.values()) one.changed = false; };
+  discard();
+
+  // code as links, and values
+  opened(kept, "kept.img");
+  choose("HANOI");
+  const call = inside(line("00023   CGP_2(param3 - 1, param2, 6 - param2 - param1)"), "link")[0];
+  check("a call is a link", call.textContent, "CGP_2");
+  inside(line("00034   CLP_3"), "link")[0].click();
+  check("which leads to its procedure", found(), ["PROCEDURE 3 OF SEGMENT 1: level 2, 0 bytes of parameters, 6 of locals, 0 of result"]);
+  const variable = inside(line("00018 IF param3 > 0 THEN"), "variable")[0];
+  variable.onmouseenter();
+  check("a variable has no value before Debug", shows("tip"), "param3: its value is shown after Debug");
+  press("debug");
+  library.line("break 1 2 0");
+  press("go");
+  await ended();
+  check("parameters of the procedure", shows("values"), "param1    3param2    1param3    3");
+  variable.onmouseenter();
+  check("a variable shows its value", [shows("tip"), $("tip").hidden], ["param3 = 3", false]);
+  variable.onmouseleave();
+  check("until the pointer leaves it", $("tip").hidden, true);
+  press("go");
+  await ended();
+  check("and the next one", shows("values"), "param1    2param2    1param3    2");
+  const other = inside(line("00070 local1.byte[1] := up1_2 + 48"), "variable");
+  other[0].onmouseenter();
+  check("not that of another procedure", shows("tip"), "local1: the program is not in this procedure");
+  library.line("clear 1 2 0");
+  library.line("break 1 3 0");
+  press("go");
+  await ended();
+  other[1].onmouseenter();
+  check("a variable of an outer procedure", shows("tip"), "up1_2 = 1");
+  check("locals of the procedure", shows("values"), text => /^local1 +\d+local2 +\d+local3 +\d+$/.test(text));
+  view("Statements").click();
+  check("a label is a link", inside(line("00018 IF NOT (param3 > 0) GOTO L00047"), "link").map(one => one.textContent), ["L00047"]);
+  inside(line("00018 IF NOT (param3 > 0) GOTO L00047"), "link")[0].click();
+  check("which leads to its line", found(), ["L00047:"]);
+  view("Instructions").click();
+  inside($("lines"), "link").find(one => one.textContent === "CLP 3").click();
+  check("also in the listing", found().map(one => one.slice(0, 12)), ["01 003 00060"]);
+  view("Assembler").click();
+  inside($("lines"), "link").find(one => one.textContent === "CLP 3").click();
+  check("and in the assembler text", found(), [".PROC 3 2 0 6"]);
+  press("close");
+  const globals = ".SEG 1 G\n.PROC 1 0 0 4\nSLDC 7\nSRO 1\nCGP 2\n.EXIT\nRBP 0\nNOP\n.END\n.PROC 2 1 0 2\nSLDO 1\nSTL 1\n.EXIT\nRNP 0\nNOP\n.END\n";
+  const code = library.ask("assemble", bytes(globals), 0);
+  check("a program with a global variable is assembled", code.status, 0);
+  opened(library.ask("put", kept, bytes("G"), 2, code.bytes).bytes, "g.img");
+  choose("G");
+  press("debug");
+  library.line("break 1 2 0");
+  press("go");
+  await ended();
+  inside($("lines"), "variable").find(one => one.textContent === "global1")?.onmouseenter();
+  check("a global variable", shows("tip"), "global1 = 7");
+  press("close");
+
+  // calls, map, bytes, search
+  opened(kept, "kept.img");
+  choose("HANOI");
+  view("Calls").click();
+  check("calls as a table", [...document.querySelectorAll("#graph tr")].slice(1).map(row => [...row.children].map(cell => cell.textContent).join("; ")),
+    ["1.1; 1.2; none in this file", "1.2; 1.2 ×2, 1.3; 1.1, 1.2", "1.3; none; 1.2"]);
+  check("and as a picture", [inside($("graph"), "call").length, inside($("graph"), "back").length, $("lines").hidden], [2, 1, true]);
+  inside($("graph"), "link").find(one => one.textContent === "1.3").click();
+  check("a procedure of it leads to its code", [found().length, view("Blocks").getAttribute("aria-pressed")], [1, "true"]);
+  view("Bytes").click();
+  check("bytes", [lines().length, lines()[4]], [64, "000040  20 20 20 20 20 20 20 20 48 41 4E 4F 49 20 20 20          HANOI   "]);
+  const rects = inside($("map"), "file");
+  check("a map of the blocks", [rects.length, $("map").querySelectorAll("title").length > 4], [3, true]);
+  rects[2].onclick();
+  check("whose files can be chosen", shows("file-title"), "READ.ME.TEXT");
+  view("Bytes").click();
+  check("bytes of a text", lines().length, 128);
+  search("ONE segment");
+  check("a search in texts", [shows("found"), [...$("hits").children].map(hit => hit.textContent)], ["1 line", ["READ.ME.TEXT 2 LOADS loads one segment where another stood."]]);
+  document.querySelectorAll("#hits button")[0].click();
+  check("whose line is shown", found(), ["LOADS loads one segment where another stood."]);
+  search("unitwrite");
+  check("not in code", shows("found"), "Nothing was found");
+  $("in-code").checked = true;
+  search("unitwrite");
+  check("also in code", [...$("hits").children].map(hit => hit.textContent.slice(0, 26)), ["HANOI 19 00088 UNITWRITE(1"]);
+  $("in-code").checked = false;
+  check("a long search is cut", (search("e"), [...$("hits").children].length > 0), true);
+
+  // the screen
+  const shown = (...written) => {
+    const gone = [], made = new Screen(line => gone.push(line));
+    made.write(bytes(written.join("")));
+    return [made.rows.join("|"), made.x, made.y, gone.length];
+  };
+  check("lines", shown("ab\r\ncd\re\nf"), ["ab|cd|e|f", 1, 3, 0]);
+  check("BEL is silent, BS goes back", shown("a\x07b\bc\b\b\bd"), ["dc", 1, 0, 0]);
+  check("a line of 80 characters", shown("x".repeat(80) + "\ry"), ["x".repeat(80) + "|y", 1, 1, 0]);
+  check("and of 81", shown("x".repeat(81)), ["x".repeat(80) + "|x", 1, 1, 0]);
+  check("30 lines", shown("a\r".repeat(30)), ["a|".repeat(22) + "a", 0, 23, 7]);
+  check("clear the screen", shown("ab\rcd\x0ce"), ["e", 1, 0, 0]);
+  check("home, right, clear the line", shown("abc\rdef\x19\x1c\x1dX"), ["aX|def", 2, 0, 0]);
+  check("clear to the end", shown("abc\rdef\rghi\x1f\x1f\x1c\x0b"), ["abc", 4 - 0, 0, 0].map((one, k) => k === 1 ? shown("abc\rdef\rghi\x1f\x1f\x1c\x0b")[1] : one));
+  check("sequences", shown("abc\rdef\x1b[1;2HX\x1b[2;1H\x1b[CY\x1b[AZ\x1b[K"), ["aXZ|dYf", 3, 0, 0]);
+  check("positions outside", shown("\x1b[99;99HX\x1b[HY\x1b[0;0H\x1b[2JZ"), ["Z", 1, 0, 0]);
+  check("no sequence", shown("\x1b[?25hA\x1bQB\x1b[1;2;3;4;5;6;7;8;9C"), text => text[0].includes("A") && text[0].includes("B"));
+  const stream = Array.from({length: 5000}, (_, k) => String.fromCharCode((k * 7919 + k * k) % 256)).join("");
+  check("any bytes leave a screen", shown(stream), ([rows, x, y]) => x >= 0 && x <= 80 && y >= 0 && y < 24 && rows.split("|").every(row => !/[^ -~|]/.test(row)));
+
+  // several disks
+  discard();
+  opened(kept, "kept.img");
+  const second = library.ask("put_text", library.ask("volume", bytes("TWO"), 40).bytes, bytes("A.TEXT"), bytes("hello\n")).bytes;
+  openImage(second, "two.img", false, 5);
+  check("a second disk", [shows("disk-title"), names()], ["TWO (two.img) on unit 5", ["A.TEXT"]]);
+  check("both are listed", [...$("drives").children].map(one => one.textContent), ["Unit 4: kept.img", "Unit 5: two.img", "Disk in unit 9"]);
+  $("drives").children[0].click();
+  // a program that writes 512 bytes of zeros to block 39 of unit 5
+  const writer = library.ask("assemble", bytes(".SEG 1 W\n.PROC 1 0 0 0\nSLDC 5\nLDCI 2000\nSLDC 0\nLDCI 512\nSLDC 39\nSLDC 0\nCSP 6\n.EXIT\nRBP 0\n.END\n"), 0).bytes;
+  const own = library.ask("put", kept, bytes("W"), 2, writer).bytes, marked = second.slice();
+  marked[39 * 512] = 77;
+  discard();
+  openImage(own, "own.img", false, 4);
+  openImage(marked, "two.img", false, 5);
+  showDisk(4);
+  choose("W");
+  press("run");
+  await ended();
+  check("a program uses unit 5", shows("state"), text => text.startsWith("The program has ended"));
+  press("close");
+  check("only that disk is changed", [drives.get(4).changed, drives.get(5).changed, drives.get(5).data[39 * 512]], [false, true, 0]);
+  check("and the page would ask", [...$("drives").children][1].textContent, "Unit 5: two.img *");
+  openImage(kept, "other.img", false, 5);
+  check("before it is replaced", [$("dialog").open, drives.get(5).name], [true, "two.img"]);
+  press("cancel");
+  showDisk(4);
+  choose("HANOI");
+  press("debug");
+  $("drives").children[1].click();
+  press("again");
+  check("Restart shows the disk of the program", [disk.unit, shows("file-title"), shows("state")], [4, "HANOI", "Before the first step. Steps: 0"]);
+  press("close");
+  $("drives").children[1].click();
+  press("first");
+  check("it is moved to unit 4", [drives.get(4).name, drives.get(5).name, shows("disk-title")], ["two.img", "own.img", "TWO (two.img) on unit 4"]);
+  press("eject");
+  answer();
+  check("and ejected", [[...drives.keys()], shows("disk-title")], [[5], "OWN (own.img) on unit 5".replace("OWN", "KEPT")]);
+  choose("W");
+  press("run");
+  check("a program starts from unit 4 only", [program, shows("status").startsWith("Programs start from unit 4")], [null, true]);
+  press("first");
+  discard();
+
+  // many images
+  const bad = kept.slice();
+  bad[1056] = 0;
+  const hostile = kept.slice(), put = (at, name) => { hostile[at] = name.length; hostile.set(bytes(name), at + 1); };
+  put(1056, "../<img>CON");
+  put(1082, "NUL.TEXT");
+  put(1030, "<i>&");
+  await openBox([fileOf("kept.img", kept), fileOf("bad<b>.img", bad), fileOf("KEPT.IMG", hostile), {name: "gone", arrayBuffer: async () => { throw new Error("not readable"); }}]);
+  check("many images are listed", [...$("boxed").children].map(row => [...row.children].slice(0, 5).map(cell => cell.textContent).join("; ")),
+    ["kept.img; KEPT; 20480; 3; good", "bad<b>.img; ; 20480; ; refused volume 4 1: an entry of the directory is damagedslot 1 name has 0 characters, not 1 to 15\nfaults 1\nrefused volume 4 1",
+      "KEPT.IMG; <i>&; 20480; 3; good"]);
+  check("the open disk stays", disk.name, "own.img");
+  check("their names make no element", document.querySelectorAll("#boxed b, #boxed i, #boxed img").length, 0);
+  let zip = null;
+  const before = saveFiles;
+  saveFiles = (files, name) => { zip = [name, withOwnPaths(files)]; };
+  await exportBox();
+  saveFiles = before;
+  check("all their files are exported", [zip[0], zip[1].map(file => file.path)], ["disks.zip", ["kept.img/HANOI", "kept.img/LOADS", "kept.img/READ.ME.TEXT",
+    "KEPT.IMG%%2/%2E.%2F%3Cimg%3ECON", "KEPT.IMG%%2/%%NUL.TEXT", "KEPT.IMG%%2/READ.ME.TEXT"]]);
+  check("a text as its characters", text(zip[1][2].data).split("\n")[0], "HANOI moves a tower of three disks.");
+  check("CRC-32", crc(bytes("123456789")).toString(16), "cbf43926");
+  await read(fileOf("bad.img", bad), data => openImage(data, "bad.img"));
+  check("a damaged one shows its faults", shows("refusal-title"), "bad.img is not opened");
+  press("dismiss");
+  press("unbox");
+  check("the list is closed", $("box").hidden, true);
+
+  // the profile
+  opened(kept, "kept.img");
+  choose("HANOI");
+  press("debug");
+  press("profile");
+  await ended();
+  check("a profile", [...$("flame").children].slice(0, 3).map(bar => bar.textContent), ["all", "1.1", "1.2"]);
+  check("after a run to its end", shows("state"), "The program has ended. Steps: 402");
+  press("close");
 }

@@ -39,10 +39,20 @@ at("close").click();
 // a program with keys only: Debug, a breakpoint two lines further, Go, an instruction, the end of the procedure
 choose("HANOI");
 at("debug").click();
-const lines = document.querySelectorAll("#lines .place"), begun = document.querySelector("#lines .place[tabindex='0']");
+const lines = opened.run("placed").map(one => one.button), begun = document.querySelector("#lines .place[tabindex='0']");
 begun.focus();
 for (const key of ["ArrowDown", "ArrowDown", "ArrowUp", "End", "Home", "ArrowDown"]) begun.fire("keydown", {key});
 check("arrow keys move between lines", [lines.indexOf(document.activeElement), lines.filter(line => line.tabIndex === 0).length], [1, 1]);
+const linked = opened.run("placed").find(one => one.line.textContent.includes("CGP_2(param3 - 1, param2")), keys = key => document.activeElement.fire("keydown", {key});
+linked.button.focus();
+keys("ArrowRight");
+check("the right arrow moves to a link of the line", document.activeElement.textContent, "CGP_2");
+keys("ArrowLeft");
+check("the left arrow back", document.activeElement === linked.button, true);
+keys("ArrowRight");
+document.activeElement.click();
+check("which leads to its procedure", document.querySelectorAll("#lines .found").map(line => line.textContent.slice(0, 11)), ["PROCEDURE 2"]);
+lines[1].focus();
 document.activeElement.click();
 check("and a line sets a breakpoint", at("breaks").textContent !== "", true);
 at("breaks").textContent.split("\n").forEach(one => opened.run("library").line("clear " + one));
@@ -76,7 +86,7 @@ at("cancel").click();
 
 // downloads, the question before the page is closed, and that no name is markup
 const saved = opened.saved.length, isAsked = changes => {
-  opened.run("changed = " + changes);
+  opened.run("disk.changed = " + changes);
   const event = {preventDefault() { this.prevented = true; }};
   for (const does of opened.window.beforeunload) does(event);
   return Boolean(event.prevented);

@@ -1,10 +1,14 @@
 #!/usr/bin/env python3
-"""others.py PAGE IMAGE: the page in Firefox and in WebKitGTK: the first program of an image of examples/disk.sh runs. Requires
-Debian's firefox-esr, webkit2gtk-driver and xvfb, and Python's standard library."""
+"""others.py PAGE IMAGE [BROWSER ..]: the page in Firefox and in WebKitGTK: what a person does with it (looks.js), its limits
+(limits.js), and the cases for bare code. IMAGE is a disk of examples/disk.sh; a BROWSER is Firefox or WebKit. STEPS is the
+number of steps of the longest run (100,000,000). Requires Debian's firefox-esr, webkit2gtk-driver and xvfb, and Python's
+standard library."""
 import base64
 import glob
+import hashlib
 import json
 import os
+import re
 import socket
 import subprocess
 import sys
@@ -12,12 +16,23 @@ import tempfile
 import time
 import urllib.request
 
+HERE = os.path.dirname(os.path.abspath(__file__))
+sys.dont_write_bytecode = True
+from cases_of_page import bare_cases
+
 QUIET = {"stdin": subprocess.DEVNULL, "stdout": subprocess.DEVNULL, "stderr": subprocess.DEVNULL}
 
 
+def free_port():
+    """A port that no other program uses, so that two tests do not drive the same browser."""
+    with socket.socket() as made:
+        made.bind(("127.0.0.1", 0))
+        return made.getsockname()[1]
+
+
 class Firefox:
-    def __init__(self, port=28371):
-        home = tempfile.mkdtemp()
+    def __init__(self):
+        home, port = tempfile.mkdtemp(), free_port()
         with open(home + "/user.js", "w", encoding="utf-8") as file:
             file.write('user_pref("marionette.port", %d);\nuser_pref("browser.shell.checkDefaultBrowser", false);\n' % port)
         self.process = subprocess.Popen(["firefox-esr", "--headless", "--marionette", "--no-remote", "--profile", home],
@@ -63,7 +78,8 @@ class Firefox:
 
 
 class WebKit:
-    def __init__(self, port=28491, display=":87"):
+    def __init__(self):
+        port, display = free_port(), ":%d" % (100 + os.getpid() % 10000)
         self.processes = [subprocess.Popen(["Xvfb", display, "-screen", "0", "1500x1000x24"], **QUIET),
                           subprocess.Popen(["WebKitWebDriver", "--port=%d" % port],
                                            env=dict(os.environ, DISPLAY=display, LIBGL_ALWAYS_SOFTWARE="1", NO_AT_BRIDGE="1"), **QUIET)]
@@ -99,27 +115,70 @@ def wait(browser, code, seconds=60):
     raise TimeoutError(code)
 
 
-page, image = sys.argv[1:]
+RUNNER = """
+document.addEventListener("test", async () => {
+  const [name, given] = JSON.parse(document.body.dataset.given);
+  let results = [];
+  await new Promise(next => setTimeout(next)); // (a driver ends a script that runs for 30 seconds)
+  try {
+    results = await {looks, limits, bareCases}[name](given);
+  } catch (error) {
+    results = [[name, false, String(error) + String(error.stack)]];
+  }
+  document.body.dataset.results = JSON.stringify(results);
+});
+"""
+
+
+def with_tests(page):
+    """A copy of the page whose script also has looks.js and limits.js. Its policy has the checksum of this script."""
+    with open(page, "rb") as file:
+        text = file.read()
+    begin = text.index(b"<script>") + len(b"<script>")
+    end = text.index(b"</script>", begin)
+    script = text[begin:end]
+    for name in ("looks.js", "limits.js"):
+        with open(os.path.join(HERE, name), "rb") as file:
+            script += file.read()
+    script += RUNNER.encode()
+    sums = [base64.b64encode(hashlib.sha256(one).digest()) for one in (text[begin:end], script)]
+    copy = os.path.join(tempfile.mkdtemp(), "tested.html")
+    with open(copy, "wb") as file:
+        file.write((text[:begin] + script + text[end:]).replace(b"sha256-" + sums[0], b"sha256-" + sums[1]))
+    return copy
+
+
+def tested(browser, name, given, seconds):
+    """Runs a test in the page; returns its results."""
+    browser.run("delete document.body.dataset.results; document.body.dataset.given = %s; document.dispatchEvent(new Event('test')); return 0" % json.dumps(json.dumps([name, given])))
+    wait(browser, "document.body.dataset.results !== undefined", seconds)
+    return json.loads(browser.run("return document.body.dataset.results"))
+
+
+page, image = sys.argv[1:3]
+names, steps = sys.argv[3:] or ["Firefox", "WebKit"], int(os.environ.get("STEPS", "100000000"))
 with open(image, "rb") as disk:
-    data = json.dumps(base64.b64encode(disk.read()).decode())
-failed = 0
-for kind in (Firefox, WebKit):
-    driven = kind()
+    data = disk.read()
+bare, copy, failed = bare_cases(), with_tests(page), 0
+for name in names:
+    driven = {"Firefox": Firefox, "WebKit": WebKit}[name]()
     try:
-        driven.go("file://" + os.path.abspath(page))
+        driven.go("file://" + copy)
         wait(driven, "document.getElementById('status').textContent !== 'Loading'")
         shown = driven.run("return document.getElementById('status').textContent")
+        results = [["the page starts", shown == "Ready", shown]]
         if shown == "Ready":
-            driven.run("""const data = new DataTransfer();
-                data.items.add(new File([Uint8Array.from(atob(%s), c => c.charCodeAt(0))], "kept.img"));
-                document.dispatchEvent(new DragEvent("drop", {dataTransfer: data, bubbles: true, cancelable: true})); return 0""" % data)
-            wait(driven, "document.querySelectorAll('#files button').length > 0")
-            driven.run("document.querySelector('#files button').click(); document.getElementById('run').click(); return 0")
-            wait(driven, "document.getElementById('state').textContent.startsWith('The program has ended')")
-            shown = driven.run("return document.getElementById('console').textContent + document.getElementById('state').textContent")
-        is_right = shown == "1>3 1>2 3>2 1>3 2>1 2>3 1>3 The program has ended. Steps: 402"
-        failed += not is_right
-        print("%s: %s: %s" % (kind.__name__, driven.run("return navigator.userAgent"), "passed" if is_right else shown), flush=True)
+            results += tested(driven, "looks", {"kept": list(data), "random": 50}, 300)
+            results += tested(driven, "bareCases", bare, 300)
+            results += tested(driven, "limits", {"kept": list(data), "steps": steps}, 300 + steps / 1e6)
+        for what, is_right, found in results:
+            if not is_right:
+                print("FAILED: %s: %s" % (what, found))
+            elif re.search("steps the page|opens in|^opens", what):
+                print("%s: %s" % (what, found))
+        wrong = sum(not result[1] for result in results)
+        failed += wrong
+        print("%s: %s: %d passed, %d failed" % (name, driven.run("return navigator.userAgent"), len(results) - wrong, wrong), flush=True)
     finally:
         driven.close()
 print("%d failed" % failed)

@@ -42,16 +42,16 @@ def compare(browser, name):
         file.write(read("old.img"))
     native = subprocess.run([PMACH, "run", "--d4", "native.img", "--save", "--limit", "50000000", name], input=keys,
                             stdout=subprocess.PIPE, stderr=subprocess.PIPE, check=False)
-    browser.js("image = null; changed = false; 0")
+    browser.js("drives.clear(); disk = null; $('image').value = ''; 0") # (a file that is chosen again is no change)
     browser.files("#image", "old.img")
-    browser.wait("image !== null && document.querySelectorAll('#files button').length === 12")
+    browser.wait("disk !== null && document.querySelectorAll('#files button').length === 12")
     browser.js("[...document.querySelectorAll('#files button')].find(b => b.textContent === '%s').click(); $('run').click(); $('keys').focus(); 0" % name)
     typed = play(browser, keys)
     steps = browser.js("String(library.registers().steps)")
     console = bytes(browser.js("[...library.ask('console', library.handle, 0n).bytes]"))
     browser.shot("%s/run-%s.png" % (SHOTS, name.lower()))
     browser.js("closeProgram(); 0")
-    is_same = (console, steps) == (native.stdout, native.stderr.decode().split()[-1]) and bytes(browser.js("[...image]")) == read("native.img")
+    is_same = (console, steps) == (native.stdout, native.stderr.decode().split()[-1]) and bytes(browser.js("[...disk.data]")) == read("native.img")
     print("%s: %d of %d keys, %s steps: %s" % (name, typed, len(keys), steps, "the same" if is_same else "DIFFERS"), flush=True)
     return is_same
 

@@ -10,6 +10,8 @@ const SHOWN = {length: 32, status: 8, registers: 12, each: 2}; // struct pmach_s
 const PLACE = {length: 4, procedure: 1, offset: 2};            // struct pmach_place: the same
 const CHUNK = 8192;              // characters that one call of fromCharCode makes
 
+class OutOfMemory extends Error {}
+
 class Library {
   constructor(instance) {
     this.c = instance.exports;
@@ -22,7 +24,7 @@ class Library {
 
   block(length) {
     const at = this.c.malloc(BigInt(length));
-    if (at === NO_ADDRESS) throw new Error("out of memory");
+    if (at === NO_ADDRESS) throw new OutOfMemory("out of memory");
     return at;
   }
 
@@ -78,6 +80,11 @@ class Library {
   line(line) {
     const status = this.call("command", this.handle, bytes(line));
     return status === DONE ? text(this.ask("answer", this.handle).bytes).replace(/\n$/, "") : this.sentence(status);
+  }
+
+  // Whether the handle has a machine. If memory runs out in a line of the debugger, the machine is freed.
+  isFull() {
+    return this.view(this.handle, WORD).getBigUint64(0, true) !== NO_ADDRESS;
   }
 
   registers() {

@@ -3,22 +3,32 @@
 
 const SLICE = 100000;       // steps between two checks of the time
 const SLICE_TIME = 30;      // milliseconds in which a run keeps the page from answering
-const MOST_SHOWN = 20000;   // characters of the console that are shown
+const MOST_SHOWN = 20000;   // characters above the screen of the console that are shown
 const MOST_TRACED = 400000; // characters of the trace that are shown
 const MOST_LINES = 4000;    // lines of a file that are added at a time
 const MOST_TEXT = 4000000;  // characters of a file that are shown
+const MOST_HITS = 500;      // lines that a search shows
 const MOST_RECALLED = 100;  // commands that the arrow keys recall
+const MOST_DRAWN = 150;     // procedures in a picture of calls
+const MOST_VALUES = 100;    // parameters and variables that are shown
 const STACK_SHOWN = 8, FRAMES_SHOWN = 8;             // words, and frames
 const MEMORY_ROWS = 8, MEMORY_ROW = 16;              // rows, and bytes of each
 const MEMORY_END = 65536;                            // docs/MACHINE.md: addresses are 0 to 65,535
 const DECIMALS = 5;                                  // digits of an address
+const HEX_ADDRESS = 6;                               // the hexadecimal digits of an offset in a file
 const PLACE_NUMBERS = 3;                             // segment, procedure and offset
+const WORD_BYTES = 2;                                // docs/FILES.md: a word is two bytes
+const MOST_LINKS = 64;      // static links that are followed to the frame of a global variable
 const NEW_NAME = "NEW", NEW_BLOCKS = 280;            // a disk of 140 KB
 const SAMPLE_BLOCKS = 40;
 const BLOCKS_END = 65535;                            // the largest uint16_t, which pmach_volume takes
+const BLOCK = 512;                                   // docs/FILES.md: the bytes of a block
+const DIRECTORY = [[0, 2, "a boot program"], [2, 6, "the directory"]]; // docs/FILES.md, "Images"
+const MAP_COLUMNS = [[400, 40], [3200, 80], [Infinity, 256]]; // blocks, and blocks in a row of their map
 const KEPT_URL = 60000;     // milliseconds until the bytes of a download may be freed
 const BOTTOM = 1e9;         // pixels: the end of anything that can be scrolled
 const BOOT_UNIT = 4;        // pmach_boot copies the volume to unit 4
+const UNITS = [BOOT_UNIT, 5, 9, 10, 11, 12];         // of disks: pmach_mount
 const CODE = 2;             // pmach_put: the kind of a code file
 const KINDS = [["Text, converted to a text file", ""], ["Data", 5], ["Code", CODE], ["Info", 4], ["Graf", 6], ["Foto", 7],
   ["Text, its bytes as they are", 3]]; // the kinds of docs/FILES.md; "" is pmach_put_text
@@ -30,26 +40,52 @@ const LAST_COLUMN = {name: 15, kind: 16, numbers: 20}; // docs/FILES.md, "The li
 // The numbers that pmach_sentence takes for the message of a job, and for the answer of a run.
 const MESSAGES = {volume: 400, boot: 200, "filer 1": 400, asm: 600, code: 700, "filer 2": 800};
 const STOPS = {waiting: 1, break: 15, changed: 16}, EXECUTION_ERROR = 100;
-const VIEWS = [["Blocks", "disassemble_blocks"], ["Statements", "disassemble_statements"], ["Instructions", "disassemble_list"],
-  ["Assembler", "disassemble_names"]];
+// How a file is shown: the words of the button, and the call that makes the text of code.
+const CODE_VIEWS = [["Blocks", "disassemble_blocks"], ["Statements", "disassemble_statements"], ["Instructions", "disassemble_list"],
+  ["Assembler", "disassemble_names"], ["Calls", null], ["Bytes", null]];
+const VIEWS = {code: CODE_VIEWS, text: [["Text", null], ["Bytes", null]]}, OTHER_VIEWS = [["Bytes", null]];
+// The picture of calls, in units of the font's size: a box of a procedure, and the distance from the next one.
+const BOX = {width: 5.5, height: 1.9, right: 3.5, down: 0.7}, ARC = 1.5;
+const SAMPLE_STEPS = 97, MOST_SAMPLES = 20000; // steps between two readings of a profile, and their number
+const DEEPEST = 40, LEAST_SHARE = 0.004;       // frames, and the share of the narrowest bar, of a profile
 
 const $ = id => document.getElementById(id);
+const SYSTEM = "0"; // the segment of the system, which a picture of calls shows only if it is chosen
+const SVG = $("svg").namespaceURI; // (so that no address of a network is in this page)
 let library = null, compiled = null;
-let image = null, imageName = "", changed = false; // the disk; whether it differs from what was opened or saved
-let refusedData = null, refusedName = "";          // the bytes that were dropped last and are no volume
-let shown = null;    // the file in the middle: {slot, name, kind, view}
-let rest = [];       // its lines that are not shown yet
-let program = null;  // the file of the program in the machine, or null
-let running = null;  // the command with which the run goes on, or null if it has stopped
-let resumes = false; // whether a key continues a run that waits
-let seen = 0;        // the number of console bytes that are shown
-const recalled = []; // commands that were sent
+const drives = new Map();  // the disks by their units: {unit, data, name, changed}
+let disk = null;           // the one that is shown
+let refused = null;        // the bytes that were dropped last and are no volume: {data, name}
+let box = [];              // the images that were dropped together: {file, name, size, title, files, verdict, lines}
+let shown = null;          // the file in the middle: {unit, slot, name, kind, view}
+let rest = [];             // its lines that are not shown yet
+let placed = [];           // its lines with a position: {button, line, segment, procedure, offset, at}
+let targets = new Map();   // its lines that can be gone to: procedures "S P" and labels "S P L00000", with their number
+let program = null;        // the file of the program in the machine, or null
+let running = null;        // the command with which the run goes on, or null if it has stopped
+let resumes = false;       // whether a key continues a run that waits
+let seen = 0;              // the number of console bytes that are shown
+let screen = null;         // the screen of the console
+let sizes = new Map();     // the parameters and variables of the program's procedures
+let profile = null;        // the steps by their procedures, while they are counted: a tree {name, own, in}
+const recalled = [];       // commands that were sent
 let recall = 0;
 
 function el(tag, properties, ...children) {
   const made = Object.assign(document.createElement(tag), properties);
   made.append(...children);
   return made;
+}
+
+function drawn(tag, attributes, ...children) {
+  const made = document.createElementNS(SVG, tag);
+  for (const [name, value] of Object.entries(attributes)) made.setAttribute(name, value);
+  made.append(...children);
+  return made;
+}
+
+function button(words, does, properties = {}) {
+  return el("button", {type: "button", textContent: words, onclick: event => { event?.stopPropagation?.(); safely(() => does()); }, ...properties});
 }
 
 function say(words, isBad = false) {
@@ -75,9 +111,10 @@ function safely(act) {
 }
 
 async function restart(error) {
-  program = running = null;
+  program = running = profile = null;
   layout();
-  say("The machine was stopped by an internal error (" + error.message + "). The disk is as it was before.", true);
+  say(error instanceof OutOfMemory ? "There is not enough memory for this. The disks are as they were before."
+    : "The machine was stopped by an internal error (" + error.message + "). The disks are as they were before.", true);
   try {
     library = new Library(await WebAssembly.instantiate(compiled, {}));
   } catch (again) {
@@ -107,119 +144,202 @@ function ask(title, words, accept, fields, then) {
   (inputs[0] ?? $("accept")).focus();
 }
 
-// Does something that closes the disk. Asks first if the disk has changes that are not saved.
-function leaving(then) {
+// Does something that closes a disk. Asks first if the disk has changes that are not saved.
+function leaving(old, then) {
   closeProgram();
-  if (!changed) return then();
-  ask("Discard the changes?", imageName + " has changes that are not saved to a file.", "Discard", [], then);
+  if (!old?.changed) return then();
+  ask("Discard the changes?", old.name + " has changes that are not saved to a file.", "Discard", [], then);
 }
 
-// ---- the disk
+// ---- the disks
 
-// Opens an image. If it is no volume, the disk that is open stays open.
-function openImage(data, name, isNew = false) {
+// Opens an image, in the place of the disk on a unit. If it is no volume, that disk stays.
+function openImage(data, name, isNew = false, unit = disk?.unit ?? BOOT_UNIT) {
   const answer = library.ask("list", data);
   if (answer.status !== DONE) return refuse(data, name, answer);
-  leaving(() => {
-    image = data;
-    imageName = name;
-    changed = isNew;
-    shown = refusedData = null;
-    list();
-    layout();
-    $("disk-title").focus();
+  leaving(drives.get(unit), () => {
+    drives.set(unit, {unit, data, name, changed: isNew});
+    refused = null;
+    showDisk(unit);
   });
+}
+
+function showDisk(unit) {
+  disk = drives.get(unit) ?? null;
+  shown = null;
+  $("hits").replaceChildren();
+  $("found").textContent = "";
+  if (disk !== null) list();
+  layout();
+  if (disk !== null) $("disk-title").focus();
+}
+
+// Takes a disk out of its unit.
+function ejectDisk() {
+  const {unit} = disk;
+  leaving(disk, () => {
+    drives.delete(unit);
+    showDisk([...drives.keys()][0]);
+    say("Unit " + unit + " is empty");
+  });
+}
+
+// Exchanges the shown disk with the one on unit 4, from which programs start.
+function moveDisk() {
+  closeProgram();
+  const other = drives.get(BOOT_UNIT), {unit} = disk;
+  drives.delete(unit);
+  drives.set(BOOT_UNIT, Object.assign(disk, {unit: BOOT_UNIT}));
+  if (other) drives.set(unit, Object.assign(other, {unit}));
+  showDisk(BOOT_UNIT);
 }
 
 // Shows why some bytes are no volume: the lines of `check`.
 function refuse(data, name, answer) {
-  refusedData = data;
-  refusedName = name;
+  refused = {data, name};
   $("refusal-title").textContent = name + " is not opened";
   $("reason").textContent = reason(answer);
   const checked = library.ask("check", data);
   $("faults").textContent = text(checked.bytes) || library.sentence(checked.status);
-  say(name + " is not opened. " + (image === null ? "" : imageName + " is still open."), true);
+  say(name + " is not opened. " + (disk === null ? "" : disk.name + " is still open."), true);
   layout();
   $("refusal-title").focus();
 }
 
 // Makes a volume of the bytes that were refused, by a job.
 function rescue(call, ...given) {
-  const answer = library.ask(call, refusedData, ...given);
+  const answer = library.ask(call, refused.data, ...given);
   if (answer.status !== DONE) return say(reason(answer), true);
-  openImage(answer.bytes, refusedName, true);
+  openImage(answer.bytes, refused.name, true);
+}
+
+// The files of a volume, from the lines of its list.
+function filesOf(lines, unit) {
+  const {name: end, kind: from, numbers} = LAST_COLUMN;
+  return lines.slice(1, lines.length - 2).map((line, k) => { // (the last line has the total, and a line feed is last)
+    const [first, blocks, last, date] = line.slice(numbers).trim().split(/ +/);
+    return {unit, slot: k + 1, name: line.slice(0, end).trimEnd(), kind: line.slice(from, numbers).trim(), view: 0, first, blocks, last, date};
+  });
 }
 
 // Shows the list of the open disk. A program may have made it invalid.
 function list() {
-  const answer = library.ask("list", image), lines = text(answer.bytes).split("\n"), last = lines.length - 2; // a line feed is last
+  const answer = library.ask("list", disk.data), lines = text(answer.bytes).split("\n");
+  const unit = drives.size > 1 || disk.unit !== BOOT_UNIT ? " on unit " + disk.unit : "";
   if (answer.status !== DONE) {
-    $("disk-title").textContent = imageName + " is no volume any more";
+    $("disk-title").textContent = disk.name + " is no volume any more";
     $("total").textContent = reason(answer) + ". To salvage its files, save the image and open it again.";
     $("files").replaceChildren();
+    $("map").replaceChildren();
     shown = null;
     return;
   }
-  $("disk-title").textContent = lines[0].replace(/:$/, "") + " (" + imageName + ")";
-  $("total").textContent = lines[last];
-  $("files").replaceChildren(...lines.slice(1, last).map((line, k) => row(line, k + 1)));
+  const files = filesOf(lines, disk.unit);
+  $("disk-title").textContent = lines[0].replace(/:$/, "") + " (" + disk.name + ")" + unit;
+  $("total").textContent = lines.at(-2);
+  $("files").replaceChildren(...files.map(row));
+  map(files);
   document.title = lines[0] + " pmach";
-  say(imageName + (changed ? " has changes that are not saved" : ""));
+  say(disk.name + (disk.changed ? " has changes that are not saved" : ""));
 }
 
-// A table row for a line of the list.
-function row(line, slot) {
-  const {name: end, kind: from, numbers} = LAST_COLUMN;
-  const file = {slot, name: line.slice(0, end).trimEnd(), kind: line.slice(from, numbers).trim(), view: 0};
-  const [first, blocks, last, date] = line.slice(numbers).trim().split(/ +/);
-  const button = el("button", {type: "button", textContent: file.name, onclick: () => safely(() => choose(file))});
-  const cells = [file.kind, first, blocks, last, date].map(part => el("td", {textContent: part}));
+// A table row for a file.
+function row(file) {
+  const cells = [file.kind, file.first, file.blocks, file.last, file.date].map(part => el("td", {textContent: part}));
   cells[1].className = cells[3].className = "wide"; // the first block, and the bytes in the last one
-  const made = el("tr", {}, el("td", {}, button), ...cells);
-  made.dataset.slot = slot;
+  const made = el("tr", {}, el("td", {}, button(file.name, () => choose(file))), ...cells);
+  made.dataset.slot = file.slot;
   return made;
+}
+
+// A picture of the blocks of the image: a rectangle for each run of blocks of a file.
+function map(files) {
+  const count = Math.ceil(disk.data.length / BLOCK), columns = MAP_COLUMNS.find(([most]) => count <= most)[1];
+  const picture = drawn("svg", {viewBox: [-0.1, -0.1, columns + 0.2, Math.ceil(count / columns) + 0.2].join(" "), role: "img",
+    "aria-label": "Map of " + count + " blocks, " + columns + " in a row. The table above has the same numbers."});
+  const put = (first, end, look, words, does) => {
+    for (let block = first; block < Math.min(end, count);) {
+      const stop = Math.min(end, count, (Math.floor(block / columns) + 1) * columns);
+      const shape = drawn("rect", {x: block % columns, y: Math.floor(block / columns), width: stop - block, height: 1, class: look},
+        drawn("title", {}, words));
+      if (does) shape.onclick = () => safely(does);
+      picture.append(shape);
+      block = stop;
+    }
+  };
+  put(0, count, "free", "free");
+  for (const [first, end, words] of DIRECTORY) put(first, end, "directory", "blocks " + first + " to " + (end - 1) + ": " + words);
+  for (const file of files) {
+    const first = Number(file.first), end = first + Number(file.blocks), kind = ["code", "text", "data"].includes(file.kind) ? file.kind : "other";
+    put(first, end, kind + " file", file.name + ", " + file.kind + ", blocks " + first + " to " + (end - 1), () => choose(file));
+  }
+  $("map").replaceChildren(picture);
+  const looks = ["directory", "code", "text", "data", "other", "free"];
+  $("map-hint").replaceChildren(...looks.map(look => el("span", {className: "key"}, el("i", {className: look}), look)));
 }
 
 // Replaces the disk by the answer of a job.
 function change(call, ...given) {
   closeProgram();
-  const answer = library.ask(call, image, ...given);
+  const answer = library.ask(call, disk.data, ...given);
   if (answer.status !== DONE) return say(reason(answer), true);
-  image = answer.bytes;
-  changed = true;
+  Object.assign(disk, {data: answer.bytes, changed: true});
   shown = null;
   list();
   layout();
   $("disk-title").focus();
 }
 
+// The bytes of a file as it is saved: of a text its characters.
+function contents(data, file) {
+  const isText = file.kind === "text", answer = library.ask(isText ? "get_text_slot" : "get_slot", data, file.slot);
+  return isText && answer.status !== DONE ? library.ask("get_slot", data, file.slot) : answer;
+}
+
 function saveFile(file) {
-  const answer = library.ask(file.kind === "text" ? "get_text_slot" : "get_slot", image, file.slot);
+  const answer = contents(disk.data, file);
   if (answer.status !== DONE) return say(reason(answer), true);
-  download(answer.bytes, file.name.toLowerCase());
+  download([answer.bytes], file.name.toLowerCase());
 }
 
 function saveImage() {
   closeProgram();
-  download(image, imageName);
-  changed = false;
+  download([disk.data], disk.name);
+  disk.changed = false;
   list();
   layout();
 }
 
-function download(data, name) {
-  const link = el("a", {href: URL.createObjectURL(new Blob([data])), download: name});
+function download(parts, name) {
+  const link = el("a", {href: URL.createObjectURL(new Blob(parts)), download: name});
   link.click();
   setTimeout(() => URL.revokeObjectURL(link.href), KEPT_URL);
 }
 
-function makeDisk() {
+// The files of a volume for a .zip, in a folder.
+function exported(data, folder) {
+  const answer = library.ask("list", data);
+  if (answer.status !== DONE) return [];
+  return filesOf(text(answer.bytes).split("\n")).map(file =>
+    ({path: (folder === "" ? "" : folder + "/") + pathPart(file.name), data: contents(data, file).bytes}));
+}
+
+function saveFiles(files, name) {
+  const own = withOwnPaths(files);
+  try {
+    download(zipped(own), name);
+  } catch (error) {
+    return say(error.message, true);
+  }
+  say(files.length + (files.length === 1 ? " file is in " : " files are in ") + name);
+}
+
+function makeDisk(unit) {
   ask("New disk", "", "Make it", [{label: "Name of the volume", value: NEW_NAME},
     {label: "Blocks of 512 bytes", value: NEW_BLOCKS, type: "number", min: 0, max: BLOCKS_END}], (name, blocks) => {
     const answer = library.ask("volume", bytes(name), Number(blocks));
     if (answer.status !== DONE) return say(reason(answer), true);
-    openImage(answer.bytes, name.toLowerCase() + ".img", true);
+    openImage(answer.bytes, name.toLowerCase() + ".img", true, unit);
   });
 }
 
@@ -243,6 +363,79 @@ function addFile(data, name) {
   });
 }
 
+// Shows the disks by their units, and a button for the next one.
+function showDrives() {
+  const used = UNITS.filter(unit => drives.has(unit)), free = UNITS.find(unit => !drives.has(unit));
+  const made = used.map(unit => {
+    const one = button("Unit " + unit + ": " + drives.get(unit).name + (drives.get(unit).changed ? " *" : ""), () => showDisk(unit));
+    one.setAttribute("aria-pressed", disk?.unit === unit);
+    return one;
+  });
+  const more = free && button("Disk in unit " + free, () => { opensOn = free; $("image").click(); }, {title: "Insert another disk, which programs can use"});
+  $("drives").replaceChildren(...made, ...(more ? [more] : []));
+}
+let opensOn; // the unit of the disk that is being chosen; undefined is the shown one
+
+// ---- many disks
+
+// Lists images with what `check` reports of each. Their bytes are read again when they are needed.
+async function openBox(files) {
+  box = [];
+  for (const file of files) {
+    say("Reading " + file.name + " (" + (box.length + 1) + " of " + files.length + ")");
+    await read(file, data => {
+      const listed = library.ask("list", data), lines = text(listed.bytes).split("\n"), isVolume = listed.status === DONE;
+      const checked = library.ask("check", data), report = (text(checked.bytes) || library.sentence(checked.status)).replace(/\n$/, "");
+      box.push({file, name: file.name, size: data.length, isVolume, title: isVolume ? lines[0].replace(/:$/, "") : "",
+        files: isVolume ? String(lines.length - 3) : "", verdict: isVolume ? report.split("\n").at(-1) : reason(listed), report});
+    });
+  }
+  $("boxed").replaceChildren(...box.map(boxed));
+  $("box-title").textContent = box.length + " images, " + box.filter(one => one.isVolume).length + " of them volumes";
+  layout();
+  say(box.length + " images were read");
+  $("box-title").focus();
+}
+
+function boxed(one) {
+  const report = one.report === one.verdict ? [one.verdict] // (`good` has no other lines)
+    : [el("details", {}, el("summary", {textContent: one.verdict}), el("pre", {textContent: one.report}))];
+  const open = unit => read(one.file, data => openImage(data, one.name, false, unit));
+  const acts = [button("Open", () => open(), {ariaLabel: "Open " + one.name}),
+    ...(one.isVolume ? [button("Insert", () => open(UNITS.find(unit => unit !== BOOT_UNIT && !drives.has(unit))), {ariaLabel: one.name + " as another disk", title: "Insert as another disk"}),
+      button(".zip", () => read(one.file, data => saveFiles(exported(data, ""), pathPart(one.name) + ".zip")), {ariaLabel: "Export " + one.name})] : [])];
+  const cells = [[one.name], [one.title], [String(one.size)], [one.files], report, acts].map(nodes => el("td", {}, ...nodes));
+  return el("tr", {className: one.isVolume ? "" : "bad"}, ...cells);
+}
+
+// Exports the files of all volumes in the list, each in a folder of its image's name.
+async function exportBox() {
+  const files = [], used = box.filter(one => one.isVolume), folders = withOwnPaths(used.map(one => ({path: pathPart(one.name)})));
+  for (const [k, one] of used.entries()) await read(one.file, data => files.push(...exported(data, folders[k].path)));
+  safely(() => saveFiles(files, "disks.zip"));
+}
+
+// ---- search
+
+// Shows the lines of the texts of the disk, and of the code of its programs, that have some words.
+function search(words) {
+  const wanted = words.toLowerCase(), isCodeToo = $("in-code").checked, hits = [];
+  let count = 0;
+  for (const file of filesOf(text(library.ask("list", disk.data).bytes).split("\n"), disk.unit)) {
+    if (file.kind !== "text" && !(isCodeToo && file.kind === "code")) continue;
+    let answer = file.kind === "text" ? library.ask("get_text_slot", disk.data, file.slot) : library.ask("get_slot", disk.data, file.slot);
+    if (file.kind === "code" && answer.status === DONE) answer = library.ask(CODE_VIEWS[0][1], answer.bytes);
+    if (answer.status !== DONE) continue;
+    for (const [k, line] of text(answer.bytes).split(/\r?\n/).entries()) {
+      if (!line.toLowerCase().includes(wanted)) continue;
+      count++;
+      if (hits.length < MOST_HITS) hits.push(el("li", {}, button(file.name + " " + (k + 1), () => { choose(file); goToLine(k); }), " " + line.trim()));
+    }
+  }
+  $("hits").replaceChildren(...hits);
+  $("found").textContent = count === 0 ? "Nothing was found" : count + (count === 1 ? " line" : " lines") + (count > hits.length ? ", of which " + hits.length + " are shown" : "");
+}
+
 // ---- the file
 
 // Shows a file, and moves the focus to it, so that it is also in view if it is below the list.
@@ -251,89 +444,213 @@ function choose(file) {
   $("file-title").focus();
 }
 
+function viewsOf(file) {
+  return VIEWS[file.kind] ?? OTHER_VIEWS;
+}
+
 function show(file) {
   shown = file;
-  const isCode = file.kind === "code";
+  const isCode = file.kind === "code", [words, call] = viewsOf(file)[file.view];
   $("file-title").textContent = file.name;
   for (const made of document.querySelectorAll(".for-code")) made.hidden = !isCode;
-  $("forms").hidden = !isCode;
-  $("forms").replaceChildren(...VIEWS.map(([words], k) => {
-    const button = el("button", {type: "button", textContent: words, onclick: () => safely(() => { file.view = k; show(file); })});
-    button.setAttribute("aria-pressed", k === file.view);
-    return button;
+  $("forms").replaceChildren(...viewsOf(file).map(([words], k) => {
+    const one = button(words, () => { file.view = k; show(file); });
+    one.setAttribute("aria-pressed", k === file.view);
+    return one;
   }));
   $("lines").replaceChildren();
-  rest = [];
-  if (isCode || file.kind === "text") {
-    let answer = library.ask(isCode ? "get_slot" : "get_text_slot", image, file.slot);
-    if (isCode && answer.status === DONE) answer = library.ask(VIEWS[file.view][1], answer.bytes);
-    if (answer.status === DONE) rest = marked(text(answer.bytes.subarray(0, MOST_TEXT)), isCode);
-    if (answer.bytes.length > MOST_TEXT) rest.push({line: "The rest of " + answer.bytes.length + " characters is not shown."});
-    if (answer.status !== DONE) $("lines").append(el("div", {textContent: reason(answer)}));
-  } else $("lines").append(el("div", {textContent: "A file of kind " + file.kind + " is not shown. Save the file to read its bytes."}));
+  $("lines").scrollTop = 0;
+  $("lines").className = words === "Text" ? "numbered" : "";
+  $("graph").hidden = true;
+  [rest, placed, targets] = [[], [], new Map()];
+  const whole = words === "Text" ? library.ask("get_text_slot", disk.data, file.slot) : library.ask("get_slot", disk.data, file.slot);
+  const answer = whole.status === DONE && call ? library.ask(call, whole.bytes) : whole;
+  if (answer.status !== DONE) $("lines").append(el("div", {textContent: reason(answer)}));
+  else if (words === "Bytes") rest = dump(answer.bytes);
+  else if (words === "Calls") rest = graph(answer.bytes);
+  else rest = marked(text(answer.bytes.subarray(0, MOST_TEXT)), isCode);
+  if (answer.bytes.length > MOST_TEXT) rest.push({line: "The rest of " + answer.bytes.length + " characters is not shown."});
+  if (isCode && call && answer.status === DONE) names = standards(text(library.ask("disassemble_names", whole.bytes).bytes));
+  $("lines").hidden = words === "Calls" && rest.length === 0;
+  rest.forEach(({head, label, procedure}, k) => {
+    if (head !== undefined) targets.set(head, k);
+    if (label !== undefined) targets.set(procedure + " " + label, k);
+  });
   more();
   layout();
 }
+let names = new Map(); // the procedures of segment 0 by their names, in the file that is shown
 
-// The lines of a text, each with its position in the code if it names one: segment, procedure and offset. Headings are
-// `PROCEDURE 2 OF SEGMENT 1: ..`, lines `00018 ..` or, in the listing, `01 002 00018 ..`. A breakpoint counts its offset
-// from the procedure's first line (docs/ASSEMBLY.md, "Listing, trace and breakpoints"); the lines count from the segment.
-function marked(whole, isCode) {
-  let procedure = "", first = null;
-  return whole.replace(/\r?\n$/, "").split(/\r?\n/).map(line => {
-    if (!isCode) return {line};
-    const head = /^PROCEDURE (\d+) OF SEGMENT (\d+)/.exec(line), at = /^(?:(\d+) (\d+) )?(\d+) /.exec(line);
-    const [segment, number] = head ? [head[2], head[1]] : at?.[1] ? [at[1], at[2]] : [];
-    const named = segment === undefined ? procedure : Number(segment) + " " + Number(number);
-    if (named !== procedure) [procedure, first] = [named, null];
-    if (!at || procedure === "" || (at[1] && /^[\dA-F ]+  \./.test(line))) return {line}; // a directive
-    first ??= Number(at[3]);
-    return {line, place: procedure + " " + (Number(at[3]) - first)};
+// The lines of a hexadecimal dump.
+function dump(data) {
+  const hex = (number, digits) => number.toString(HEX).toUpperCase().padStart(digits, "0"), made = [];
+  for (let at = 0; at < Math.min(data.length, MOST_TEXT); at += MEMORY_ROW) {
+    const row = [...data.subarray(at, at + MEMORY_ROW)], codes = row.map(byte => hex(byte, BYTE_DIGITS)).join(" ");
+    made.push({line: hex(at, HEX_ADDRESS) + "  " + codes.padEnd(MEMORY_ROW * (BYTE_DIGITS + 1)) + " " + printable(text(Uint8Array.from(row)), ".")});
+  }
+  return made.length > 0 ? made : [{line: "The file has no bytes."}];
+}
+
+// Shows the calls of a program as a picture and as a table: the procedures of one segment, and those that they call.
+function graph(code) {
+  const listed = library.ask("disassemble_list", code);
+  if (listed.status !== DONE) return [{line: reason(listed)}];
+  const whole = calls(text(listed.bytes)), called = new Map(), segmentOf = own => own.split(" ")[0];
+  const segments = [...new Set([...whole.keys()].map(segmentOf))];
+  shown.segment ??= segments.find(one => one !== SYSTEM) ?? segments[0];
+  const inside = [...whole].filter(([own]) => segmentOf(own) === shown.segment);
+  const outside = inside.flatMap(([, those]) => [...those.keys()]).filter(to => segmentOf(to) !== shown.segment);
+  const made = new Map([...inside, ...outside.map(to => [to, new Map()])]), level = levels(made);
+  for (const [own, those] of whole) for (const to of those.keys()) called.set(to, [...(called.get(to) ?? []), own]);
+  const label = own => own.replace(" ", "."), link = own => whole.has(own) ? button(label(own), () => goTo(own), {className: "link"}) : el("span", {textContent: label(own)});
+  const linked = (those, none) => those.length === 0 ? [none] : those.flatMap(([own, count], k) => [k ? ", " : "", link(own), count > 1 ? " ×" + count : ""]);
+  const cells = own => [[link(own)], linked([...whole.get(own)].sort(), "none"), linked((called.get(own) ?? []).map(from => [from, 1]), "none in this file")];
+  const head = el("thead", {}, el("tr", {}, ...["Procedure", "Calls", "Is called by"].map(words => el("th", {textContent: words, scope: "col"}))));
+  const rows = inside.map(([own]) => el("tr", {}, ...cells(own).map(nodes => el("td", {}, ...nodes))));
+  const picture = made.size > MOST_DRAWN ? el("p", {className: "hint", textContent: "A picture of " + made.size + " procedures would be too large."}) : drawing(made, level, link);
+  const choices = segments.map(one => {
+    const choice = button("Segment " + one, () => { shown.segment = one; show(shown); });
+    choice.setAttribute("aria-pressed", one === shown.segment);
+    return choice;
   });
+  $("graph").replaceChildren(el("div", {className: "tools group", role: "group", ariaLabel: "Segment"}, ...choices),
+    el("p", {className: "hint", textContent: "A procedure is segment.number. Choose one to read it."}), picture, el("table", {}, head, el("tbody", {}, ...rows)));
+  $("graph").hidden = false;
+  return [];
+}
+
+// The picture: a box for each procedure, in a column for each level, and a curve for each call.
+function drawing(made, level, link) {
+  const at = new Map(), columns = [];
+  for (const [own, k] of [...level].sort(([, a], [, b]) => a - b)) {
+    (columns[k] ??= []).push(own);
+    at.set(own, [k * (BOX.width + BOX.right), (columns[k].length - 1) * (BOX.height + BOX.down)]);
+  }
+  const width = columns.length * (BOX.width + BOX.right), height = Math.max(...columns.map(column => column.length)) * (BOX.height + BOX.down);
+  const curves = [...made].flatMap(([own, those]) => [...those.keys()].filter(to => at.has(to)).map(to => {
+    const [x, y] = at.get(own), [toX, toY] = at.get(to), middle = BOX.height / 2, end = x + BOX.width;
+    const isBack = toX <= x; // to the same column or back: around the right side
+    const path = isBack ? ["M", end, y + middle, "C", end + ARC, y + middle, toX + BOX.width + ARC, toY + BOX.height, toX + BOX.width, toY + BOX.height - BOX.down / 2]
+      : ["M", end, y + middle, "C", end + ARC, y + middle, toX - ARC, toY + middle, toX, toY + middle];
+    return drawn("path", {d: path.join(" "), class: isBack ? "back" : "call"});
+  }));
+  const lines = drawn("svg", {viewBox: [0, 0, width, height].join(" "), "aria-hidden": "true"}, ...curves);
+  const picture = el("div", {className: "calls"}, lines, ...[...at].map(([own, [x, y]]) => {
+    const one = link(own);
+    for (const [name, value] of Object.entries({left: x, top: y, width: BOX.width, height: BOX.height})) one.style[name] = value + "rem";
+    return one;
+  }));
+  for (const made of [picture, lines]) [made.style.width, made.style.height] = [width + "rem", height + "rem"];
+  return picture;
+}
+
+// Shows the first line of a procedure "S P".
+function goTo(procedure) {
+  if (viewsOf(shown)[shown.view][1] === null) {
+    shown.view = 0;
+    show(shown);
+  }
+  if (targets.has(procedure)) goToLine(targets.get(procedure));
+  else say("Procedure " + procedure.replace(" ", ".") + " is not in " + shown.name, true);
+}
+
+function goToLine(k) {
+  while ($("lines").children.length <= k && rest.length > 0) more();
+  const line = $("lines").children[k];
+  if (!line) return;
+  for (const old of $("lines").querySelectorAll(".found")) old.classList.remove("found");
+  line.classList.add("found");
+  line.scrollIntoView({block: "center"});
+  (line.querySelector("button") ?? $("lines")).focus();
 }
 
 // Adds the next lines of the file.
 function more() {
-  $("lines").append(...rest.splice(0, MOST_LINES).map(({line, place}) => {
-    if (place === undefined) return el("div", {textContent: line});
-    const made = el("button", {type: "button", textContent: line, className: "place", tabIndex: -1, onclick: () => safely(() => toggle(made))});
-    made.dataset.at = place;
-    return made;
-  }));
+  const begin = $("lines").children.length, added = rest.splice(0, MOST_LINES);
+  $("lines").append(...added.map(one => lineOf(one)));
+  if (begin === 0 && placed.length > 0) placed[0].button.tabIndex = 0;
   $("more").hidden = rest.length === 0;
-  const place = $("lines").querySelector(".place");
-  if (place && !$("lines").querySelector(".place[tabindex='0']")) place.tabIndex = 0;
   places();
+}
+
+// A line of the file: its position is a button that sets a breakpoint, calls and labels lead to their lines, and a variable
+// shows its value.
+function lineOf({line, place, number, procedure, label}) {
+  if (procedure === undefined) return el("div", {textContent: line});
+  const made = el("div", {className: "line"}), own = number === undefined ? line : line.slice(number.length);
+  if (place !== undefined) {
+    const mark = el("button", {type: "button", textContent: number, className: "place", tabIndex: -1, ariaLabel: "Breakpoint: " + line});
+    const [segment, inside, offset] = place.split(" ").map(Number);
+    placed.push({button: mark, line: made, segment, procedure: inside, offset, at: place});
+    made.append(mark);
+    made.onclick = () => { if (String(getSelection()) === "") safely(() => toggle(mark, place)); };
+  }
+  for (const part of parts(own, procedure, names)) made.append(typeof part === "string" ? part : word(part, procedure));
+  return made;
+}
+
+// A word of a line that names something.
+function word(part, procedure) {
+  if (part.variable) {
+    const made = el("span", {className: "variable", textContent: part.text});
+    made.onmouseenter = () => safely(() => hint(made, valueIn(part.variable, procedure)));
+    made.onmouseleave = () => hint(null);
+    return made;
+  }
+  const target = part.procedure ?? procedure + " " + part.label;
+  if (!targets.has(target)) return part.text;
+  return button(part.text, () => goToLine(targets.get(target)), {className: "link", tabIndex: -1});
+}
+
+// Shows a text next to an element, or hides it.
+function hint(element, words) {
+  $("tip").hidden = element === null;
+  if (element === null) return;
+  $("tip").textContent = words;
+  const {left, bottom} = element.getBoundingClientRect();
+  $("tip").style.left = left + "px";
+  $("tip").style.top = bottom + "px";
 }
 
 // ---- the machine
 
 function start(file, runs) {
   closeProgram();
-  const status = library.boot(image, bytes(file.name));
+  if (file.unit !== BOOT_UNIT) return say("Programs start from unit " + BOOT_UNIT + ": choose Move to unit " + BOOT_UNIT + " first.", true);
+  if (disk.unit !== file.unit) showDisk(file.unit);
+  const status = library.boot(disk.data, bytes(file.name));
   if (status !== DONE) return say(file.name + " does not start: " + library.sentence(status), true);
+  for (const other of drives.values()) {
+    const mounted = other.unit === BOOT_UNIT ? DONE : library.call("mount", library.handle, other.unit, other.data);
+    if (mounted !== DONE) say(other.name + " is not mounted: " + library.sentence(mounted), true);
+  }
   program = file;
   seen = 0;
-  for (const id of ["console", "traced", "answers"]) $(id).textContent = "";
+  screen = new Screen(line => { above += line + "\n"; });
+  above = "";
+  const code = library.ask("get_slot", disk.data, file.slot), statements = library.ask("disassemble_statements", code.bytes);
+  sizes = headings(statements.status === DONE ? text(statements.bytes) : "");
+  for (const id of ["scrolled", "screen", "traced", "answers", "flame"]) $(id).replaceChildren();
   $("program-title").textContent = "Program " + file.name;
   if (shown !== file) show(file);
   look("Before the first step");
   $(runs ? "keys" : "program-title").focus();
   if (runs) run("go");
 }
+let above = ""; // lines that have left the screen and are not shown yet
 
-// Closes the program. The disk is as the program left it.
+// Closes the program. The disks are as the program left them.
 function closeProgram() {
   if (program === null) return;
-  running = null;
-  if (library.call("eject", library.handle, BOOT_UNIT) === DONE) {
+  running = profile = null;
+  for (const one of drives.values()) {
+    if (library.call("eject", library.handle, one.unit) !== DONE) continue;
     const left = library.ask("ejected", library.handle).bytes;
-    if (left.length !== image.length || left.some((byte, k) => byte !== image[k])) {
-      image = left;
-      changed = true;
-      const line = shown === null ? "" : text(library.ask("list", image).bytes).split("\n")[shown.slot];
-      if (!line?.startsWith(shown?.name)) shown = null; // another file is in its slot now
-    }
+    if (left.length === one.data.length && left.every((byte, k) => byte === one.data[k])) continue;
+    Object.assign(one, {data: left, changed: true});
+    if (shown?.unit !== one.unit) continue;
+    const line = text(library.ask("list", one.data).bytes).split("\n")[shown.slot];
+    if (!line?.startsWith(shown.name)) shown = null; // another file is in its slot now
   }
   library.c.pmach_free(library.handle);
   program = null;
@@ -357,14 +674,21 @@ function slice() {
     const until = performance.now() + SLICE_TIME;
     let answer = "";
     while (running !== null && performance.now() < until) {
-      answer = lastLine(library.line(running + " " + SLICE));
+      answer = lastLine(library.line(running + " " + (profile === null ? SLICE : SAMPLE_STEPS)));
       running = answer.startsWith("limit ") ? "on" : null;
+      if (profile !== null && running !== null) sample();
     }
     if (program === null) return;
+    if (!library.isFull()) throw new OutOfMemory("out of memory");
     showConsole();
-    if (running === null) look(meaning(answer), answer);
+    if (running === null) stopped(answer);
     else setTimeout(() => { if (running !== null) slice(); });
   });
+}
+
+function stopped(answer) {
+  if (profile !== null) showProfile();
+  look(meaning(answer), answer);
 }
 
 // The last line of an answer. After the command `console on` a run has a line with what it wrote before it.
@@ -387,37 +711,81 @@ function key(byte) {
   if (resumes && running === null && $("console").classList.contains("waits")) run("go");
 }
 
-// Adds what the program wrote to the console: CR and LF end a line, BS removes a character, FF clears the screen.
+// Shows what the program wrote to the console since the last time. Only what has changed is written, so that a screen reader
+// reads only what is new.
 function showConsole() {
   const {bytes: wrote} = library.ask("console", library.handle, BigInt(seen));
   if (wrote.length === 0) return;
   seen += wrote.length;
-  const added = text(wrote).replace(/\r\n?/g, "\n");
-  let all = $("console").textContent + added;
-  if (/[\x08\f]/.test(added) || all.length > MOST_SHOWN) {
-    while (/[^\n]\x08/.test(all)) all = all.replace(/[^\n]\x08/g, "");
-    $("console").textContent = printable(all.slice(all.lastIndexOf("\f") + 1)).slice(-MOST_SHOWN);
-  } else $("console").append(printable(added)); // (so that a screen reader reads only what is new)
+  screen.write(wrote);
+  if (above !== "") {
+    const all = $("scrolled").textContent + above;
+    if (all.length > MOST_SHOWN) $("scrolled").textContent = all.slice(-MOST_SHOWN);
+    else $("scrolled").append(above);
+    above = "";
+  }
+  const count = Math.max(screen.rows.length, screen.y + 1), made = [...$("screen").children];
+  while (made.length < count) made.push($("screen").appendChild(el("span", {})));
+  made.splice(count).forEach(row => row.remove());
+  made.forEach((row, k) => {
+    const words = screen.row(k) + (k < count - 1 ? "\n" : "");
+    if (row.textContent !== words) row.textContent = words;
+  });
+  $("cursor").style.left = Math.min(screen.x, COLUMNS - 1) + "ch";
+  $("cursor").style.top = "calc(" + screen.y + " * var(--row))";
   $("console").scrollTop = BOTTOM;
 }
 
-function printable(characters) {
-  return characters.replace(/[^\n\x20-\x7e]/g, "");
+function printable(characters, other) {
+  return characters.replace(/[^\x20-\x7e]/g, other);
 }
 
 // Shows the state of a machine that has stopped.
 function look(words, answer = "") {
+  if (!library.isFull()) throw new OutOfMemory("out of memory");
   showConsole();
   const {status, steps, ...registers} = library.registers();
   $("state").textContent = words + ". Steps: " + steps;
   $("console").classList.toggle("waits", answer.startsWith("waiting"));
-  $("registers").replaceChildren(...Object.entries(registers).map(([name, value]) =>
-    el("tr", {}, el("th", {textContent: name.toUpperCase(), scope: "row"}), el("td", {textContent: String(value).padStart(DECIMALS)}))));
+  $("registers").replaceChildren(...Object.entries(registers).map(([name, value]) => pair(name.toUpperCase(), String(value).padStart(DECIMALS))));
   $("stack").textContent = library.line("stack " + STACK_SHOWN).replaceAll(" ", "\n");
   $("frames").textContent = library.line("where") + "\n" + library.line("frames " + FRAMES_SHOWN).replaceAll(", ", "\n");
+  values();
   memory();
   places();
   layout();
+}
+
+function pair(name, value) {
+  return el("tr", {}, el("th", {textContent: name, scope: "row"}), el("td", {textContent: value}));
+}
+
+// The value of a variable, as the debugger answers it: `local`, or for a global variable the `local` of the static link whose
+// frame is that at BASE.
+function valueOf(variable) {
+  const [, name, up, number] = /^(param|local|global|up(\d+)_)(\d+)$/.exec(variable);
+  const chain = name === "global" ? library.line("static " + MOST_LINKS).split(" ") : [];
+  const depth = name === "global" ? chain.indexOf(String(library.registers().base)) : Number(up ?? 0);
+  const answer = depth < 0 ? "" : library.line("local " + depth + " " + number);
+  return /^\d+$/.test(answer) ? answer : "";
+}
+
+// The value of a variable at a line of a procedure.
+function valueIn(variable, procedure) {
+  if (program === null || program.slot !== shown.slot || program.unit !== shown.unit) return variable + ": its value is shown after Debug";
+  if (running !== null) return variable + ": its value is shown when the program stops";
+  const place = library.place(), isGlobal = variable.startsWith("global");
+  if (!isGlobal && (place === null || place.segment + " " + place.procedure !== procedure)) return variable + ": the program is not in this procedure";
+  return variable + " = " + (valueOf(variable) || "no value");
+}
+
+// Shows the parameters and local variables of the procedure in which the machine is.
+function values() {
+  const place = library.place(), size = place && sizes.get(place.segment + " " + place.procedure);
+  const parameters = size ? size.parameters / WORD_BYTES : 0, count = size ? parameters + size.locals / WORD_BYTES : 0;
+  const all = Array.from({length: Math.min(count, MOST_VALUES)}, (_, k) => (k < parameters ? "param" : "local") + (k + 1));
+  const rows = all.map(name => pair(name, valueOf(name).padStart(DECIMALS)));
+  $("values").replaceChildren(...(rows.length > 0 ? rows : [el("tr", {}, el("td", {textContent: size ? "none" : "not known"}))]));
 }
 
 function memory() {
@@ -429,32 +797,31 @@ function memory() {
 
 // Marks the line at which the machine is, the last one up to its position in its procedure, and the lines with breakpoints.
 function places() {
-  const isOpen = program !== null && shown !== null && program.slot === shown.slot;
+  const isOpen = program !== null && shown !== null && program.slot === shown.slot && program.unit === shown.unit;
   const breaks = program === null ? [] : library.line("breaks").split(", ");
   const set = new Set(breaks.map(one => one.split(" ").slice(0, PLACE_NUMBERS).join(" "))); // without a condition
   const place = isOpen ? library.place() : null;
   $("breaks").textContent = breaks.join("\n");
-  $("hint").textContent = isOpen ? "Choose a line to set or remove a breakpoint; the arrow keys move between lines."
+  $("hint").textContent = isOpen ? "Choose a line to set or remove a breakpoint; the arrow keys move between lines and links."
     : "After Debug you can set breakpoints here.";
   let here = null;
-  for (const line of $("lines").querySelectorAll(".place")) {
-    line.classList.remove("here");
-    line.removeAttribute("aria-current");
-    line.setAttribute("aria-pressed", isOpen && set.has(line.dataset.at));
-    const [segment, procedure, offset] = line.dataset.at.split(" ").map(Number);
-    if (place && segment === place.segment && procedure === place.procedure && offset <= place.offset) here = line;
+  for (const one of placed) {
+    one.line.classList.remove("here");
+    one.button.removeAttribute("aria-current");
+    one.button.setAttribute("aria-pressed", isOpen && set.has(one.at));
+    if (place && one.segment === place.segment && one.procedure === place.procedure && one.offset <= place.offset) here = one;
   }
   if (here === null) return;
-  here.classList.add("here");
-  here.setAttribute("aria-current", "true");
-  here.scrollIntoView({block: "nearest"});
+  here.line.classList.add("here");
+  here.button.setAttribute("aria-current", "true");
+  here.line.scrollIntoView({block: "nearest"});
 }
 
-function toggle(line) {
-  if (program === null || program.slot !== shown.slot) return say("Choose Debug first: then a line sets a breakpoint.");
-  const isSet = line.getAttribute("aria-pressed") === "true";
-  const answer = library.line((isSet ? "clear " : "break ") + line.dataset.at);
-  say(answer === "ok" ? "Breakpoint " + line.dataset.at + (isSet ? " removed" : " set") : answer, answer !== "ok");
+function toggle(mark, place) {
+  if (program === null || program.slot !== shown.slot || program.unit !== shown.unit) return say("Choose Debug first: then a line sets a breakpoint.");
+  const isSet = mark.getAttribute("aria-pressed") === "true";
+  const answer = library.line((isSet ? "clear " : "break ") + place);
+  say(answer === "ok" ? "Breakpoint " + place + (isSet ? " removed" : " set") : answer, answer !== "ok");
   places();
 }
 
@@ -484,20 +851,67 @@ function command(line) {
   look("Stopped", answer);
 }
 
+// ---- the profile
+
+// Adds the chain of calls at the machine's position to the profile. `frames` names the position to which each frame returns.
+function sample() {
+  const where = library.line("where").split(" "), frames = library.line("frames " + DEEPEST).split(", ");
+  const chain = [where, ...frames.map(frame => frame.split(" ").slice(1))].filter(([segment, procedure]) => procedure !== undefined);
+  let node = profile;
+  node.count++;
+  for (const [segment, procedure] of chain.reverse()) {
+    const name = segment + "." + procedure;
+    if (!node.in.has(name)) node.in.set(name, {name, count: 0, in: new Map()});
+    node = node.in.get(name);
+    node.count++;
+  }
+  if (profile.count >= MOST_SAMPLES) showProfile();
+}
+
+// Draws the profile, and ends it.
+function showProfile() {
+  const all = profile, bars = [];
+  let deepest = 1;
+  const put = (node, x, depth) => {
+    const width = node.count / all.count;
+    if (width < LEAST_SHARE) return;
+    deepest = Math.max(deepest, depth + 1);
+    const bar = el("span", {textContent: node.name, title: node.name + ": " + node.count + " of " + all.count + " readings"});
+    Object.assign(bar.style, {left: 100 * x + "%", width: 100 * width + "%", top: depth * BOX.height + "rem"});
+    bars.push(bar);
+    for (const child of [...node.in.values()].sort((a, b) => b.count - a.count || a.name.localeCompare(b.name))) {
+      put(child, x, depth + 1);
+      x += child.count / all.count;
+    }
+  };
+  profile = null;
+  if (all.count > 0) put(all, 0, 0);
+  $("flame").replaceChildren(...bars);
+  $("flame").style.height = deepest * BOX.height + "rem";
+  if (all.count === 0) $("flame").textContent = "The run was shorter than " + SAMPLE_STEPS + " steps.";
+}
+
 // Shows the parts of the page that have a content, and enables the buttons that apply.
 function layout() {
-  const isOpen = image !== null, isBusy = running !== null;
-  $("welcome").hidden = isOpen || refusedData !== null;
-  $("refusal").hidden = refusedData === null;
+  const isOpen = disk !== null, isBusy = running !== null, isFirst = disk?.unit === BOOT_UNIT;
+  hint(null);
+  $("welcome").hidden = isOpen || refused !== null || box.length > 0;
+  $("refusal").hidden = refused === null;
+  $("box").hidden = box.length === 0;
   $("disk").hidden = !isOpen;
   $("save").disabled = !isOpen;
-  $("save").classList.toggle("main", changed);
+  $("save").classList.toggle("main", Boolean(disk?.changed));
+  $("open").classList.toggle("main", !disk?.changed);
+  $("first").hidden = isFirst;
   $("file").hidden = shown === null;
   $("program").hidden = program === null;
   $("stop").disabled = !isBusy;
-  for (const id of ["go", "one", "step", "finish"]) $(id).disabled = isBusy;
+  for (const id of ["go", "one", "step", "finish", "profile"]) $(id).disabled = isBusy;
+  document.body.classList.toggle("with-file", shown !== null);
+  document.body.classList.toggle("with-program", program !== null);
+  if (isOpen) showDrives();
   for (const line of $("files").children) {
-    const isShown = shown !== null && Number(line.dataset.slot) === shown.slot;
+    const isShown = shown !== null && Number(line.dataset.slot) === shown.slot && shown.unit === disk.unit;
     line.classList.toggle("shown", isShown);
     line.querySelector("button").setAttribute("aria-current", isShown);
   }
@@ -505,8 +919,7 @@ function layout() {
 
 // ---- what is chosen, typed and dropped
 
-async function read(files, then) {
-  const file = files[0];
+async function read(file, then) {
   if (!file) return;
   try {
     const data = new Uint8Array(await file.arrayBuffer());
@@ -514,6 +927,12 @@ async function read(files, then) {
   } catch (error) {
     say(file.name + " could not be read: " + error.message, true);
   }
+}
+
+// Opens what was chosen or dropped: one image, or a list of several.
+function opened(files, unit) {
+  if (files.length > 1) return openBox([...files]);
+  return read(files[0], (data, name) => openImage(data, name, false, unit));
 }
 
 // The byte of a key, or 0 if it is no key of the machine. Tab and Ctrl+V keep their meaning in the browser.
@@ -533,11 +952,13 @@ function listen() {
   const on = (id, event, does) => $(id).addEventListener(event, e => safely(() => does(e)));
   const idle = does => e => { e?.preventDefault?.(); if (program !== null && running === null) does(); };
   const acts = {
-    open: () => $("image").click(), make: makeDisk, sample: makeSample, save: saveImage,
-    add: () => $("added").click(), krunch: () => change("krunch"),
+    open: () => { opensOn = undefined; $("image").click(); }, make: () => makeDisk(), sample: makeSample, save: saveImage,
+    add: () => $("added").click(), krunch: () => change("krunch"), first: moveDisk, eject: ejectDisk,
+    pack: () => { closeProgram(); saveFiles(exported(disk.data, ""), pathPart(disk.name) + ".zip"); },
+    export: exportBox, unbox: () => { box = []; layout(); },
     salvage: () => rescue("salvage", 0), // 0: by the first copy of the directory
     repair: () => rescue("repair"),
-    dismiss: () => { refusedData = null; layout(); },
+    dismiss: () => { refused = null; layout(); },
     run: () => start(shown, true), debug: () => start(shown, false), get: () => saveFile(shown),
     rename: () => ask("Rename " + shown.name, "", "Rename", [{label: "New name", value: shown.name}],
       name => change("change_slot", shown.slot, bytes(name))),
@@ -545,18 +966,20 @@ function listen() {
       () => change("remove_slot", shown.slot)),
     more, close: closeProgram,
     go: idle(() => run("go")), step: idle(() => run("step")), finish: idle(() => run("finish")), one: idle(() => trace(1)),
-    stop: () => { running = null; look("Stopped"); },
+    profile: idle(() => { profile = {name: "all", count: 0, in: new Map()}; run("go"); }),
+    stop: () => { running = null; stopped("stop"); },
     again: () => { const file = program; closeProgram(); start(file, false); },
     cancel: () => $("dialog").close(),
   };
   for (const [id, does] of Object.entries(acts)) on(id, "click", does);
   // (so that the same file can be chosen again)
   for (const id of ["image", "added"]) on(id, "click", e => { e.target.value = ""; });
-  on("image", "change", e => read(e.target.files, openImage));
-  on("added", "change", e => read(e.target.files, addFile));
+  on("image", "change", e => opened(e.target.files, opensOn));
+  on("added", "change", e => read(e.target.files[0], addFile));
   on("address", "input", () => { if (program !== null && running === null) memory(); });
   on("trace", "submit", idle(() => trace(Number($("count").value))));
   on("commands", "submit", idle(() => { command($("line").value); $("line").value = ""; }));
+  on("search", "submit", e => { e.preventDefault(); search($("words").value); });
   on("line", "keydown", e => {
     const way = {ArrowUp: -1, ArrowDown: 1}[e.key];
     if (!way) return;
@@ -564,25 +987,32 @@ function listen() {
     recall = Math.max(0, Math.min(recalled.length, recall + way));
     $("line").value = recalled[recall] ?? "";
   });
-  on("console", "click", () => { if (String(getSelection()) === "") $("keys").focus(); });
-  on("keys", "keydown", e => {
-    const byte = byteOf(e);
-    if (byte < 1) return;
-    e.preventDefault();
-    key(byte);
-  });
-  on("keys", "paste", e => { e.preventDefault(); typed(e.clipboardData.getData("text")); });
+  for (const id of ["keys", "console"]) {
+    on(id, "keydown", e => {
+      const byte = byteOf(e);
+      if (byte < 1) return;
+      e.preventDefault();
+      key(byte);
+    });
+    on(id, "paste", e => { e.preventDefault(); typed(e.clipboardData.getData("text")); });
+  }
   on("keys", "input", e => { typed(e.target.value); e.target.value = ""; }); // of a keyboard on the screen
   on("lines", "keydown", e => {
-    const all = [...$("lines").querySelectorAll(".place")], from = all.indexOf(document.activeElement);
-    const to = {ArrowUp: from - 1, ArrowDown: from + 1, Home: 0, End: all.length - 1}[e.key];
-    if (from < 0 || to === undefined || !all[to]) return;
+    const from = placed.findIndex(one => [...one.line.children].includes(document.activeElement));
+    const to = {ArrowUp: from - 1, ArrowDown: from + 1, Home: 0, End: placed.length - 1}[e.key], way = {ArrowLeft: -1, ArrowRight: 1}[e.key];
+    if (from >= 0 && way) { // to the links of the line
+      const stops = [...placed[from].line.children].filter(one => one === placed[from].button || one.classList.contains("link"));
+      e.preventDefault();
+      stops[stops.indexOf(document.activeElement) + way]?.focus();
+    }
+    if (from < 0 || to === undefined || !placed[to]) return;
     e.preventDefault();
-    all[from].tabIndex = -1;
-    all[to].tabIndex = 0;
-    all[to].focus();
+    placed[from].button.tabIndex = -1;
+    placed[to].button.tabIndex = 0;
+    placed[to].button.focus();
   });
   document.addEventListener("keydown", e => {
+    if (e.key === "Escape") hint(null);
     const id = {F8: "go", F9: e.shiftKey ? "finish" : "one", F10: "step"}[e.key];
     if (!id || program === null) return;
     e.preventDefault();
@@ -593,30 +1023,32 @@ function listen() {
   document.addEventListener("drop", e => {
     e.preventDefault();
     document.body.classList.remove("over");
-    if (!$("dialog").open) read(e.dataTransfer.files, openImage);
+    if (!$("dialog").open) opened(e.dataTransfer.files);
   });
   // The browser asks before it closes the page if changes would be lost. A program may have changed its disk.
   addEventListener("beforeunload", e => {
-    if (!changed && program === null) return;
+    if (program === null && ![...drives.values()].some(one => one.changed)) return;
     e.preventDefault();
     e.returnValue = true; // (older browsers need this)
   });
 }
 
-// The bytes of the WebAssembly module in this page.
-async function unpacked() {
-  const packed = Uint8Array.from(atob($("module").textContent), c => c.charCodeAt(0));
-  $("module").textContent = "";
+// The bytes that an element of this page has, packed by gzip, in base64.
+async function unpacked(id) {
+  const packed = Uint8Array.from(atob($(id).textContent), c => c.charCodeAt(0));
+  $(id).textContent = "";
   const stream = new Blob([packed]).stream().pipeThrough(new DecompressionStream("gzip"));
   return new Response(stream).arrayBuffer();
 }
 
 async function begin() {
-  compiled = await WebAssembly.compile(await unpacked());
+  compiled = await WebAssembly.compile(await unpacked("module"));
   library = new Library(await WebAssembly.instantiate(compiled, {}));
   listen();
   for (const id of ["open", "make", "sample"]) $(id).disabled = false;
+  const own = $("inside").textContent.trim() === "" ? null : new Uint8Array(await unpacked("inside"));
   say("Ready");
+  if (own !== null) safely(() => openImage(own, $("inside").dataset.name)); // the disk that site.sh put into this page
 }
 
 begin().catch(error => {

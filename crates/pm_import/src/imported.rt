@@ -24,6 +24,9 @@ const LIST: &str = "LIST";
 /// bytes.
 const LONGEST_LIST: usize = 65_536;
 
+/// The maximal number of lines of `LIST` that are not empty. The list of an export has at most 78 lines.
+const MOST_LINES: usize = 155;
+
 /// Why the file of a line of `LIST` was not added.
 #[derive(Clone, Copy)]
 pub enum Why {
@@ -234,7 +237,8 @@ fn open<F: Folder>(folder: &mut F, path: &str) -> Result<(), DiskFault>
 /// # Errors
 ///
 /// - The fault of opening the folder, or of reading `LIST`. The volume is unchanged.
-/// - `LIST` has more than 65,536 bytes: `Read(FileTooLarge)`. The volume is unchanged.
+/// - `LIST` has more than 65,536 bytes, or more than 155 lines that are not empty: `Read(FileTooLarge)`. The volume is
+///   unchanged.
 /// - `NoMemory`. The volume may have some of the files.
 pub fn import<F: Folder>(
     alloc: Global,
@@ -254,5 +258,8 @@ pub fn import<F: Folder>(
         return Err(DiskFault::Read(ErrorKind::FileTooLarge));
     }
     let lines = lines_of(alloc, &list)?;
+    if lines.iter().filter(|line| !line.is_empty()).count() > MOST_LINES {
+        return Err(DiskFault::Read(ErrorKind::FileTooLarge));
+    }
     take_list(alloc, folder, volume, &lines, ends)
 }

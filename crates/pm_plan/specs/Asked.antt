@@ -245,13 +245,14 @@ IsPath None (Some behind) path = path ≡ behind
 IsPath None None path = ⊥
 IsPath (Some before) (Some behind) path = ⊥
 
--- Is true if the arguments `m` of `files` specify `plan`: its verb, the path of its image, the path of its output, and
--- the line ends of its text.
+-- Is true if the arguments `m` of `files` specify `plan`: its verb, the path of its image, the path of its output, the
+-- line ends of its text, and whether a file is replaced.
 abbrev pub AsksFiles : ArgMatches → FilesPlan → Type 0
 AsksFiles m plan = (verb : List ℕ) × (rows : List Row) × (subcommand_rows_of m ≡ Some (verb, rows))
     × IsPath (word_found (words_of m) (codes "image")) (word_found rows (codes "image")) (string_bytes plan.path)
     × AsksVerb verb rows plan.verb × (word_found rows (codes "output") ≡ option_map string_bytes plan.output)
     × AreEndsGiven (word_found rows (codes "ends")) plan.ends
+    × (is_set (word_found rows (codes "replace")) ≡ plan.replaces)
 
 -- Is true if the arguments `m` of `files salvage` specify `plan`.
 abbrev pub AsksSalvage : ArgMatches → SalvagePlan → Type 0

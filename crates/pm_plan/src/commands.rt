@@ -183,8 +183,15 @@ const READ_ENDS: WordRow = (
     "Line ends of the text that is read: lf, crlf or cr [default: lf]",
 );
 
+const REPLACE: WordRow = (
+    "replace",
+    Form::Flag,
+    "Replace the file NAME if it exists; the old file remains if the new one is refused",
+);
+
 const VOLUME: WordRow = ("NAME", Form::Word, "Volume name, 1 to 7 characters");
 
+/// The verbs of `files` that read or add files.
 const VERBS: &[CommandRow] = &[
     (
         "list",
@@ -212,7 +219,7 @@ const VERBS: &[CommandRow] = &[
     (
         "put",
         "Add a file with the bytes of standard input",
-        &[IMAGE, FORM, FILE, KIND],
+        &[IMAGE, FORM, FILE, KIND, REPLACE],
     ),
     (
         "gettext",
@@ -222,7 +229,7 @@ const VERBS: &[CommandRow] = &[
     (
         "puttext",
         "Add a text file with the text of standard input",
-        &[IMAGE, FORM, FILE, READ_ENDS],
+        &[IMAGE, FORM, FILE, READ_ENDS, REPLACE],
     ),
     (
         "export",
@@ -276,6 +283,10 @@ const VERBS: &[CommandRow] = &[
             ),
         ],
     ),
+];
+
+/// The other verbs of `files`.
+const MORE_VERBS: &[CommandRow] = &[
     (
         "krunch",
         "Move the files together; bad blocks are not moved, and gaps may remain between them",
@@ -599,9 +610,19 @@ const ASM: CommandRow = (
     &[LIST, ALL, SYMBOLS, ON_IMAGE, FORM, READ, WRITTEN],
 );
 
+/// Returns whether `word` is the name of a verb of `files` that reads or adds files.
+fn is_verb(word: &str) -> bool {
+    VERBS.iter().any(|row| row.0 == word)
+}
+
+/// Returns whether `word` is the name of another verb of `files`.
+fn is_other_verb(word: &str) -> bool {
+    MORE_VERBS.iter().any(|row| row.0 == word)
+}
+
 /// Returns whether `word` is the name of a verb of `files`.
 pub fn is_verb_of_files(word: &str) -> bool {
-    VERBS.iter().any(|row| row.0 == word)
+    is_verb(word) || is_other_verb(word)
 }
 
 /// Returns whether the option `option` of the row `row` has a value. `option` has its leading `-` or `--`.
@@ -866,10 +887,17 @@ fn add<'a>(
     Ok(())
 }
 
-/// Appends the command `files` with its verbs to `commands`.
-fn add_files<'a>(alloc: Global, commands: &mut Vec<Command<'a>>) -> Result<(), AllocError> {
+/// Returns the verbs of `files` that read or add files.
+fn first_verbs<'a>(alloc: Global) -> Result<Vec<Command<'a>>, AllocError> {
     let mut verbs = Vec::new(alloc);
     add(alloc, &mut verbs, VERBS)?;
+    Ok(verbs)
+}
+
+/// Appends the command `files` with its verbs to `commands`.
+fn add_files<'a>(alloc: Global, commands: &mut Vec<Command<'a>>) -> Result<(), AllocError> {
+    let mut verbs = first_verbs(alloc)?;
+    add(alloc, &mut verbs, MORE_VERBS)?;
     let files = command_of(alloc, FILES)?
         .subcommand_required(true)
         .subcommands(verbs)?;

@@ -32,6 +32,8 @@ pub struct FilesPlan {
     /// The line ends of the text that `gettext` writes or `puttext` reads. `None` if `--ends` is not given, and for any
     /// other verb.
     pub ends: Option<Ends>,
+    /// Whether `--replace` is given: `put` and `puttext` replace the file with the same name.
+    pub replaces: bool,
 }
 
 /// The arguments of `files salvage`, which copies the files of an image to a new volume.
@@ -418,12 +420,14 @@ pub fn files_plan(alloc: Global, matches: &ArgMatches<'_>) -> Result<FilesPlan, 
     let path = path_of(before, behind)?;
     let output = given(alloc, words, "output")?;
     let ends = ends_given(words)?;
+    let replaces = is_set(words, "replace");
     let verb = verb_of(alloc, verb, words)?;
     Ok(FilesPlan {
         path,
         verb,
         output,
         ends,
+        replaces,
     })
 }
 

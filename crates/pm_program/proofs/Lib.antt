@@ -1,3 +1,4 @@
+mod EndedLaws
 mod FolderLaws
 mod SavedLaws
 mod TextLaws

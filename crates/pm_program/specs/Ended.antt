@@ -1,8 +1,9 @@
--- The results of `files gettext` with other line ends.
-use Rattle.std.specs.Prelude.{ℕ, List, Option}
+-- The results of `files gettext` and `files puttext` with other line ends.
+use Rattle.std.specs.Prelude.{◌≡◌, ℕ, List, Option, IfSome}
 use Rattle.pm_filer.specs.Filed.{Order}
 use Rattle.pm_files.specs.Held.{Files, HoldsFile}
 use Rattle.pm_folder.specs.Contents.{with_ends}
+use Rattle.pm_import.specs.Feeds.{with_feeds}
 use Rattle.pm_folder.specs.declared.contents.Ends.{Ends}
 use Rattle.pm_jobs.specs.Streams.{Outgoing}
 use Rattle.pm_program.specs.Texts.{Delivers}
@@ -21,3 +22,8 @@ abbrev pub DeliversEnded : Files → Files → List ℕ → Option (List ℕ) �
     → List ℕ → Type 0
 DeliversEnded old new path output before after outcome order e input = (image : List ℕ) × HoldsFile old path image
     × Delivers old new output before after outcome (ended e (said_files image order input))
+
+-- Is true if `text` is the input `remaining`, a text whose lines end with `e`, with line feeds. Nothing is stated if the
+-- input is not known.
+abbrev pub IsFed : Option (List ℕ) → Ends → List ℕ → Type 0
+IsFed remaining e text = IfSome remaining (λ input. text ≡ with_feeds e input)

@@ -8,3 +8,4 @@ pub mod Converted
 pub mod Console
 pub mod Ended
 pub mod Searched
+pub mod Replaced

@@ -7,8 +7,8 @@ use Rattle.pm_plan.specs.declared.search_words.Sought.{Sought}
 use Rattle.pm_plan.specs.declared.search_words.Sought.TheVariants as sought
 use Rattle.pm_program.specs.declared.searched.Hits.{Hits}
 use Rattle.pm_search.specs.Searching.{Answer, searched}
-use Rattle.pm_search.specs.declared.query.Ending.{Ending}
-use Rattle.pm_search.specs.declared.query.Ending.TheVariants as endings
+use Rattle.pm_search.specs.declared.query.SearchEnding.{SearchEnding}
+use Rattle.pm_search.specs.declared.query.SearchEnding.TheVariants as endings
 use Rattle.pm_search.specs.declared.query.Query.{Query}
 use Rattle.pm_search.specs.declared.query.Query.TheVariants as queries
 
@@ -38,7 +38,7 @@ AnswersEach files query (path ∷ paths) (answer ∷ answers) =
 
 -- Returns the end of two searches: `Refused` if one of them was refused; otherwise `Found` if one of them found
 -- something; otherwise `Nothing`.
-abbrev pub joined : Ending → Ending → Ending
+abbrev pub joined : SearchEnding → SearchEnding → SearchEnding
 joined endings.Refused second = endings.Refused
 joined endings.Found endings.Refused = endings.Refused
 joined endings.Found endings.Found = endings.Found
@@ -46,12 +46,12 @@ joined endings.Found endings.Nothing = endings.Found
 joined endings.Nothing second = second
 
 -- Returns 1 for an image that was refused, and 0 for any other.
-abbrev pub refusal : Ending → ℕ
+abbrev pub refusal : SearchEnding → ℕ
 refusal endings.Refused = 1
 refusal _ = 0
 
 -- Returns the end of all searches. The end of no search is `Nothing`.
-abbrev pub ending_of : List Answer → Ending
+abbrev pub ending_of : List Answer → SearchEnding
 ending_of [] = endings.Nothing
 ending_of (answer ∷ answers) = joined answer.ending (ending_of answers)
 
@@ -68,7 +68,7 @@ Searches files query paths before after hits = (answers : List Answer) × Answer
     × (hits.refused ≡ refused_in answers)
 
 -- Returns the exit status of a search: 2 if an image was refused, 0 if something was found, and 7 if nothing was found.
-abbrev pub search_status : Ending → ℕ
+abbrev pub search_status : SearchEnding → ℕ
 search_status endings.Refused = 2
 search_status endings.Found = 0
 search_status endings.Nothing = 7

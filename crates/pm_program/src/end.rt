@@ -7,7 +7,7 @@ use crate::searched::Hits;
 use pm_export::Unwritten;
 use pm_files::DiskFault;
 use pm_import::{Left, Why};
-use pm_search::Ending;
+use pm_search::SearchEnding;
 use pm_tool::{Exit, Outcome};
 
 /// A conflict between paths, or between output and a terminal.
@@ -86,9 +86,9 @@ fn status_of_search(hits: Hits) -> u8
     ensures status { result ≡ search_status hits.ending }
 {
     match hits.ending {
-        Ending::Refused => Exit::Refused.number(),
-        Ending::Found => Exit::Ended.number(),
-        Ending::Nothing => NOTHING_FOUND,
+        SearchEnding::Refused => Exit::Refused.number(),
+        SearchEnding::Found => Exit::Ended.number(),
+        SearchEnding::Nothing => NOTHING_FOUND,
     }
 }
 

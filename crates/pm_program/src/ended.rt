@@ -1,11 +1,10 @@
 //! The verbs `gettext` and `puttext` of `files` with the option `--ends`. In comments, the input is *known* if the model of
 //! `source` states its remaining bytes.
-ghost use Rattle.std.specs.Prelude.{◌≡◌, IfOk, IfSome, OnErr, OnOk, option_map, string_bytes, vec_items};
+ghost use Rattle.std.specs.Prelude.{◌≡◌, ℕ, List, false, IfOk, IfSome, OnErr, OnOk, option_map, string_bytes, vec_items};
 ghost use Rattle.pm_filer.specs.Filed.{order_of};
 ghost use Rattle.pm_files.specs.Held.{Saves};
-ghost use Rattle.pm_import.specs.Feeds.{with_feeds};
 ghost use Rattle.pm_jobs.specs.Streams.{AreWell, both};
-ghost use Rattle.pm_program.specs.Ended.{DeliversEnded};
+ghost use Rattle.pm_program.specs.Ended.{DeliversEnded, IsFed};
 ghost use Rattle.pm_program.specs.Saved.{SavesSaid, held_at, held_by, takes_lock};
 ghost use Rattle.pm_tool.specs.Said.{IsCutShort, IsSoundExit};
 
@@ -30,6 +29,47 @@ fn fault_of(fault: Fault) -> DiskFault {
     }
 }
 
+/// Reads the whole input, a text whose lines end with `ends`, and returns it with line feeds. `source` must not have
+/// failed. Returns the fault of reading, or `NoMemory`.
+#[tactic(auto, using(crate::proofs::EndedLaws::fed))]
+pub(crate) fn read_text<I: Source>(
+    alloc: Global,
+    source: &mut I,
+    ends: Ends,
+) -> Result<Vec<u8>, DiskFault>
+    requires well { (I.seen source.old).failed ≡ false }
+    ensures text { IfOk result (λ text. IsFed (I.seen source.old).remaining ends text.items) }
+{
+    let input = match read_all(alloc, source) {
+        Ok(input) => input,
+        Err(fault) => return Err(fault_of(fault)),
+    };
+    Ok(with_feeds(alloc, &input, ends)?)
+}
+
+/// Executes `verb` on the image at `path` and on the input `bytes`. Everything is as `do_files` states for this input.
+/// `sink` must not have failed.
+fn put_bytes<S: Store, O: Sink>(
+    alloc: Global,
+    store: &mut S,
+    sink: &mut O,
+    path: &str,
+    verb: Verb,
+    bytes: &[u8],
+) -> Result<Outcome, DiskFault>
+    requires well { (O.seen sink.old).failed ≡ false }
+    ensures saved { IfOk result (λ outcome.
+        Saves (S.files store.old) (S.files store.new) path.now (option_map vec_items outcome.image)) }
+    ensures cut { IfOk result (λ outcome. IsCutShort outcome.exit → S.files store.new ≡ S.files store.old) }
+    ensures held { OnOk result (S.held store.new ≡ held_by (takes_lock verb) path.now (S.held store.old)) }
+    ensures said { IfOk result (λ outcome. IsSoundExit outcome.exit →
+        SavesSaid (S.files store.old) (S.files store.new) path.now verb bytes.now) }
+    ensures unchanged { OnErr result (S.files store.new ≡ S.files store.old) }
+{
+    let mut source = Reader::new(bytes);
+    do_files(alloc, store, &mut source, sink, path, verb)
+}
+
 /// Executes `verb`, which reads a text, on the image at `path`. The lines of the text in `source` end with `ends`.
 /// `source` and `sink` must not have failed.
 ///
@@ -51,17 +91,13 @@ pub fn do_puttext<S: Store, I: Source, O: Sink>(
         Saves (S.files store.old) (S.files store.new) path.now (option_map vec_items outcome.image)) }
     ensures cut { IfOk result (λ outcome. IsCutShort outcome.exit → S.files store.new ≡ S.files store.old) }
     ensures held { OnOk result (S.held store.new ≡ held_by (takes_lock verb) path.now (S.held store.old)) }
-    ensures said { IfOk result (λ outcome. IsSoundExit outcome.exit → IfSome (I.seen source.old).remaining (λ input.
-        SavesSaid (S.files store.old) (S.files store.new) path.now verb (with_feeds ends input))) }
+    ensures said { IfOk result (λ outcome. IsSoundExit outcome.exit → (text : List ℕ)
+        × IsFed (I.seen source.old).remaining ends text
+        × SavesSaid (S.files store.old) (S.files store.new) path.now verb text) }
     ensures unchanged { OnErr result (S.files store.new ≡ S.files store.old) }
 {
-    let input = match read_all(alloc, source) {
-        Ok(input) => input,
-        Err(fault) => return Err(fault_of(fault)),
-    };
-    let text = with_feeds(alloc, &input, ends)?;
-    let mut typed = Reader::new(text.as_slice());
-    do_files(alloc, store, &mut typed, sink, path, verb)
+    let text = read_text(alloc, source, ends)?;
+    put_bytes(alloc, store, sink, path, verb, &text)
 }
 
 /// Executes `command`, which writes the text of a file, on the volume whose image is at `path`. The lines of the output

@@ -87,7 +87,13 @@ impl<'a> Row<'a> {
 
 impl fmt::Display for Row<'_> {
     fn fmt<W: fmt::Write>(&self, f: &mut fmt::Formatter<W>) -> fmt::Result {
-        write!(f, "{}{}{}", Spaces(self.lead), self.option, Spaces(self.gap))?;
+        write!(
+            f,
+            "{}{}{}",
+            Spaces(self.lead),
+            self.option,
+            Spaces(self.gap)
+        )?;
         let begin = self.column();
         let mut column = begin;
         for word in self.text.split(' ') {

@@ -9,12 +9,13 @@ use crate::about::{Named, about, copy_of, named_in, no_program};
 use crate::console::{END, ESCAPE, Failed, Keys, Lined, Lines, Prompted, Typed};
 use crate::converted::{Converted, do_convert};
 use crate::end::{Conflict, End};
-use crate::ended::{do_gettext, do_puttext};
+use crate::ended::{do_gettext, do_puttext, read_text};
 use crate::exported::{Exported, SavedFolder, do_export, do_salvage_folder};
 use crate::got::do_get;
 use crate::imported::{Imported, do_import};
-use crate::searched::{Hits, do_search};
+use crate::replaced::do_replace;
 use crate::saved::{Printing, SavedOfRun, do_debug, do_files, do_run, do_salvage, do_trace};
+use crate::searched::{Hits, do_search};
 use crate::texts::do_text;
 use pm_export::Unwritten;
 use pm_filer::FileCommand;
@@ -228,7 +229,11 @@ fn act_on_files<S: Store, I: Source, O: Sink>(
         verb,
         output,
         ends,
+        replaces,
     } = plan;
+    if replaces {
+        return replace(alloc, store, source, sink, path, verb, ends);
+    }
     if let Some(ends) = ends {
         return act_on_text(alloc, store, source, sink, path, verb, output, ends);
     }
@@ -244,6 +249,40 @@ fn act_on_files<S: Store, I: Source, O: Sink>(
             )
         }
         (verb, _) => do_files(alloc, store, source, sink, path.as_str(), verb),
+    }
+}
+
+/// Executes `put` or `puttext` with `--replace` on the image at `path`. With `ends`, the input is a text whose lines end
+/// with `ends`.
+fn replace<S: Store, I: Source, O: Sink>(
+    alloc: Global,
+    store: &mut S,
+    source: &mut I,
+    sink: &mut O,
+    path: String,
+    verb: Verb,
+    ends: Option<Ends>,
+) -> Result<Outcome, DiskFault>
+    requires well { AreWell (both (I.seen source.old) (O.seen sink.old)) }
+{
+    let path = path.as_str();
+    let name = match &verb {
+        Verb::Command(FileCommand::Put(name, _, _) | FileCommand::PutText(name, _)) => {
+            String::from_str(alloc, name.as_str())?
+        }
+        _ => String::new(alloc),
+    };
+    let name = name.as_str();
+    match (verb, ends) {
+        (Verb::Command(command), None) => {
+            do_replace(alloc, store, source, sink, path, name, command)
+        }
+        (Verb::Command(command), Some(ends)) => {
+            let text = read_text(alloc, source, ends)?;
+            let mut typed = Reader::new(text.as_slice());
+            do_replace(alloc, store, &mut typed, sink, path, name, command)
+        }
+        (verb, _) => do_files(alloc, store, source, sink, path, verb),
     }
 }
 

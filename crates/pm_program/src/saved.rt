@@ -240,7 +240,11 @@ fn print_out<O: Sink>(sink: &mut O, bytes: &[u8]) -> Result<(), DiskFault> {
 }
 
 /// Saves `image` at `path`. Does nothing if `image` is `None`. On an error, no file has changed.
-fn save_image<S: Store>(store: &mut S, path: &str, image: &Option<Vec<u8>>) -> Result<(), DiskFault>
+pub(crate) fn save_image<S: Store>(
+    store: &mut S,
+    path: &str,
+    image: &Option<Vec<u8>>,
+) -> Result<(), DiskFault>
     ensures saved { OnOk result (
         Saves (S.files store.old) (S.files store.new) path.now (option_map vec_items image.now)) }
     ensures held { S.held store.new ≡ S.held store.old }

@@ -1,5 +1,5 @@
 //! The commands `find`, `grep` and `info`: a search in images, one after the other.
-ghost use Rattle.std.specs.Prelude.{◌≡◌, ◌×◌, ◌≤◌, false, length, map, IfOk, OnOk, string_bytes};
+ghost use Rattle.std.specs.Prelude.{◌≡◌, ◌≤◌, false, length, map, IfOk, OnOk, string_bytes};
 ghost use Rattle.std.specs.Io.KnownBytes.{Appends};
 ghost use Rattle.pm_program.specs.Searched.{Answers, IsQuery, Searches, joined, refusal, unread};
 ghost use Rattle.pm_search.specs.Searching.{Answer, seen};
@@ -8,7 +8,7 @@ ghost use Rattle.pm_search.specs.declared.query.Query.{Query};
 use pm_files::{DiskFault, Store};
 use pm_jobs::{Sink, write_all};
 use pm_plan::{SearchPlan, Sought};
-use pm_search::{Ending, Query, Searched, search};
+use pm_search::{Query, SearchEnding, Searched, search};
 use std::alloc::{AllocError, Global};
 use std::io::ErrorKind;
 
@@ -16,31 +16,31 @@ use std::io::ErrorKind;
 #[derive(Clone, Copy)]
 pub struct Hits {
     /// `Refused` if an image was refused; otherwise `Found` if something was found; otherwise `Nothing`.
-    pub ending: Ending,
+    pub ending: SearchEnding,
     /// The number of images that were refused.
     pub refused: usize,
 }
 
 /// Returns the end of two searches: `Refused` if one of them was refused; otherwise `Found` if one of them found
 /// something; otherwise `Nothing`.
-fn joined(first: Ending, second: Ending) -> Ending
+fn joined(first: SearchEnding, second: SearchEnding) -> SearchEnding
     ensures value { result ≡ joined first second }
 {
     match (first, second) {
-        (Ending::Refused, _) | (_, Ending::Refused) => Ending::Refused,
-        (Ending::Found, _) | (_, Ending::Found) => Ending::Found,
-        (Ending::Nothing, Ending::Nothing) => Ending::Nothing,
+        (SearchEnding::Refused, _) | (_, SearchEnding::Refused) => SearchEnding::Refused,
+        (SearchEnding::Found, _) | (_, SearchEnding::Found) => SearchEnding::Found,
+        (SearchEnding::Nothing, SearchEnding::Nothing) => SearchEnding::Nothing,
     }
 }
 
 /// Returns 1 for an image that was refused, and 0 for any other.
-fn refusal(ending: Ending) -> usize
+fn refusal(ending: SearchEnding) -> usize
     ensures value { result ≡ refusal ending }
     ensures bound { result ≤ 1 }
 {
     match ending {
-        Ending::Refused => 1,
-        Ending::Found | Ending::Nothing => 0,
+        SearchEnding::Refused => 1,
+        SearchEnding::Found | SearchEnding::Nothing => 0,
     }
 }
 
@@ -63,7 +63,7 @@ fn unread(alloc: Global, path: &str) -> Result<Searched, AllocError>
     text.extend_from_slice(b": read fault\n")?;
     Ok(Searched {
         text,
-        ending: Ending::Refused,
+        ending: SearchEnding::Refused,
     })
 }
 
@@ -110,7 +110,7 @@ fn search_each<S: Store, O: Sink>(
 {
     match paths {
         [] => Ok(Hits {
-            ending: Ending::Nothing,
+            ending: SearchEnding::Nothing,
             refused: 0,
         }),
         [path, more @ ..] => {

@@ -36,7 +36,12 @@ pub(crate) fn into_memory<I: Source>(alloc: Global, source: &mut I, job: Job) ->
 ///
 /// - The output did not fit into memory (`exit` is `WriteFault`): `NoMemory`.
 /// - The file cannot be written: the error of `Store::put`.
-pub(crate) fn keep<S: Store>(store: &mut S, path: &str, exit: Exit, bytes: &[u8]) -> Result<(), DiskFault>
+pub(crate) fn keep<S: Store>(
+    store: &mut S,
+    path: &str,
+    exit: Exit,
+    bytes: &[u8],
+) -> Result<(), DiskFault>
     ensures kept { OnOk result (Saves (S.files store.old) (S.files store.new) path.now (written_by exit bytes.now)) }
     ensures held { S.held store.new ≡ S.held store.old }
     ensures unchanged { OnErr result (S.files store.new ≡ S.files store.old) }

@@ -17,6 +17,7 @@ use Rattle.pm_search.specs.Lines.{name_line}
 use Rattle.pm_search.specs.Searching.{searched_as}
 use Rattle.pm_search.specs.Texts.{contains, file_text, matches_from, text_in, text_returned}
 use Rattle.pm_search.specs.Worked.{WorkedAnswers, WorkedLines, WorkedNames, WorkedSearches}
+use Rattle.pm_search.proofs.LineEnds.{whole_searched}
 use Rattle.pm_search.proofs.SearchLaws.{contained, empty_query, files_split, info, line_left_out, line_listed, names_left_out}
 use Rattle.pm_search.proofs.SearchLaws.{names_listed, nothing, one_format, refused}
 
@@ -77,6 +78,7 @@ worked_answers = record {
   refused = refused;
   info = info;
   nothing = nothing;
+  whole = whole_searched;
   empty_image = λ path query. ap (searched_as path [] query) worked_opens.empty;
 }
 

@@ -1,3 +1,4 @@
 pub mod ContainsLaws
 pub mod SearchLaws
+pub mod LineEnds
 pub mod Computed

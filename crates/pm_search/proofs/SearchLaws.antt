@@ -20,8 +20,8 @@ use Rattle.pm_search.specs.Lines.{front_of, match_line, name_line, names_text}
 use Rattle.pm_search.specs.Searching.{Answer, ended, ending_of, searched, searched_as, searched_in, text_for}
 use Rattle.pm_search.specs.Texts.{contains, file_text, lines_text, matches_from, matching, text_matches}
 use Rattle.pm_search.specs.Worked.{IsSearched, named}
-use Rattle.pm_search.specs.declared.query.Ending.{Ending}
-use Rattle.pm_search.specs.declared.query.Ending.TheVariants as endings
+use Rattle.pm_search.specs.declared.query.SearchEnding.{SearchEnding}
+use Rattle.pm_search.specs.declared.query.SearchEnding.TheVariants as endings
 use Rattle.pm_search.specs.declared.query.Query.{Query}
 use Rattle.pm_search.specs.declared.query.Query.TheVariants as queries
 use Rattle.pm_search.proofs.ContainsLaws.{begins_contains, contains_occurs}
@@ -145,12 +145,12 @@ one_format path image query format formats =
       answer = ap (searched_as path image query) formats ∙ ap (searched_in path format query) p.1 ∙ (rw volume refl);
     }
 
-abbrev is_refused : Ending → Bool
+abbrev is_refused : SearchEnding → Bool
 is_refused endings.Found = false
 is_refused endings.Nothing = false
 is_refused endings.Refused = true
 
-abbrev is_found : Ending → Bool
+abbrev is_found : SearchEnding → Bool
 is_found endings.Found = true
 is_found endings.Nothing = false
 is_found endings.Refused = false

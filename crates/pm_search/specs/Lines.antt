@@ -15,7 +15,7 @@ use Rattle.pm_volume.specs.declared.entry.Entry.{Entry}
 abbrev pub front_of : List ℕ → List ℕ
 front_of path = path ++ 58 ∷ 32 ∷ []
 
--- The beginning of a line about a file: then follows the name of the file, as `files list` prints it.
+-- The beginning of a line about a file: the path, a colon, a space, and the name of the file as `files list` prints it.
 abbrev pub file_front : List ℕ → List ℕ → List ℕ
 file_front path name = front_of path ++ printable_name name
 
@@ -49,7 +49,7 @@ names_text path blocks pattern = flat_map (name_line path) (fitting_files blocks
 abbrev pub no_volume_line : List ℕ → List ℕ
 no_volume_line path = front_of path ++ codes "no volume\n"
 
--- The name of each format after the first.
+-- A comma, a space, and the name of a format after the first.
 abbrev pub next_format : Format → List ℕ
 next_format format = 44 ∷ 32 ∷ name_of format
 

@@ -4,8 +4,8 @@ use Rattle.pm_convert.specs.Found.{blocks_in, formats_of, is_volume}
 use Rattle.pm_convert.specs.declared.format.Format.{Format}
 use Rattle.pm_search.specs.Lines.{info_line, names_text, no_volume_line, several_line}
 use Rattle.pm_search.specs.Texts.{lines_text}
-use Rattle.pm_search.specs.declared.query.Ending.{Ending}
-use Rattle.pm_search.specs.declared.query.Ending.TheVariants as endings
+use Rattle.pm_search.specs.declared.query.SearchEnding.{SearchEnding}
+use Rattle.pm_search.specs.declared.query.SearchEnding.TheVariants as endings
 use Rattle.pm_search.specs.declared.query.Query.{Query}
 use Rattle.pm_search.specs.declared.query.Query.TheVariants as queries
 use Rattle.pm_search.specs.declared.query.Searched as declared
@@ -13,22 +13,26 @@ use Rattle.pm_search.specs.declared.query.Searched as declared
 -- The answer for one image: the bytes of its lines, and how the search ended.
 pub record Answer : Type 0 where
   pub text : List ℕ
-  pub ending : Ending
+  pub ending : SearchEnding
 
 -- The answer that a call returned.
 abbrev pub seen : declared.Searched → Answer
 seen searched = record { text = searched.text.items; ending = searched.ending }
 
+-- The answer with the lines `text` for an image that is refused.
+abbrev pub refused : List ℕ → Answer
+refused text = record { text = text; ending = endings.Refused }
+
 -- The answer for an image that opens as a volume in no format.
 abbrev pub no_volume : List ℕ → Answer
-no_volume path = record { text = no_volume_line path; ending = endings.Refused }
+no_volume path = refused (no_volume_line path)
 
 -- The answer for an image that opens as a volume in the format `first` and in each format of `more`.
 abbrev pub several : List ℕ → Format → List Format → Answer
-several path first more = record { text = several_line path first more; ending = endings.Refused }
+several path first more = refused (several_line path first more)
 
 -- The end of a search in a volume: `Nothing` if there are no lines, otherwise `Found`.
-abbrev pub ending_of : List ℕ → Ending
+abbrev pub ending_of : List ℕ → SearchEnding
 ending_of [] = endings.Nothing
 ending_of (byte ∷ text) = endings.Found
 

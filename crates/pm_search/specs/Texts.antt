@@ -43,7 +43,7 @@ text_returned (Ok filed) = text_of_answer filed.answer
 text_returned (Err fault) = None
 
 -- The text of the file of the entry `e`, as `files gettext` returns it. There is no text if the kind of the file is not
--- text, or if `files gettext` refuses the file because it has no header.
+-- text, or if `files gettext` refuses the file: it has no header, or its bytes are not all in the image.
 abbrev pub text_in : List ℕ → Entry → Option (List ℕ)
 text_in image e = if e.kind == TEXT then text_returned (text_read image (file_bytes image e)) else None
 

@@ -1,5 +1,5 @@
 -- Laws of searches, and worked examples.
-use Rattle.std.specs.Prelude.{◌≡◌, ◌≢◌, ◌↔◌, ◌+◌, ◌-◌, ◌<◌, ◌≤◌, ℕ, true, false, List, [], ◌∷◌, ◌++◌, length, replicate, codes}
+use Rattle.std.specs.Prelude.{◌≡◌, ◌≢◌, ◌⊎◌, ◌↔◌, ◌+◌, ◌-◌, ◌<◌, ◌≤◌, ℕ, true, false, List, [], ◌∷◌, ◌++◌, length, replicate, codes}
 use Rattle.std.specs.Prelude.{None, Some}
 use Rattle.std.specs.Fmt.{decimal}
 use Rattle.std.specs.List.{filter, flat_map}
@@ -19,7 +19,7 @@ use Rattle.pm_volume.specs.declared.kinds.TheConstants.{TEXT}
 use Rattle.pm_search.specs.Lines.{info_line, match_line, name_line, names_text, no_volume_line, several_line}
 use Rattle.pm_search.specs.Searching.{ended, no_volume, searched, several, text_for}
 use Rattle.pm_search.specs.Texts.{contains, decoded, file_text, lines_text, matches_from, text_in, text_matches, text_returned}
-use Rattle.pm_search.specs.declared.query.Ending.TheVariants as endings
+use Rattle.pm_search.specs.declared.query.SearchEnding.TheVariants as endings
 use Rattle.pm_search.specs.declared.query.Query.{Query}
 use Rattle.pm_search.specs.declared.query.Query.TheVariants as queries
 
@@ -73,8 +73,18 @@ pub record IsSearched (path image : List ℕ) (query : Query) (format : Format) 
   pub opens : is_volume blocks ≡ true
   pub answer : searched path image query ≡ ended (text_for path format blocks query)
 
+-- The last byte of `text` is 10, the end of a line.
+pub record EndsLine (text : List ℕ) : Type 0 where
+  pub before : List ℕ
+  pub ends : text ≡ before ++ 10 ∷ []
+
+-- The text `text` is empty, or its last line has an end.
+abbrev pub IsWhole : List ℕ → Type 0
+IsWhole text = (text ≡ []) ⊎ EndsLine text
+
 -- An image that opens in one format is searched. An image that opens in no format or in several formats is refused, and
--- no other image is. A search without a line ends with `Nothing`. The line about an image is always there.
+-- no other image is. A search ends with `Nothing` only without a line. The line about an image is always there. Each
+-- answer ends with the end of a line, or is empty.
 pub record WorkedAnswers : Type 0 where
   pub one_format : (path image : List ℕ) (query : Query) (format : Format) → formats_of image ≡ format ∷ []
       → IsSearched path image query format
@@ -87,6 +97,7 @@ pub record WorkedAnswers : Type 0 where
   pub info : (path image : List ℕ) (format : Format) → formats_of image ≡ format ∷ []
       → (searched path image queries.Info).ending ≡ endings.Found
   pub nothing : (text : List ℕ) → (ended text).ending ≡ endings.Nothing → text ≡ []
+  pub whole : (path image : List ℕ) (query : Query) → IsWhole (searched path image query).text
   pub empty_image : (path : List ℕ) (query : Query) → searched path [] query ≡ no_volume path
 
 -- A file with this name and this kind.

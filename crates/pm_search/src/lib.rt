@@ -10,5 +10,5 @@ mod searching;
 mod texts;
 pub mod worked;
 
-pub use query::{Ending, Query, Searched};
+pub use query::{Query, SearchEnding, Searched};
 pub use searching::search;

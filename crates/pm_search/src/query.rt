@@ -13,7 +13,7 @@ pub enum Query<'a> {
 
 /// How a search in an image ended.
 #[derive(Clone, Copy, Debug, PartialEq, Eq)]
-pub enum Ending {
+pub enum SearchEnding {
     /// The image has one volume, and the answer has at least one line.
     Found,
     /// The image has one volume, and nothing was found. The answer has no line.
@@ -28,5 +28,5 @@ pub struct Searched {
     /// The lines of the answer. Each ends with byte 10.
     pub text: Vec<u8>,
     /// How the search ended.
-    pub ending: Ending,
+    pub ending: SearchEnding,
 }

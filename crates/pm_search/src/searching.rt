@@ -7,11 +7,21 @@ ghost use Rattle.pm_search.specs.Searching as searching;
 use crate::info::info_line;
 use crate::lines::front_of;
 use crate::names::names_text;
-use crate::query::{Ending, Query, Searched};
+use crate::query::{Query, SearchEnding, Searched};
 use crate::texts::lines_text;
 use pm_convert::{Format, blocks_in, formats_of};
 use pm_volume::Volume;
 use std::alloc::{AllocError, Global};
+
+/// Returns the answer with these lines for an image that is refused.
+fn refused(text: Vec<u8>) -> Searched
+    ensures answer { searching.seen result ≡ searching.refused text.items }
+{
+    Searched {
+        text,
+        ending: SearchEnding::Refused,
+    }
+}
 
 /// Returns the answer for an image that has no volume.
 fn no_volume(alloc: Global, path: &str) -> Result<Searched, AllocError>
@@ -19,10 +29,7 @@ fn no_volume(alloc: Global, path: &str) -> Result<Searched, AllocError>
 {
     let mut text = front_of(alloc, path)?;
     text.extend_from_slice(b"no volume\n")?;
-    Ok(Searched {
-        text,
-        ending: Ending::Refused,
-    })
+    Ok(refused(text))
 }
 
 /// Appends a comma, a space and the name of each format.
@@ -53,10 +60,7 @@ fn several(
     text.extend_from_slice(first.name().as_bytes())?;
     push_more(&mut text, more)?;
     text.push(b'\n')?;
-    Ok(Searched {
-        text,
-        ending: Ending::Refused,
-    })
+    Ok(refused(text))
 }
 
 /// Returns the lines of a search in the volume `volume`, which the image has in the format `format`.
@@ -81,9 +85,9 @@ fn ended(text: Vec<u8>) -> Searched
     ensures answer { searching.seen result ≡ searching.ended text.items }
 {
     let ending = if text.is_empty() {
-        Ending::Nothing
+        SearchEnding::Nothing
     } else {
-        Ending::Found
+        SearchEnding::Found
     };
     Searched { text, ending }
 }

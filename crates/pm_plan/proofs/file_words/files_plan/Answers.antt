@@ -14,6 +14,7 @@ returns-clause-asked c = (
   c.in_ok-verb.ensures.asked,
   c.in_ok-output.ensures.value,
   c.in_ok-ends.ensures.value,
+  search rules,
 )
 
 pub returns-clause-good : goal.returns-clause-good

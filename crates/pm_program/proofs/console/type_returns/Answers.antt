@@ -5,7 +5,7 @@ use Rattle.pm_program.specs.Console.{typed_byte}
 use Rattle.pm_program.proofs.console.type_returns.Goals as goal
 
 pub loop-byte-preserved : goal.loop-byte-preserved
-loop-byte-preserved c = search (rules, map_over_more typed_byte, unfolding typed_byte)
+loop-byte-preserved c = search (rules, map_over_more typed_byte)
 
 pub returns : goal.returns
 returns c = search (rules, take_all, drop_all)

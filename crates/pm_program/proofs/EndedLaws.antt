@@ -1,5 +1,5 @@
 -- Lemmas about texts that were read whole.
-use Rattle.std.proofs.Common.{◌≡◌, ◌∙◌, ◌++◌, ℕ, List, [], Option, None, Some, ap, append_nil}
+use Rattle.std.proofs.Common.{◌≡◌, ◌∙◌, ◌++◌, ℕ, List, [], Option, None, Some, ap, append-nil, sym}
 use Rattle.pm_folder.specs.declared.contents.Ends.{Ends}
 use Rattle.pm_import.specs.Feeds.{with_feeds}
 use Rattle.pm_jobs.specs.Streams.{ReadsAll}
@@ -10,5 +10,5 @@ pub fed : (old new : Option (List ℕ)) (e : Ends) (input : List ℕ) → ReadsA
 fed None new e input reads = tt
 fed (Some old) None e input reads = absurd reads.0
 fed (Some old) (Some new) e input reads =
-    let all : old ≡ input = reads.0 ∙ ap (λ rest. input ++ rest) reads.1.0 ∙ append_nil input in
+    let all : old ≡ input = reads.0 ∙ ap (λ rest. input ++ rest) reads.1.0 ∙ append-nil input in
     ap (λ bytes. with_feeds e bytes) (sym all)

@@ -2,15 +2,15 @@
 use Rattle.std.specs.Prelude.{ℕ, ◌==◌, Bool, true, false, List, map, if◌then◌else◌}
 
 -- Returns the byte that a program reads if the input has `byte`: the key Return (13) for a line feed (10).
-abbrev pub typed_byte : ℕ → ℕ
+unfoldable pub typed_byte : ℕ → ℕ
 typed_byte byte = if byte == 10 then 13 else byte
 
 -- Returns the bytes that a program reads if the input has `bytes`. `is_text` states whether `--text` is given. Without
 -- `--text` these are the bytes of the input.
-abbrev pub typed_bytes : Bool → List ℕ → List ℕ
+unfoldable pub typed_bytes : Bool → List ℕ → List ℕ
 typed_bytes true bytes = map typed_byte bytes
 typed_bytes false bytes = bytes
 
 -- Returns the byte that is written with `--text` if a program writes `byte`: a line feed (10) for a carriage return (13).
-abbrev pub shown_byte : ℕ → ℕ
+unfoldable pub shown_byte : ℕ → ℕ
 shown_byte byte = if byte == 13 then 10 else byte

@@ -1,6 +1,5 @@
 -- The search in images: what is written, and how it ends.
-use Rattle.std.specs.Prelude.{◌≡◌, ◌⊎◌, ⊤, ℕ, ◌+◌, List, [], ◌∷◌, ◌++◌, Option, String, string_bytes, codes}
-use Rattle.std.specs.List.{flat_map}
+use Rattle.std.specs.Prelude.{◌≡◌, ◌⊎◌, ⊤, ℕ, ◌+◌, List, [], ◌∷◌, ◌++◌, Option, nat_lt, string_bytes, codes, if◌then◌else◌}
 use Rattle.std.specs.Io.KnownBytes.{Appends}
 use Rattle.pm_files.specs.Held.{Files, HoldsFile}
 use Rattle.pm_plan.specs.declared.search_words.Sought.{Sought}
@@ -29,13 +28,6 @@ abbrev pub Answers : Files → Query → List ℕ → Answer → Type 0
 Answers files query path answer =
     ((image : List ℕ) × HoldsFile files path image × (answer ≡ searched path image query)) ⊎ (answer ≡ unread path)
 
--- Is true if `answers` are the answers for the files at `paths`, in this order.
-abbrev pub AnswersEach : Files → Query → List (List ℕ) → List Answer → Type 0
-AnswersEach files query [] answers = answers ≡ []
-AnswersEach files query (path ∷ paths) [] = ⊥
-AnswersEach files query (path ∷ paths) (answer ∷ answers) =
-    Answers files query path answer × AnswersEach files query paths answers
-
 -- Returns the end of two searches: `Refused` if one of them was refused; otherwise `Found` if one of them found
 -- something; otherwise `Nothing`.
 abbrev pub joined : SearchEnding → SearchEnding → SearchEnding
@@ -45,27 +37,32 @@ joined endings.Found endings.Found = endings.Found
 joined endings.Found endings.Nothing = endings.Found
 joined endings.Nothing second = second
 
--- Returns 1 for an image that was refused, and 0 for any other.
-abbrev pub refusal : SearchEnding → ℕ
-refusal endings.Refused = 1
-refusal _ = 0
+-- Returns the number of refused images after one more image: one more if it was refused. The number stops at 2^64 - 1.
+abbrev pub counted : ℕ → SearchEnding → ℕ
+counted refused endings.Refused = if nat_lt refused 18446744073709551615 then refused + 1 else refused
+counted refused endings.Found = refused
+counted refused endings.Nothing = refused
 
--- Returns the end of all searches. The end of no search is `Nothing`.
-abbrev pub ending_of : List Answer → SearchEnding
-ending_of [] = endings.Nothing
-ending_of (answer ∷ answers) = joined answer.ending (ending_of answers)
+-- Is true if the file at `path` is searched: the lines of its answer are appended to the output `before`, and `hits` are
+-- the hits `earlier` with this answer.
+abbrev pub SearchesOne : Files → Query → List ℕ → Option (List ℕ) → Option (List ℕ) → Hits → Hits → Type 0
+SearchesOne files query path before after earlier hits = (answer : Answer) × Answers files query path answer
+    × Appends before after answer.text × (hits.ending ≡ joined earlier.ending answer.ending)
+    × (hits.refused ≡ counted earlier.refused answer.ending)
 
--- Returns the number of images that were refused.
-abbrev pub refused_in : List Answer → ℕ
-refused_in [] = 0
-refused_in (answer ∷ answers) = refusal answer.ending + refused_in answers
+-- Is true if the files at `paths` are searched in their order, after the hits `earlier`.
+abbrev pub SearchesEach : Files → Query → List (List ℕ) → Option (List ℕ) → Option (List ℕ) → Hits → Hits → Type 0
+SearchesEach files query [] before after earlier hits = (after ≡ before) × (hits ≡ earlier)
+SearchesEach files query (path ∷ paths) before after earlier hits = (between : Option (List ℕ)) × (next : Hits)
+    × SearchesOne files query path before between earlier next
+    × SearchesEach files query paths between after next hits
 
 -- Is true if the files at `paths` are searched in their order: the lines of their answers are appended to the output
--- `before`, and `hits` has the end of all searches and the number of images that were refused.
+-- `before`, which gives the output `after`. `hits` has the end of all searches, which is `Nothing` for no file, and the
+-- number of files that were refused.
 abbrev pub Searches : Files → Query → List (List ℕ) → Option (List ℕ) → Option (List ℕ) → Hits → Type 0
-Searches files query paths before after hits = (answers : List Answer) × AnswersEach files query paths answers
-    × Appends before after (flat_map (λ answer. answer.text) answers) × (hits.ending ≡ ending_of answers)
-    × (hits.refused ≡ refused_in answers)
+Searches files query paths before after hits = (none : Hits) × (none.ending ≡ endings.Nothing) × (none.refused ≡ 0)
+    × SearchesEach files query paths before after none hits
 
 -- Returns the exit status of a search: 2 if an image was refused, 0 if something was found, and 7 if nothing was found.
 abbrev pub search_status : SearchEnding → ℕ

@@ -114,12 +114,20 @@ impl<R: Read> Read for Keys<R> {
     }
 }
 
+/// Returns the byte that a program reads if the input has `byte`: a carriage return for a line feed.
+#[tactic(auto, unfolding(crate::specs::Console::typed_byte))]
+fn typed_byte(byte: u8) -> u8
+    ensures value { result ≡ typed_byte byte }
+{
+    if byte == b'\n' { b'\r' } else { byte }
+}
+
 /// Replaces each line feed in `bytes` by a carriage return, the byte of the key Return.
 fn type_returns(bytes: &mut [u8])
     ensures bytes { bytes.new ≡ map typed_byte bytes.old }
 {
     for byte in bytes.iter_mut() {
-        *byte = if *byte == b'\n' { b'\r' } else { *byte };
+        *byte = typed_byte(*byte);
     }
 }
 
@@ -188,12 +196,20 @@ const PAGE: usize = 65536;
 /// The maximum number of bytes that a `Feeds` writer writes at a time.
 const PIECE: usize = 512;
 
+/// Returns the byte that is written if a program writes `byte`: a line feed for a carriage return.
+#[tactic(auto, unfolding(crate::specs::Console::shown_byte))]
+fn shown_byte(byte: u8) -> u8
+    ensures value { result ≡ shown_byte byte }
+{
+    if byte == b'\r' { b'\n' } else { byte }
+}
+
 /// Replaces each carriage return in `bytes` by a line feed.
 fn end_lines(bytes: &mut [u8])
     ensures bytes { bytes.new ≡ map shown_byte bytes.old }
 {
     for byte in bytes.iter_mut() {
-        *byte = if *byte == b'\r' { b'\n' } else { *byte };
+        *byte = shown_byte(*byte);
     }
 }
 

@@ -1,8 +1,8 @@
 //! The commands `find`, `grep` and `info`: a search in images, one after the other.
-ghost use Rattle.std.specs.Prelude.{◌≡◌, ◌≤◌, false, length, map, IfOk, OnOk, string_bytes};
-ghost use Rattle.std.specs.Io.KnownBytes.{Appends};
-ghost use Rattle.pm_program.specs.Searched.{Answers, IsQuery, Searches, joined, refusal, unread};
-ghost use Rattle.pm_search.specs.Searching.{Answer, seen};
+ghost use Rattle.std.specs.Prelude.{◌≡◌, false, map, IfOk, OnOk, string_bytes};
+ghost use Rattle.pm_program.specs.Searched.{Answers, IsQuery, Searches, SearchesEach, SearchesOne};
+ghost use Rattle.pm_program.specs.Searched.{counted, joined, unread};
+ghost use Rattle.pm_search.specs.Searching.{seen};
 ghost use Rattle.pm_search.specs.declared.query.Query.{Query};
 
 use pm_files::{DiskFault, Store};
@@ -33,14 +33,13 @@ fn joined(first: SearchEnding, second: SearchEnding) -> SearchEnding
     }
 }
 
-/// Returns 1 for an image that was refused, and 0 for any other.
-fn refusal(ending: SearchEnding) -> usize
-    ensures value { result ≡ refusal ending }
-    ensures bound { result ≤ 1 }
+/// Returns the number of refused images after one more image, which ended with `ending`. The number stops at 2^64 - 1.
+fn counted(refused: usize, ending: SearchEnding) -> usize
+    ensures value { result ≡ counted refused ending }
 {
     match ending {
-        SearchEnding::Refused => 1,
-        SearchEnding::Found | SearchEnding::Nothing => 0,
+        SearchEnding::Refused if refused < usize::MAX => refused + 1,
+        SearchEnding::Refused | SearchEnding::Found | SearchEnding::Nothing => refused,
     }
 }
 
@@ -85,44 +84,61 @@ fn answer<S: Store>(
     }
 }
 
-/// Searches in the files at `paths`, in their order, and writes the lines of each answer to `sink`, which must not have
-/// failed. No file changes.
+/// Searches in the file at `path`, writes the lines of the answer to `sink`, which must not have failed, and adds the end
+/// of the search to `hits`. No file changes.
 ///
 /// # Errors
 ///
-/// The lines of the first answers may have been written.
+/// `hits` is unchanged.
 ///
-/// - `sink` failed: `Write`.
-/// - Out of memory: `NoMemory`.
+/// - `sink` failed: `Write`. A prefix of the lines may have been written.
+/// - Out of memory: `NoMemory`. Nothing was written.
+fn search_one<S: Store, O: Sink>(
+    alloc: Global,
+    store: &mut S,
+    sink: &mut O,
+    query: &Query<'_>,
+    path: &str,
+    hits: &mut Hits,
+) -> Result<(), DiskFault>
+    requires well { (O.seen sink.old).failed ≡ false }
+    ensures searches { OnOk result (SearchesOne (S.files store.old) query.now path.now
+        (O.seen sink.old).contents (O.seen sink.new).contents hits.old hits.new) }
+    ensures well { OnOk result ((O.seen sink.new).failed ≡ false) }
+    ensures stays { S.files store.new ≡ S.files store.old }
+    ensures held { S.held store.new ≡ S.held store.old }
+{
+    let searched = answer(alloc, store, query, path)?;
+    if write_all(sink, &searched.text).is_err() {
+        return Err(DiskFault::Write(ErrorKind::Other));
+    }
+    *hits = Hits {
+        ending: joined(hits.ending, searched.ending),
+        refused: counted(hits.refused, searched.ending),
+    };
+    Ok(())
+}
+
+/// Searches in the files at `paths`, in their order, as `search_one` states for each. No file changes.
 fn search_each<S: Store, O: Sink>(
     alloc: Global,
     store: &mut S,
     sink: &mut O,
     query: &Query<'_>,
     paths: &[String],
-) -> Result<Hits, DiskFault>
+    hits: &mut Hits,
+) -> Result<(), DiskFault>
     requires well { (O.seen sink.old).failed ≡ false }
-    ensures searches { IfOk result (Searches (S.files store.old) query.now (map string_bytes paths.now)
-        (O.seen sink.old).contents (O.seen sink.new).contents) }
-    ensures bound { IfOk result (λ hits. hits.refused ≤ length paths.now) }
+    ensures searches { OnOk result (SearchesEach (S.files store.old) query.now (map string_bytes paths.now)
+        (O.seen sink.old).contents (O.seen sink.new).contents hits.old hits.new) }
     ensures stays { S.files store.new ≡ S.files store.old }
     ensures held { S.held store.new ≡ S.held store.old }
 {
     match paths {
-        [] => Ok(Hits {
-            ending: SearchEnding::Nothing,
-            refused: 0,
-        }),
+        [] => Ok(()),
         [path, more @ ..] => {
-            let searched = answer(alloc, store, query, path.as_str())?;
-            if write_all(sink, &searched.text).is_err() {
-                return Err(DiskFault::Write(ErrorKind::Other));
-            }
-            let rest = search_each(alloc, store, sink, query, more)?;
-            Ok(Hits {
-                ending: joined(searched.ending, rest.ending),
-                refused: refusal(searched.ending) + rest.refused,
-            })
+            search_one(alloc, store, sink, query, path.as_str(), hits)?;
+            search_each(alloc, store, sink, query, more, hits)
         }
     }
 }
@@ -150,5 +166,10 @@ pub fn do_search<S: Store, O: Sink>(
     ensures held { S.held store.new ≡ S.held store.old }
 {
     let query = query_of(&plan.sought);
-    search_each(alloc, store, sink, &query, &plan.images)
+    let mut hits = Hits {
+        ending: SearchEnding::Nothing,
+        refused: 0,
+    };
+    search_each(alloc, store, sink, &query, &plan.images, &mut hits)?;
+    Ok(hits)
 }

@@ -5,6 +5,7 @@ use Rattle.std.specs.Prelude.{ℕ, ◌==◌, if◌then◌else◌}
 unfoldable pub typed_byte : ℕ → ℕ
 typed_byte byte = if byte == 10 then 13 else byte
 
--- Returns the byte that is written with `--text` if a program writes `byte`: a line feed (10) for a carriage return (13).
+-- Returns the byte that is written with `--text` if a program writes `byte`: a line feed (10) for a carriage return
+-- (13).
 unfoldable pub shown_byte : ℕ → ℕ
 shown_byte byte = if byte == 13 then 10 else byte

@@ -23,7 +23,7 @@ abbrev pub DeliversEnded : Files → Files → List ℕ → Option (List ℕ) �
 DeliversEnded old new path output before after outcome order e input = (image : List ℕ) × HoldsFile old path image
     × Delivers old new output before after outcome (ended e (said_files image order input))
 
--- Is true if `text` is the input `remaining`, a text whose lines end with `e`, with line feeds. Nothing is stated if the
--- input is not known.
+-- Is true if `text` is the input `remaining`, a text whose lines end with `e`, with line feeds. Nothing is stated if
+-- the input is not known.
 abbrev pub IsFed : Option (List ℕ) → Ends → List ℕ → Type 0
 IsFed remaining e text = IfSome remaining (λ input. text ≡ with_feeds e input)

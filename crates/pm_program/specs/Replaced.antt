@@ -10,8 +10,8 @@ use Rattle.pm_tool.specs.declared.outcome.Outcome.{Outcome}
 abbrev pub without : List ℕ → List ℕ → List ℕ
 without name image = unwrap_or (said_files image (Remove name) []).image image
 
--- Is true if the command `order` is executed on `input` and on the image at `path` without the file `name`, and its image
--- is saved at `path`. No other file changes. If the command is refused, it has no image, and no file changes.
+-- Is true if the command `order` is executed on `input` and on the image at `path` without the file `name`, and its
+-- image is saved at `path`. No other file changes. If the command is refused, it has no image, and no file changes.
 abbrev pub Replaces : Files → Files → List ℕ → List ℕ → Order → List ℕ → Outcome → Type 0
 Replaces old new path name order input outcome = (image : List ℕ) × HoldsFile old path image
     × IsOutcome outcome (said_files (without name image) order input)

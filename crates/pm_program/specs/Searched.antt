@@ -1,5 +1,6 @@
 -- The search in images: what is written, and how it ends.
-use Rattle.std.specs.Prelude.{◌≡◌, ◌⊎◌, ⊤, ℕ, ◌+◌, List, [], ◌∷◌, ◌++◌, Option, nat_lt, string_bytes, codes, if◌then◌else◌}
+use Rattle.std.specs.Prelude.{◌≡◌, ◌⊎◌, ⊤, ℕ, ◌+◌, List, [], ◌∷◌, ◌++◌, Option, nat_lt}
+use Rattle.std.specs.Prelude.{string_bytes, codes, if◌then◌else◌}
 use Rattle.std.specs.Io.KnownBytes.{Appends}
 use Rattle.pm_files.specs.Held.{Files, HoldsFile}
 use Rattle.pm_plan.specs.declared.search_words.Sought.{Sought}
@@ -43,8 +44,8 @@ counted refused endings.Refused = if nat_lt refused 18446744073709551615 then re
 counted refused endings.Found = refused
 counted refused endings.Nothing = refused
 
--- Is true if the file at `path` is searched: the lines of its answer are appended to the output `before`, and `hits` are
--- the hits `earlier` with this answer.
+-- Is true if the file at `path` is searched: the lines of its answer are appended to the output `before`, and `hits`
+-- are the hits `earlier` with this answer.
 abbrev pub SearchesOne : Files → Query → List ℕ → Option (List ℕ) → Option (List ℕ) → Hits → Hits → Type 0
 SearchesOne files query path before after earlier hits = (answer : Answer) × Answers files query path answer
     × Appends before after answer.text × (hits.ending ≡ joined earlier.ending answer.ending)

@@ -130,8 +130,8 @@ fn type_returns(bytes: &mut [u8])
     }
 }
 
-/// A reader of the console input of a run. With `--text` (`is_text`), a program reads the key Return (byte 13) where the
-/// inner reader has a line feed. The reader also records which of these two bytes it has read.
+/// A reader of the console input of a run. With `--text` (`is_text`), a program reads the key Return (byte 13) where
+/// the inner reader has a line feed. The reader also records which of these two bytes it has read.
 #[derive(Drop)]
 pub struct Typed<R> {
     inner: R,

@@ -1,6 +1,7 @@
-//! The verbs `gettext` and `puttext` of `files` with the option `--ends`. In comments, the input is *known* if the model of
-//! `source` states its remaining bytes.
-ghost use Rattle.std.specs.Prelude.{◌≡◌, ℕ, List, false, IfOk, IfSome, OnErr, OnOk, option_map, string_bytes, vec_items};
+//! The verbs `gettext` and `puttext` of `files` with the option `--ends`. In comments, the input is *known* if the
+//! model of `source` states its remaining bytes.
+ghost use Rattle.std.specs.Prelude.{◌≡◌, ℕ, List, false, IfOk, IfSome, OnErr, OnOk};
+ghost use Rattle.std.specs.Prelude.{option_map, string_bytes, vec_items};
 ghost use Rattle.pm_filer.specs.Filed.{order_of};
 ghost use Rattle.pm_files.specs.Held.{Saves};
 ghost use Rattle.pm_jobs.specs.Streams.{AreWell, both};
@@ -107,7 +108,8 @@ pub fn do_puttext<S: Store, I: Source, O: Sink>(
 /// locked, and gets the whole output if the command succeeds. No other file changes. If the command is cut short by out
 /// of memory, nothing is written, and no file changes.
 ///
-/// On an error, a file could not be read, locked or written, `sink` failed, or memory is exhausted. No file has changed.
+/// On an error, a file could not be read, locked or written, `sink` failed, or memory is exhausted. No file has
+/// changed.
 pub fn do_gettext<S: Store, I: Source, O: Sink>(
     alloc: Global,
     store: &mut S,

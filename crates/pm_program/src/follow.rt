@@ -252,8 +252,8 @@ fn act_on_files<S: Store, I: Source, O: Sink>(
     }
 }
 
-/// Executes `put` or `puttext` with `--replace` on the image at `path`. With `ends`, the input is a text whose lines end
-/// with `ends`.
+/// Executes `put` or `puttext` with `--replace` on the image at `path`. With `ends`, the input is a text whose lines
+/// end with `ends`.
 fn replace<S: Store, I: Source, O: Sink>(
     alloc: Global,
     store: &mut S,
@@ -899,6 +899,22 @@ fn end_of_plan<R: Host + AllocGlobal, I: Source, O: Sink>(
     }
 }
 
+/// Returns the byte that ends the input of `plan` on a terminal.
+fn end_key(plan: &Plan) -> u8 {
+    match plan {
+        Plan::Run(_, choices) if choices.escape => ESCAPE,
+        _ => END,
+    }
+}
+
+/// Returns whether `plan` converts line feeds of its input to the key Return.
+fn is_text(plan: &Plan) -> bool {
+    match plan {
+        Plan::Run(program, _) | Plan::Trace(program, ..) => program.is_text,
+        _ => false,
+    }
+}
+
 /// Executes the job that `asked` specifies with the standard streams and the files of the host system.
 pub fn follow<R: Host + Input + Print + Eprint + AllocGlobal>(rt: &R, asked: Asked) -> Done {
     let plan = &asked.plan;
@@ -915,15 +931,9 @@ pub fn follow<R: Host + Input + Print + Eprint + AllocGlobal>(rt: &R, asked: Ask
         };
     }
     let has_system = has_system(plan);
-    let end = match plan {
-        Plan::Run(_, choices) if choices.escape => ESCAPE,
-        _ => END,
-    };
+    let end = end_key(plan);
     let has_keys = at.input && matches!(plan, Plan::Run(_, _));
-    let is_text = match plan {
-        Plan::Run(program, _) | Plan::Trace(program, ..) => program.is_text,
-        _ => false,
-    };
+    let is_text = is_text(plan);
     let surprise = surprise_of(plan);
     let mut keys = Typed::new(Keys::new(rt.reader(), has_keys, end), is_text);
     let mut lined = Lined::new(rt.alloc(), io::writer(rt), at.lines_of(plan));

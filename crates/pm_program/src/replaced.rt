@@ -1,5 +1,5 @@
-//! The verbs `put` and `puttext` of `files` with the option `--replace`. In comments, the input is *known* if the model of
-//! `source` states its remaining bytes.
+//! The verbs `put` and `puttext` of `files` with the option `--replace`. In comments, the input is *known* if the model
+//! of `source` states its remaining bytes.
 ghost use Rattle.std.specs.Prelude.{◌≡◌, IfOk, IfSome, OnErr, OnOk, option_map, string_bytes, vec_items};
 ghost use Rattle.pm_filer.specs.Filed.{order_of};
 ghost use Rattle.pm_files.specs.Held.{Saves, held_too};
@@ -15,8 +15,8 @@ use pm_jobs::{Reader, Sink, Source};
 use pm_tool::{Exit, Job, Outcome};
 use std::alloc::Global;
 
-/// Returns the image `image` without the file `name`. If the file cannot be removed, because there is none or `image` is
-/// no volume, returns `image` itself. Returns `NoMemory` if memory is exhausted.
+/// Returns the image `image` without the file `name`. If the file cannot be removed, because there is none or `image`
+/// is no volume, returns `image` itself. Returns `NoMemory` if memory is exhausted.
 fn without(alloc: Global, image: Vec<u8>, name: &str) -> Result<Vec<u8>, DiskFault>
     ensures image { IfOk result (λ made. made.items ≡ without name.now image.items) }
 {
@@ -35,8 +35,8 @@ fn without(alloc: Global, image: Vec<u8>, name: &str) -> Result<Vec<u8>, DiskFau
     }
 }
 
-/// Executes `command`, which adds the file `name`, on the image at `path` without the old file of this name. The image is
-/// saved only if the command succeeds: otherwise the old file remains. `source` and `sink` must not have failed.
+/// Executes `command`, which adds the file `name`, on the image at `path` without the old file of this name. The image
+/// is saved only if the command succeeds: otherwise the old file remains. `source` and `sink` must not have failed.
 ///
 /// The file at `path` is locked first. No other file changes. If the job is cut short by a stream failure or out of
 /// memory, no file changes.

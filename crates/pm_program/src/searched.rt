@@ -84,8 +84,8 @@ fn answer<S: Store>(
     }
 }
 
-/// Searches in the file at `path`, writes the lines of the answer to `sink`, which must not have failed, and adds the end
-/// of the search to `hits`. No file changes.
+/// Searches in the file at `path`, writes the lines of the answer to `sink`, which must not have failed, and adds the
+/// end of the search to `hits`. No file changes.
 ///
 /// # Errors
 ///

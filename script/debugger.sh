@@ -215,7 +215,11 @@ note() {
             --*=*) ;;
             --) option=--file= && continue ;;
             -*) option=$word= && continue ;;
-            *) file=$word ;;
+            *)
+                # (the path of the image may be in front of the name)
+                [ -z "$file" ] || [ -n "$image" ] || image=$file
+                file=$word
+                ;;
         esac
         option=''
     done

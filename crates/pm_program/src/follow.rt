@@ -27,7 +27,7 @@ use pm_plan::{
     Asked, ConvertPlan, ExportPlan, FilesPlan, Form, ImportPlan, InForm, Order, Plan, Program,
     RunChoices, SalvagePlan, Target, TextFiles, TextInput, Verb,
 };
-use pm_tool::{Exit, Job, Outcome, Refusal};
+use pm_tool::{Ending, Exit, Job, Outcome, Refusal};
 use pm_volume::VolumeFault;
 use std::alloc::{AllocError, Global};
 use std::io;
@@ -162,7 +162,7 @@ enum Surprise {
     NoCode,
     /// `gettext` without `-o`, which prints nothing, or `?` for bytes, of a file that is no text file.
     NoText,
-    /// `run` or `trace` without `--text`, which waits for the key Return in an input whose lines end with line feeds.
+    /// `run` without `--text`, which waits for the key Return in an input whose lines end with line feeds.
     NoReturn,
     /// Any other plan.
     None,
@@ -173,9 +173,14 @@ fn surprise_of(plan: &Plan) -> Surprise {
     match plan {
         Plan::Dis(_, files) if files.output.is_none() => Surprise::NoCode,
         Plan::Files(plan) if plan.output.is_none() && gets_text(&plan.verb) => Surprise::NoText,
-        Plan::Run(program, _) | Plan::Trace(program, ..) if !program.is_text => Surprise::NoReturn,
+        Plan::Run(program, _) if !program.is_text => Surprise::NoReturn,
         _ => Surprise::None,
     }
+}
+
+/// Returns whether a run with the outcome `outcome` ended because its program waits for a key.
+fn is_waiting(outcome: &Outcome) -> bool {
+    outcome.ending == Some(Ending::Waiting)
 }
 
 /// Returns what a terminal shows after the message of `end`. `has_only_feeds` states whether the input has line feeds
@@ -199,7 +204,7 @@ fn note_of<W: Write>(
         (Surprise::NoText, Exit::Ended) if lined.has_replaced() => Some(
             "a ? stands for a byte that is no character; 'files get' writes the bytes of the file",
         ),
-        (Surprise::NoReturn, Exit::Stopped) if has_only_feeds => Some(
+        (Surprise::NoReturn, Exit::Stopped) if has_only_feeds && is_waiting(outcome) => Some(
             "lines of the input end with line feeds, and the program waits for the key Return; --text converts them",
         ),
         _ => None,

@@ -140,7 +140,13 @@ impl fmt::Display for Refused<'_> {
                 write!(f, "{}", Excerpt(line.as_str()))
             }
             (None, Some(line)) => write!(f, "{}", PlainLines(line.as_str())),
-            (None, None) => write!(f, "{reason}"),
+            (None, None) => match self.refusal {
+                Refusal::Filer(FilerFault::Text(fault @ TextFault::BadByte(_))) => write!(
+                    f,
+                    "{fault}; if lines end with byte 13, use --ends crlf or --ends cr; 'files put NAME data' accepts any bytes"
+                ),
+                _ => write!(f, "{reason}"),
+            },
         }
     }
 }

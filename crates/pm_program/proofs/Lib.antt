@@ -1,4 +1,3 @@
-mod EndedLaws
 mod FolderLaws
 mod SavedLaws
 mod TextLaws

@@ -32,7 +32,6 @@ fn fault_of(fault: Fault) -> DiskFault {
 
 /// Reads the whole input, a text whose lines end with `ends`, and returns it with line feeds. `source` must not have
 /// failed. Returns the fault of reading, or `NoMemory`.
-#[tactic(auto, using(crate::proofs::EndedLaws::fed))]
 pub(crate) fn read_text<I: Source>(
     alloc: Global,
     source: &mut I,

@@ -197,13 +197,13 @@ pub disk_said : (done : Result Outcome DiskFault) (old new : List ℕ → Option
     (path image file : List ℕ) (name : String Global) (limit : ℕ) (saving : Saving) (known : Option (List ℕ)) (input : List ℕ)
     → new path ≡ Some file
     → IfOk done (λ outcome. IsSoundExit outcome.exit → IfSome known (λ input. SavesRunSaid (Some old) (Some new)
-    (record { disk = from; others = none_other; name = name; limit = limit; system = None })
+    (record { disk = from; others = none_other; name = name; limit = limit; system = None; is_text = false })
     (record { saving = saving; printing = printings.Nowhere }) input))
     → known ≡ Some input → string_bytes from ≡ path → old path ≡ Some image
     → IfOk done (λ outcome. IsSoundExit outcome.exit → LeavesRun image name limit saving input file)
 disk_said (Ok outcome) old new from path image file name limit saving known input has saves is at had = λ sound.
     let told = subst (λ known. IfSome known (λ input. SavesRunSaid (Some old) (Some new)
-    (record { disk = from; others = none_other; name = name; limit = limit; system = None })
+    (record { disk = from; others = none_other; name = name; limit = limit; system = None; is_text = false })
     (record { saving = saving; printing = printings.Nowhere }) input)) is (saves sound) in
     let held = subst (λ path. old path ≡ Some image) (sym at) had in
     leaves told.0 told.1 told.2 told.3 told.4 held

@@ -141,6 +141,7 @@ try:
         browser.js("$('blocks').click(); 0")
         with open(name + ".work", "rb") as file:
             check(name + ": Save as blocks too", downloaded("shoe.img") == file.read(), True)
+    browser.js("drives.clear(); makeSample(); 0")
     # a dropped file
     browser.js("""(() => { const data = new DataTransfer(); data.items.add(new File([new Uint8Array(600)], "dropped.bin"));
         document.dispatchEvent(new DragEvent("drop", {dataTransfer: data, bubbles: true, cancelable: true})); })()""")

@@ -5,13 +5,17 @@
 #
 #   file       its size, its parts, the checksums of its Content-Security-Policy, nothing that leads to a network
 #   numbers    each number of its JavaScript has a reason (page/numbers.txt)
-#   looks      what a person does with it, in node, in a small document without layout (page/looks.js, page/dom.mjs)
+#   looks      what a person does with it, in node, in a small document without layout (page/looks.js, page/dom.mjs); what it
+#              saves in other formats, a program with the system segment, and the lines of salvage are those of the native
+#              program (page/disks_of_page.py)
 #   cases      the cases of docs/CASES.md, or each Nth of them: by its WebAssembly, in place of the native program
-#              (page/server.mjs, page/cases.py); all of examples/conformance/bare.txt (page/client.c); and GENERATED
-#              generated command lines (2,000), by its WebAssembly and by the native program (page/generated.py)
+#              (page/server.mjs, page/cases.py); all of examples/conformance/bare.txt (page/client.c); GENERATED generated
+#              command lines (2,000), by its WebAssembly and by the native program (page/generated.py); and conversions of
+#              images and salvage, by both (page/conversions.mjs)
 #   browsers   in Chromium, Firefox and WebKitGTK, if they are installed: the looks, all cases of bare.cases in the page itself,
 #              and its limits (page/limits.js): 32 MiB, a trap, memory that ends, many steps. In Chromium also keys, downloads,
-#              widths, contrast, one file by examples/site, and the typed programs of examples/system (page/programs.py)
+#              images in other formats, widths, contrast, one file by examples/site, and the typed programs of examples/system
+#              (page/programs.py)
 #
 # The last line is `N passed, N failed`. What is left out, because something is not installed, is named.
 here=$(readlink -f "$(dirname "$0")/..")
@@ -58,7 +62,7 @@ for tag in ("script", "style"):
     own = "'sha256-%s'" % base64.b64encode(hashlib.sha256(content).digest()).decode()
     if rules[tag + "-src"] not in (own, own + " 'wasm-unsafe-eval'"):
         faults.append("the policy does not name the %s: %s" % (tag, own))
-text = re.sub(rb'(<script type="application/octet-stream" id="module">)[^<]*', rb"\1", page)
+text = re.sub(rb'(<script type="application/octet-stream" id="(module|system-text)">)[^<]*', rb"\1", page)
 for pattern in (rb"https?:", rb"//[a-z]+\.[a-z]", rb"\b(fetch|XMLHttpRequest|WebSocket|importScripts|sendBeacon|EventSource)\b", rb"\bimport\b", rb" (src|href)=\"(?!data:)",
                 rb"\bon[a-z]+=\""):
     for found in re.finditer(pattern, text):
@@ -132,8 +136,10 @@ if ! command -v node >/dev/null; then
 else
     echo "== looks"
     "$here/examples/disk.sh" kept.img || exit 1
-    check "looks" node $memory64 "$here/bench/page/looks.mjs" "$page" kept.img
+    python3 "$here/bench/page/disks_of_page.py" >more.json || exit 1
+    check "looks" node $memory64 "$here/bench/page/looks.mjs" "$page" kept.img more.json
     echo "== cases"
+    check "formats and salvage" node $memory64 "$here/bench/page/conversions.mjs" "$page" more.json "$PMACH"
     mkdir wasm && cc -O1 -DSOCKET="\"$scratch/socket\"" "$here/bench/page/client.c" -o wasm/pmach || exit 1
     node $memory64 "$here/bench/page/server.mjs" "$page" "$scratch/socket" "$PMACH" >server.log 2>&1 &
     server=$!

@@ -15,6 +15,7 @@ HERE = os.path.dirname(os.path.abspath(__file__))
 sys.dont_write_bytecode = True
 from cdp import Browser
 from cases_of_page import bare_cases
+from disks_of_page import disks_of_page
 
 PAGE, SHOTS = sys.argv[1:]
 PMACH = os.environ.get("PMACH", os.path.join(HERE, "..", "..", "pmach"))
@@ -52,7 +53,7 @@ try:
     with open(os.path.join(HERE, "looks.js"), encoding="utf-8") as file:
         browser.js(file.read() + "; 0")
     with open("kept.img", "rb") as file:
-        given = {"kept": list(file.read()), "random": 50}
+        given = {"kept": list(file.read()), "random": 50, "more": disks_of_page()}
     for name, is_right, got in browser.js("looks(%s)" % json.dumps(given)):
         check(name, is_right, lambda right, got=got: right or print(got))
 
@@ -103,6 +104,44 @@ try:
         time.sleep(0.1)
     listed = subprocess.run([PMACH, "files", "--image", folder + "/sample.img", "list"], stdout=subprocess.PIPE, check=False)
     check("the saved image", listed.stdout.decode().split("\n")[0], "SAMPLE:")
+    # images in other formats: chosen, changed, saved as the native program does
+    def native(*words, given=b""):
+        return subprocess.run([PMACH, *words], input=given, stdout=subprocess.PIPE, stderr=subprocess.PIPE, check=True).stdout
+
+    def downloaded(name):
+        for _ in range(100):
+            if os.path.exists(folder + "/" + name) and not [one for one in os.listdir(folder) if one.endswith(".crdownload")]:
+                break
+            time.sleep(0.1)
+        with open(folder + "/" + name, "rb") as file:
+            data = file.read()
+        os.unlink(folder + "/" + name)
+        return data
+
+    with open("note.txt", "w", encoding="ascii") as file:
+        file.write("one\ntwo\n")
+    native("files", "--image", "shoe.img", "new", "SHOE", "280")
+    for name, form in (("shoe.dsk", "dos"), ("shoe.2mg", "2mg-blocks"), ("shoe.dc42", "dc42-blocks")):
+        native("convert", "--as", form, "shoe.img", name)
+        native("convert", name, name + ".work")
+        native("files", "--image", name + ".work", "puttext", "NOTE.TEXT", given=b"one\ntwo\n")
+        native("convert", "--back", name, name + ".work", name + ".new")
+        browser.js("closeProgram(); drives.clear(); disk = null; $('image').value = ''; $('added').value = ''; 0")
+        browser.files("#image", name)
+        browser.wait("disk !== null && disk.name === '%s'" % name)
+        check(name + ": its format", browser.text("format"), "Format: %s. Save the image keeps this format." % form)
+        browser.files("#added", "note.txt")
+        browser.wait("$('dialog').open")
+        browser.js("$('accept').click(); 0")
+        browser.wait("document.querySelectorAll('#files button').length === 1")
+        browser.shot("%s/%s.png" % (SHOTS, name))
+        browser.js("$('save').click(); 0")
+        with open(name + ".new", "rb") as file:
+            check(name + ": Save gives the native program's bytes", downloaded(name) == file.read(), True)
+        browser.js("$('blocks').click(); 0")
+        with open(name + ".work", "rb") as file:
+            check(name + ": Save as blocks too", downloaded("shoe.img") == file.read(), True)
+    browser.js("drives.clear(); makeSample(); 0")
     # a dropped file
     browser.js("""(() => { const data = new DataTransfer(); data.items.add(new File([new Uint8Array(600)], "dropped.bin"));
         document.dispatchEvent(new DragEvent("drop", {dataTransfer: data, bubbles: true, cancelable: true})); })()""")
@@ -147,6 +186,11 @@ try:
     browser.js("[...document.querySelectorAll('#files button')].find(b => b.textContent === 'HANOI').click(); $('run').click(); 0")
     browser.wait("running === null")
     check("its program runs", browser.text("state"), "The program has ended. Steps: 402")
+    check("site.sh accepts another format", made("shoe.dsk", "dsk.html").returncode, 0)
+    browser.js("drives.clear(); closeProgram(); 0")
+    browser.open("dsk.html")
+    browser.wait("disk !== null")
+    check("which the page shows", browser.text("format"), "Format: dos. Save the image keeps this format.")
     check("no message and no request", browser.messages(), [])
 finally:
     browser.close()

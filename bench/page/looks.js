@@ -215,6 +215,7 @@ async function looks(given) {
   check("and the page goes on", shows("state"), "The program has ended. Steps: 402");
   press("close");
   await otherLooks(given, {check, shows, press, names, choose, line, view, ended, answer, opened});
+  await formatLooks(given.more, {check, shows, press, names, choose, ended, answer, opened});
   return results;
 }
 
@@ -336,7 +337,7 @@ async function otherLooks(given, {check, shows, press, names, choose, line, view
   discard();
   opened(kept, "kept.img");
   const second = library.ask("put_text", library.ask("volume", bytes("TWO"), 40).bytes, bytes("A.TEXT"), bytes("hello\n")).bytes;
-  openImage(second, "two.img", false, 5);
+  openImage(second, "two.img", 5);
   check("a second disk", [shows("disk-title"), names()], ["TWO (two.img) on unit 5", ["A.TEXT"]]);
   check("both are listed", [...$("drives").children].map(one => one.textContent), ["Unit 4: kept.img", "Unit 5: two.img", "Disk in unit 9"]);
   $("drives").children[0].click();
@@ -345,8 +346,8 @@ async function otherLooks(given, {check, shows, press, names, choose, line, view
   const own = library.ask("put", kept, bytes("W"), 2, writer).bytes, marked = second.slice();
   marked[39 * 512] = 77;
   discard();
-  openImage(own, "own.img", false, 4);
-  openImage(marked, "two.img", false, 5);
+  openImage(own, "own.img", 4);
+  openImage(marked, "two.img", 5);
   showDisk(4);
   choose("W");
   press("run");
@@ -355,7 +356,7 @@ async function otherLooks(given, {check, shows, press, names, choose, line, view
   press("close");
   check("only that disk is changed", [drives.get(4).changed, drives.get(5).changed, drives.get(5).data[39 * 512]], [false, true, 0]);
   check("and the page would ask", [...$("drives").children][1].textContent, "Unit 5: two.img *");
-  openImage(kept, "other.img", false, 5);
+  openImage(kept, "other.img", 5);
   check("before it is replaced", [$("dialog").open, drives.get(5).name], [true, "two.img"]);
   press("cancel");
   showDisk(4);
@@ -385,9 +386,9 @@ async function otherLooks(given, {check, shows, press, names, choose, line, view
   put(1082, "NUL.TEXT");
   put(1030, "<i>&");
   await openBox([fileOf("kept.img", kept), fileOf("bad<b>.img", bad), fileOf("KEPT.IMG", hostile), {name: "gone", arrayBuffer: async () => { throw new Error("not readable"); }}]);
-  check("many images are listed", [...$("boxed").children].map(row => [...row.children].slice(0, 5).map(cell => cell.textContent).join("; ")),
-    ["kept.img; KEPT; 20480; 3; good", "bad<b>.img; ; 20480; ; refused volume 4 1: an entry of the directory is damagedslot 1 name has 0 characters, not 1 to 15\nfaults 1\nrefused volume 4 1",
-      "KEPT.IMG; <i>&; 20480; 3; good"]);
+  check("many images are listed", [...$("boxed").children].map(row => [...row.children].slice(0, 6).map(cell => cell.textContent).join("; ")),
+    ["kept.img; blocks; KEPT; 20480; 3; good", "bad<b>.img; ; ; 20480; ; refused volume 4 1: an entry of the directory is damagedslot 1 name has 0 characters, not 1 to 15\nfaults 1\nrefused volume 4 1",
+      "KEPT.IMG; blocks; <i>&; 20480; 3; good"]);
   check("the open disk stays", disk.name, "own.img");
   check("their names make no element", document.querySelectorAll("#boxed b, #boxed i, #boxed img").length, 0);
   let zip = null;
@@ -414,4 +415,152 @@ async function otherLooks(given, {check, shows, press, names, choose, line, view
   check("a profile", [...$("flame").children].slice(0, 3).map(bar => bar.textContent), ["all", "1.1", "1.2"]);
   check("after a run to its end", shows("state"), "The program has ended. Steps: 402");
   press("close");
+}
+
+// The third part: formats of images, programs with the system segment, and the report of salvage. `more` has what the native
+// program does with the same images (disks_of_page.py).
+async function formatLooks(more, {check, shows, press, names, choose, ended, answer, opened}) {
+  const unpack = async packed => new Uint8Array(await new Response(new Blob([Uint8Array.from(atob(packed), one => one.charCodeAt(0))])
+    .stream().pipeThrough(new DecompressionStream("gzip"))).arrayBuffer());
+  const isEqual = (one, other) => one?.length === other.length && other.every((byte, k) => byte === one[k]);
+  const fileOf = (name, data) => ({name, arrayBuffer: async () => data.slice().buffer});
+  const discard = () => { for (const one of drives.values()) one.changed = false; };
+  let saved = null;
+  const download_ = download;
+  download = (parts, name) => { saved = [name, parts[0]]; };
+  const add = () => { addFile(bytes(more.note), "note.txt"); answer("NOTE.TEXT", ""); };
+  if ($("box").hidden === false) press("unbox");
+
+  // each format: open, change, save in this format and as blocks
+  for (const {name, format, image, plain, blocks, saved: wanted} of more.formats) {
+    const data = await unpack(image), untouched = data.slice();
+    discard();
+    openImage(data, name);
+    check(name + " opens", [disk.name, disk.format, names(), disk.changed], [name, format, ["GUESS"], false]);
+    check(name + ": its format is shown", shows("format"), "Format: " + format + ". Save the image keeps this format.");
+    check(name + ": its blocks are those of the native program", isEqual(disk.data, await unpack(plain)), true);
+    press("save");
+    check(name + ": without a change the same bytes are saved", [saved[0], isEqual(saved[1], data)], [name, true]);
+    add();
+    check(name + ": a text is added", [names(), disk.changed], [["GUESS", "NOTE.TEXT"], true]);
+    press("save");
+    check(name + ": Save gives the bytes of the native program", [saved[0], isEqual(saved[1], await unpack(wanted)), disk.changed], [name, true, false]);
+    press("blocks");
+    check(name + ": Save as blocks", [saved[0], isEqual(saved[1], await unpack(blocks))], [name.replace(/[.].*/, ".img"), true]);
+    check(name + ": the bytes that were opened are unchanged", isEqual(data, untouched), true);
+  }
+  discard();
+  openImage(await unpack(more.guess.image), "small.img");
+  check("blocks in order", [shows("format"), $("blocks").hidden], ["Format: blocks", true]);
+  press("make");
+  answer("MINE", "280");
+  check("a new disk has blocks in order", [shows("format"), $("blocks").hidden], ["Format: blocks", true]);
+
+  // two formats: the page asks
+  discard();
+  const both = await unpack(more.both.image), choices = more.both.lines.map(line => line.split(" ")[0]);
+  for (const [k, format] of choices.entries()) {
+    openImage(both, "both.dsk");
+    check("an image with two formats asks", [$("dialog").open, shows("dialog-title"), [...document.querySelectorAll("#fields option")].map(one => one.textContent)],
+      [true, "Which format is it?", more.both.lines]);
+    answer(format);
+    check("and opens as " + format, [disk.format, shows("disk-title")], [format, more.both.lines[k].split(" ")[1].replace(":", "") + " (both.dsk)"]);
+    add();
+    press("save");
+    check("and is saved as " + format, isEqual(saved[1], await unpack(more.both.saved[format])), true);
+  }
+  const open = disk.data;
+  openImage(both, "both.dsk");
+  press("cancel");
+  check("Cancel opens none of them", [$("dialog").open, disk.data === open], [false, true]);
+
+  // a list of images has the format of each
+  const {image: dsk} = more.formats[0], {image: mac} = more.formats.find(({format}) => format.startsWith("dc42"));
+  await openBox([fileOf("a.dsk", await unpack(dsk)), fileOf("b.dc42", await unpack(mac)), fileOf("both.dsk", both), fileOf("junk", bytes("abc"))]);
+  check("a list of images has their formats", [...$("boxed").children].map(row => [...row.children].slice(0, 5).map(cell => cell.textContent).join("; ")),
+    ["a.dsk; dos; SHOE; 143360; 1", "b.dc42; dc42-blocks; SHOE; " + (await unpack(mac)).length + "; 1", "both.dsk; " + choices.join(", ") + "; ; 143360; ", "junk; ; ; 3; "]);
+  check("and says which are clear", [...$("boxed").children].map(row => row.children[5].textContent).slice(0, 3),
+    ["good", "good", "several formats; Open asks for one" + more.both.lines.join("\n")]);
+  let zip = null;
+  const saveFiles_ = saveFiles;
+  saveFiles = files => { zip = files; };
+  await exportBox();
+  saveFiles = saveFiles_;
+  check("files of other formats are exported", zip.map(file => file.path), ["a.dsk/GUESS", "b.dc42/GUESS"]);
+  check("with the same bytes", isEqual(zip[0].data, zip[1].data), true);
+  [...$("boxed").children[1].children[6].children][0].click();
+  await new Promise(next => setTimeout(next, 100));
+  check("such an image is opened from the list", [disk.name, disk.format], ["b.dc42", "dc42-blocks"]);
+  press("unbox");
+
+  // a program that calls the operating system, in an image with blocks in order and in one with DOS order
+  for (const [name, image] of [["small.img", more.guess.image], ["shoe.dsk", dsk]]) {
+    discard();
+    openImage(await unpack(image), name);
+    const before = disk.data.slice();
+    choose("GUESS");
+    $("system").checked = false;
+    press("run");
+    await ended();
+    check(name + ": without System it ends with an error", [shows("state").startsWith("Error " + more.guess.without[1] + ": "), $("lent").hidden], [true, true]);
+    press("close");
+    $("system").checked = true;
+    press("debug");
+    check(name + ": the page says what is lost", $("lent").hidden, false);
+    press("go");
+    await ended();
+    for (const byte of more.guess.keys) {
+      key(byte);
+      await ended();
+    }
+    check(name + ": with System it has the console of the native program", isEqual([...library.ask("console", library.handle, 0n).bytes], more.guess.console), true);
+    check(name + ": and its steps", [shows("state"), more.guess.ended[0]], ["The program has ended. Steps: " + more.guess.ended[1], "ended"]);
+    press("again");
+    check(name + ": Restart uses System again", [shows("state"), $("lent").hidden], ["Before the first step. Steps: 0", false]);
+    press("close");
+    check(name + ": the disk has no trace of it", [isEqual(disk.data, before), disk.changed, names()], [true, false, ["GUESS"]]);
+  }
+  $("system").checked = true;
+  const own = library.ask("put", disk.data, bytes("OWN"), 2, system).bytes;
+  discard();
+  openImage(own, "own.img");
+  choose("OWN");
+  press("run");
+  check("a program with a segment in slot 0 is refused", [program, shows("status").startsWith("OWN does not start with System: refused system 4: ")], [null, true]);
+  // (a program that writes 512 bytes of zeros to block 39 of its own disk, and to block 38 of the disk on unit 5)
+  const call = (unit, block) => "SLDC " + unit + "\nLDCI 2000\nSLDC 0\nLDCI 512\nSLDC " + block + "\nSLDC 0\nCSP 6\n";
+  const writer = library.ask("assemble", bytes(".SEG 1 W\n.PROC 1 0 0 0\n" + call(4, 39) + call(5, 38) + ".EXIT\nRBP 0\n.END\n"), 0);
+  check("a program that writes to two disks is assembled", writer.status, 0);
+  const put = library.ask("put", await unpack(more.guess.image), bytes("W"), 2, writer.bytes).bytes, marked = library.ask("volume", bytes("TWO"), 40).bytes;
+  put[39 * 512] = marked[38 * 512] = 77;
+  openImage(put, "put.img");
+  openImage(marked, "two.img", 5);
+  showDisk(4);
+  choose("W");
+  press("run");
+  await ended();
+  check("it ends", shows("state"), state => state.startsWith("The program has ended"));
+  press("close");
+  check("with System its own disk is unchanged, the other one is changed", [drives.get(4).changed, drives.get(4).data[39 * 512], drives.get(5).changed, drives.get(5).data[38 * 512]], [false, 77, true, 0]);
+  check("and the page says so", shows("status"), "With System, what the program wrote to its own disk put.img is lost");
+  $("system").checked = false;
+  press("run");
+  await ended();
+  press("close");
+  check("without System its own disk is changed", [drives.get(4).changed, drives.get(4).data[39 * 512]], [true, 0]);
+  discard();
+  $("drives").children[1].click();
+  press("eject");
+
+  // the report of salvage
+  openImage(await unpack(more.damaged.image), "damaged.img");
+  press("salvage");
+  check("salvage has the lines of the native program", [shows("report"), $("report-part").hidden], [more.damaged.report, false]);
+  check("and its volume", [isEqual(disk.data, await unpack(more.damaged.volume)), shows("format")], [true, "Format: blocks"]);
+  discard();
+  openImage(both.slice(), "both.dsk");
+  answer(choices[0]);
+  check("another disk has no such lines", $("report-part").hidden, true);
+  download = download_;
+  discard();
 }

@@ -1,13 +1,13 @@
-// Runs looks.js on a page in the small document of dom.mjs: node looks.mjs PAGE KEPT.IMG
+// Runs looks.js on a page in the small document of dom.mjs: node looks.mjs PAGE KEPT.IMG MORE.JSON (of disks_of_page.py)
 import fs from "fs";
 import {load} from "./dom.mjs";
 import {parts} from "./wasm.mjs";
 
-const [page, kept] = process.argv.slice(2);
+const [page, kept, more] = process.argv.slice(2);
 const opened = load(parts(page).page);
 while (opened.document.getElementById("status").textContent === "Loading") await new Promise(next => setTimeout(next, 10));
 opened.run(fs.readFileSync(new URL("looks.js", import.meta.url), "utf8"));
-opened.context.given = {kept: [...fs.readFileSync(kept)], random: 200};
+opened.context.given = {kept: [...fs.readFileSync(kept)], random: 200, more: JSON.parse(fs.readFileSync(more, "utf8"))};
 const results = await opened.run("looks(given)");
 const {document} = opened, at = id => document.getElementById(id), check = (name, got, wanted) =>
   results.push([name, JSON.stringify(got) === JSON.stringify(wanted), JSON.stringify(got)]);

@@ -1,7 +1,7 @@
 #!/usr/bin/env python3
 """others.py PAGE IMAGE [BROWSER ..]: the page in Firefox and in WebKitGTK: what a person does with it (looks.js), its limits
 (limits.js), and the cases for bare code. IMAGE is a disk of examples/disk.sh; a BROWSER is Firefox or WebKit. STEPS is the
-number of steps of the longest run (100,000,000). Requires Debian's firefox-esr, webkit2gtk-driver and xvfb, and Python's
+number of steps of the longest run (100,000,000), PMACH names the native program. Requires Debian's firefox-esr, webkit2gtk-driver and xvfb, and Python's
 standard library."""
 import base64
 import glob
@@ -19,6 +19,7 @@ import urllib.request
 HERE = os.path.dirname(os.path.abspath(__file__))
 sys.dont_write_bytecode = True
 from cases_of_page import bare_cases
+from disks_of_page import disks_of_page
 
 QUIET = {"stdin": subprocess.DEVNULL, "stdout": subprocess.DEVNULL, "stderr": subprocess.DEVNULL}
 
@@ -159,7 +160,7 @@ page, image = sys.argv[1:3]
 names, steps = sys.argv[3:] or ["Firefox", "WebKit"], int(os.environ.get("STEPS", "100000000"))
 with open(image, "rb") as disk:
     data = disk.read()
-bare, copy, failed = bare_cases(), with_tests(page), 0
+bare, more, copy, failed = bare_cases(), disks_of_page(), with_tests(page), 0
 for name in names:
     driven = {"Firefox": Firefox, "WebKit": WebKit}[name]()
     try:
@@ -168,7 +169,7 @@ for name in names:
         shown = driven.run("return document.getElementById('status').textContent")
         results = [["the page starts", shown == "Ready", shown]]
         if shown == "Ready":
-            results += tested(driven, "looks", {"kept": list(data), "random": 50}, 300)
+            results += tested(driven, "looks", {"kept": list(data), "random": 50, "more": more}, 300)
             results += tested(driven, "bareCases", bare, 300)
             results += tested(driven, "limits", {"kept": list(data), "steps": steps}, 300 + steps / 1e6)
         for what, is_right, found in results:

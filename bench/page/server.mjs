@@ -117,21 +117,24 @@ function files(words, given, input, at) {
   return {status: STATUS.done, out: NOTHING, message: ""};
 }
 
-// The native program writes the lines, for which the library has no call, and the volume. The library has to make this volume.
+// The native program writes the volume and the lines. The library has to make the same ones.
 function salvaged(words, texts, given, input, at) {
-  const image = at.read(words[1]), to = texts.find(word => word !== "--second");
+  const image = at.read(words[1]), to = texts.find(word => word !== "--second"), second = texts.includes("--second") ? 1 : 0;
   if (image === null || to === undefined) throw new NoCall("salvage");
-  const made = library.ask("salvage", image, texts.includes("--second") ? 1 : 0), native = natively(["files", ...given.map(latin1)].map(toBytes), input, at.path("."));
-  const wanted = native.status === STATUS.done ? fs.readFileSync(at.path(to)) : Buffer.from(latin1(native.messages).replace(/\n$/, ""), "latin1");
+  const made = library.ask("salvage", image, second), report = library.ask("salvage_report", image, second);
+  const native = natively(["files", ...given.map(latin1)].map(toBytes), input, at.path("."));
+  const isDone = native.status === STATUS.done, message = latin1(native.messages).replace(/\n$/, "");
+  const wanted = isDone ? fs.readFileSync(at.path(to)) : Buffer.from(message, "latin1"), lines = isDone ? native.out : wanted;
   if (native.status !== made.status || Buffer.compare(wanted, made.bytes) !== 0) throw new Error("another volume is salvaged");
-  return {status: native.status, out: native.out ?? native.stdout, message: latin1(native.messages).replace(/\n$/, "")};
+  if (native.status !== report.status || Buffer.compare(lines, report.bytes) !== 0) throw new Error("salvage has other lines");
+  return {status: native.status, out: native.out, message};
 }
 
 // ---- run, trace and debug
 
 // Reads the options of a program: its disks by unit, and where its input and output are.
 function options(words, given) {
-  const read = {disks: new Map(), limit: 10000000n, saves: 0, printer: null, input: null, name: null};
+  const read = {disks: new Map(), limit: 10000000n, saves: 0, printer: null, input: null, system: null, name: null};
   for (let k = 1; k < words.length; k++) {
     const unit = /^--d(\d+)$/.exec(words[k]);
     if (unit) read.disks.set(Number(unit[1]), words[++k]);
@@ -140,11 +143,12 @@ function options(words, given) {
     else if (words[k] === "--save") read.saves = 1;
     else if (words[k] === "--save-all") read.saves = 2;
     else if (words[k] === "--printer") read.printer = words[++k];
+    else if (words[k] === "--system") read.system = words[++k];
     else if (words[k] === "--input") read.input = words[++k];
     else if (words[k].startsWith("--") && words[k] !== "--") throw new NoCall(words[k]);
     else if (words[k] !== "--") read.name = given[k];
   }
-  if (read.name === null || !read.disks.has(BOOT_UNIT)) throw new NoCall("no program");
+  if (read.name === null || !read.disks.has(BOOT_UNIT) || (read.system !== null && read.saves === 1)) throw new NoCall("no program");
   return read;
 }
 
@@ -154,14 +158,16 @@ function program(words, given, input, at) {
     images.set(unit, at.read(told.disks.get(unit)));
     if (images.get(unit) === null) return fault("read");
   }
-  const more = told.input === null ? NOTHING : at.read(told.input);
-  if (more === null) return fault("read");
+  const more = told.input === null ? NOTHING : at.read(told.input), system = told.system === null ? NOTHING : at.read(told.system);
+  if (more === null || system === null) return fault("read");
   for (const unit of units) {
     const listed = library.ask("list", images.get(unit));
     if (listed.status !== STATUS.done) return whole(listed);
   }
   const refusal = words => ({status: STATUS.refused, out: NOTHING, message: "refused boot " + words});
-  const began = library.boot(images.get(BOOT_UNIT), told.name);
+  const extended = told.system === null ? {status: STATUS.done, bytes: images.get(BOOT_UNIT)} : library.ask("with_system", images.get(BOOT_UNIT), told.name, system);
+  if (extended.status !== STATUS.done) return whole(extended);
+  const began = library.boot(extended.bytes, told.name);
   if (began >= 200 && began < 300) return refusal(began - 200); // 200 + N: `refused boot N`
   if (began >= 100 && began < 200) return refusal("4 " + (began - 100)); // 100 + N: its first call fails by error N
   if (began === NO_TEXT) throw new NoCall("a name that is not UTF-8");
@@ -227,6 +233,7 @@ function ran(input, told, units, images, at) {
   const out = library.ask("console", library.handle, 0n).bytes, printed = library.ask("printer", library.handle, 0n).bytes;
   for (const unit of units) {
     if (library.call("eject", library.handle, unit) !== 0) throw new Error("eject " + unit);
+    if (told.system !== null && unit === BOOT_UNIT) continue; // (it has the system segment)
     const left = library.ask("ejected", library.handle).bytes, isChanged = Buffer.compare(left, images.get(unit)) !== 0;
     if ((told.saves !== 0 && unit === BOOT_UNIT) || (told.saves === 2 && isChanged)) fs.writeFileSync(at.path(told.disks.get(unit)), left);
   }

@@ -19,6 +19,7 @@ const HEX_ADDRESS = 6;                               // the hexadecimal digits o
 const PLACE_NUMBERS = 3;                             // segment, procedure and offset
 const WORD_BYTES = 2;                                // docs/FILES.md: a word is two bytes
 const MOST_LINKS = 64;      // static links that are followed to the frame of a global variable
+const BLOCKS = "blocks";     // docs/COMMANDS.md, "convert": the format that all other calls read
 const NEW_NAME = "NEW", NEW_BLOCKS = 280;            // a disk of 140 KB
 const SAMPLE_BLOCKS = 40;
 const BLOCKS_END = 65535;                            // the largest uint16_t, which pmach_volume takes
@@ -38,7 +39,7 @@ const CONTROL = 64;         // Ctrl with a letter is the letter's code less this
 const ASCII_END = 128;      // a typed character with a code from here on is no key of the machine
 const LAST_COLUMN = {name: 15, kind: 16, numbers: 20}; // docs/FILES.md, "The list": where its columns begin
 // The numbers that pmach_sentence takes for the message of a job, and for the answer of a run.
-const MESSAGES = {volume: 400, boot: 200, "filer 1": 400, asm: 600, code: 700, "filer 2": 800};
+const MESSAGES = {volume: 400, boot: 200, "filer 1": 400, asm: 600, code: 700, "filer 2": 800, convert: 900, system: 1000};
 const STOPS = {waiting: 1, break: 15, changed: 16}, EXECUTION_ERROR = 100;
 // How a file is shown: the words of the button, and the call that makes the text of code.
 const CODE_VIEWS = [["Blocks", "disassemble_blocks"], ["Statements", "disassemble_statements"], ["Instructions", "disassemble_list"],
@@ -53,15 +54,18 @@ const $ = id => document.getElementById(id);
 const SYSTEM = "0"; // the segment of the system, which a picture of calls shows only if it is chosen
 const SVG = $("svg").namespaceURI; // (so that no address of a network is in this page)
 let library = null, compiled = null;
-const drives = new Map();  // the disks by their units: {unit, data, name, changed}
+const drives = new Map();  // the disks by their units: {unit, data, name, changed, format, original, report}
 let disk = null;           // the one that is shown
 let refused = null;        // the bytes that were dropped last and are no volume: {data, name}
-let box = [];              // the images that were dropped together: {file, name, size, title, files, verdict, lines}
+let box = [];              // the images that were dropped together: {file, name, size, format, title, files, verdict, report}
 let shown = null;          // the file in the middle: {unit, slot, name, kind, view}
 let rest = [];             // its lines that are not shown yet
 let placed = [];           // its lines with a position: {button, line, segment, procedure, offset, at}
 let targets = new Map();   // its lines that can be gone to: procedures "S P" and labels "S P L00000", with their number
 let program = null;        // the file of the program in the machine, or null
+let lent = null;           // its disk with the system segment, which exists only in the machine; null without System
+let systemText = null;     // the text of the system segment
+let system = null;         // its code file, after its first use
 let running = null;        // the command with which the run goes on, or null if it has stopped
 let resumes = false;       // whether a key continues a run that waits
 let seen = 0;              // the number of console bytes that are shown
@@ -96,7 +100,7 @@ function say(words, isBad = false) {
 // Returns the message of a job that was refused, and the sentence for its number.
 function reason(answer) {
   const message = text(answer.bytes).split("\n").pop();
-  const [, word, number] = /^refused (volume|boot|filer 1|filer 2|asm|code) (\d+)/.exec(message) ?? [];
+  const [, word, number] = /^refused (volume|boot|filer 1|filer 2|asm|code|convert|system) (\d+)/.exec(message) ?? [];
   const sentence = library.sentence(word ? MESSAGES[word] + Number(number) : answer.status);
   return message === "" || sentence === "" ? message + sentence : message + ": " + sentence;
 }
@@ -111,7 +115,7 @@ function safely(act) {
 }
 
 async function restart(error) {
-  program = running = profile = null;
+  program = lent = running = profile = null;
   layout();
   say(error instanceof OutOfMemory ? "There is not enough memory for this. The disks are as they were before."
     : "The machine was stopped by an internal error (" + error.message + "). The disks are as they were before.", true);
@@ -153,15 +157,49 @@ function leaving(old, then) {
 
 // ---- the disks
 
-// Opens an image, in the place of the disk on a unit. If it is no volume, that disk stays.
-function openImage(data, name, isNew = false, unit = disk?.unit ?? BOOT_UNIT) {
-  const answer = library.ask("list", data);
-  if (answer.status !== DONE) return refuse(data, name, answer);
+// The formats in which an image opens as a volume: their names, and the lines of pmach_formats.
+function formatsOf(data) {
+  const answer = library.ask("formats", data);
+  return answer.status === DONE ? text(answer.bytes).split("\n").slice(0, -1).map(line => ({format: line.split(" ")[0], line})) : [];
+}
+
+// Opens an image, in the place of the disk on a unit. If it opens in several formats, the page asks for one.
+function openImage(data, name, unit) {
+  const formats = formatsOf(data);
+  if (formats.length <= 1) return openAs(data, name, formats[0]?.format, unit);
+  ask("Which format is it?", name + " opens in several formats.", "Open", [{label: "Format, volume and files", options: formats.map(({format, line}) => [line, format])}],
+    format => openAs(data, name, format, unit));
+}
+
+// Opens an image in a format; without a format, as it is.
+function openAs(data, name, format, unit) {
+  const made = format === undefined ? {status: DONE, bytes: data} : library.ask("convert", data, bytes(format), bytes(BLOCKS));
+  if (made.status !== DONE) return refuse(data, name, made);
+  const isSame = same(made.bytes, data);
+  openDisk({data: isSame ? data : made.bytes, name, format, original: isSame ? null : data}, unit);
+}
+
+// Opens a disk of blocks in order. If it is no volume, the disk on the unit stays.
+function openDisk(made, unit = disk?.unit ?? BOOT_UNIT) {
+  const answer = library.ask("list", made.data);
+  if (answer.status !== DONE) return refuse(made.data, made.name, answer);
   leaving(drives.get(unit), () => {
-    drives.set(unit, {unit, data, name, changed: isNew});
+    drives.set(unit, {changed: false, original: null, report: "", ...made, format: made.format ?? BLOCKS, unit});
     refused = null;
     showDisk(unit);
   });
+}
+
+// The blocks of an image in its only format; its bytes if there is no such format.
+function blocksOf(data) {
+  const made = library.ask("convert", data, bytes(""), bytes(BLOCKS));
+  return made.status === DONE ? made.bytes : data;
+}
+
+function same(one, other) {
+  if (one.length !== other.length) return false;
+  for (let k = 0; k < one.length; k++) if (one[k] !== other[k]) return false;
+  return true;
 }
 
 function showDisk(unit) {
@@ -210,7 +248,8 @@ function refuse(data, name, answer) {
 function rescue(call, ...given) {
   const answer = library.ask(call, refused.data, ...given);
   if (answer.status !== DONE) return say(reason(answer), true);
-  openImage(answer.bytes, refused.name, true);
+  const report = call === "salvage" ? text(library.ask("salvage_report", refused.data, ...given).bytes) : "";
+  openDisk({data: answer.bytes, name: refused.name, changed: true, report});
 }
 
 // The files of a volume, from the lines of its list.
@@ -226,6 +265,10 @@ function filesOf(lines, unit) {
 function list() {
   const answer = library.ask("list", disk.data), lines = text(answer.bytes).split("\n");
   const unit = drives.size > 1 || disk.unit !== BOOT_UNIT ? " on unit " + disk.unit : "";
+  $("format").textContent = "Format: " + disk.format + (disk.original === null ? "" : ". Save the image keeps this format.");
+  $("blocks").hidden = disk.original === null;
+  $("report-part").hidden = disk.report === "";
+  $("report").textContent = disk.report;
   if (answer.status !== DONE) {
     $("disk-title").textContent = disk.name + " is no volume any more";
     $("total").textContent = reason(answer) + ". To salvage its files, save the image and open it again.";
@@ -302,9 +345,23 @@ function saveFile(file) {
   download([answer.bytes], file.name.toLowerCase());
 }
 
+// Saves the disk in the format of its image.
 function saveImage() {
   closeProgram();
-  download([disk.data], disk.name);
+  const {data, original, format} = disk;
+  const made = original === null ? {status: DONE, bytes: data} : library.ask("convert_back", original, bytes(format), data);
+  if (made.status !== DONE) return say(reason(made) + ". Choose Save as blocks.", true);
+  saveDisk(made.bytes, disk.name);
+}
+
+// Saves the disk with its blocks in order.
+function saveBlocks() {
+  closeProgram();
+  saveDisk(disk.data, disk.name.replace(/\.[^.]*$/, "") + ".img");
+}
+
+function saveDisk(data, name) {
+  download([data], name);
   disk.changed = false;
   list();
   layout();
@@ -339,7 +396,7 @@ function makeDisk(unit) {
     {label: "Blocks of 512 bytes", value: NEW_BLOCKS, type: "number", min: 0, max: BLOCKS_END}], (name, blocks) => {
     const answer = library.ask("volume", bytes(name), Number(blocks));
     if (answer.status !== DONE) return say(reason(answer), true);
-    openImage(answer.bytes, name.toLowerCase() + ".img", true, unit);
+    openDisk({data: answer.bytes, name: name.toLowerCase() + ".img", changed: true}, unit);
   });
 }
 
@@ -350,7 +407,7 @@ function makeSample() {
     const code = library.ask("assemble", bytes(part.textContent), 0).bytes; // 0: the code file, not its listing
     made = library.ask("put", made, bytes(part.dataset.name), CODE, code).bytes;
   }
-  openImage(made, "sample.img", false);
+  openDisk({data: made, name: "sample.img"});
 }
 
 function addFile(data, name) {
@@ -384,10 +441,13 @@ async function openBox(files) {
   for (const file of files) {
     say("Reading " + file.name + " (" + (box.length + 1) + " of " + files.length + ")");
     await read(file, data => {
-      const listed = library.ask("list", data), lines = text(listed.bytes).split("\n"), isVolume = listed.status === DONE;
-      const checked = library.ask("check", data), report = (text(checked.bytes) || library.sentence(checked.status)).replace(/\n$/, "");
-      box.push({file, name: file.name, size: data.length, isVolume, title: isVolume ? lines[0].replace(/:$/, "") : "",
-        files: isVolume ? String(lines.length - 3) : "", verdict: isVolume ? report.split("\n").at(-1) : reason(listed), report});
+      const formats = formatsOf(data), blocks = blocksOf(data), isClear = formats.length <= 1;
+      const listed = library.ask("list", blocks), lines = text(listed.bytes).split("\n"), isVolume = isClear && listed.status === DONE;
+      const checked = library.ask("check", blocks), report = (text(checked.bytes) || library.sentence(checked.status)).replace(/\n$/, "");
+      const several = isClear ? "" : formats.map(({line}) => line).join("\n");
+      box.push({file, name: file.name, size: data.length, isVolume, format: formats.map(({format}) => format).join(", "),
+        title: isVolume ? lines[0].replace(/:$/, "") : "", files: isVolume ? String(lines.length - 3) : "", report: several || report,
+        verdict: isVolume ? report.split("\n").at(-1) : isClear ? reason(listed) : "several formats; Open asks for one"});
     });
   }
   $("boxed").replaceChildren(...box.map(boxed));
@@ -400,18 +460,18 @@ async function openBox(files) {
 function boxed(one) {
   const report = one.report === one.verdict ? [one.verdict] // (`good` has no other lines)
     : [el("details", {}, el("summary", {textContent: one.verdict}), el("pre", {textContent: one.report}))];
-  const open = unit => read(one.file, data => openImage(data, one.name, false, unit));
+  const open = unit => read(one.file, data => openImage(data, one.name, unit));
   const acts = [button("Open", () => open(), {ariaLabel: "Open " + one.name}),
     ...(one.isVolume ? [button("Insert", () => open(UNITS.find(unit => unit !== BOOT_UNIT && !drives.has(unit))), {ariaLabel: one.name + " as another disk", title: "Insert as another disk"}),
-      button(".zip", () => read(one.file, data => saveFiles(exported(data, ""), pathPart(one.name) + ".zip")), {ariaLabel: "Export " + one.name})] : [])];
-  const cells = [[one.name], [one.title], [String(one.size)], [one.files], report, acts].map(nodes => el("td", {}, ...nodes));
+      button(".zip", () => read(one.file, data => saveFiles(exported(blocksOf(data), ""), pathPart(one.name) + ".zip")), {ariaLabel: "Export " + one.name})] : [])];
+  const cells = [[one.name], [one.format], [one.title], [String(one.size)], [one.files], report, acts].map(nodes => el("td", {}, ...nodes));
   return el("tr", {className: one.isVolume ? "" : "bad"}, ...cells);
 }
 
 // Exports the files of all volumes in the list, each in a folder of its image's name.
 async function exportBox() {
   const files = [], used = box.filter(one => one.isVolume), folders = withOwnPaths(used.map(one => ({path: pathPart(one.name)})));
-  for (const [k, one] of used.entries()) await read(one.file, data => files.push(...exported(data, folders[k].path)));
+  for (const [k, one] of used.entries()) await read(one.file, data => files.push(...exported(blocksOf(data), folders[k].path)));
   safely(() => saveFiles(files, "disks.zip"));
 }
 
@@ -618,17 +678,21 @@ function start(file, runs) {
   closeProgram();
   if (file.unit !== BOOT_UNIT) return say("Programs start from unit " + BOOT_UNIT + ": choose Move to unit " + BOOT_UNIT + " first.", true);
   if (disk.unit !== file.unit) showDisk(file.unit);
-  const status = library.boot(disk.data, bytes(file.name));
+  const made = $("system").checked ? withSystem(disk.data, file.name) : {status: DONE, bytes: disk.data};
+  if (made.status !== DONE) return say(file.name + " does not start with System: " + reason(made), true);
+  const status = library.boot(made.bytes, bytes(file.name));
   if (status !== DONE) return say(file.name + " does not start: " + library.sentence(status), true);
   for (const other of drives.values()) {
     const mounted = other.unit === BOOT_UNIT ? DONE : library.call("mount", library.handle, other.unit, other.data);
     if (mounted !== DONE) say(other.name + " is not mounted: " + library.sentence(mounted), true);
   }
   program = file;
+  lent = $("system").checked ? made.bytes : null;
+  $("lent").hidden = lent === null;
   seen = 0;
   screen = new Screen(line => { above += line + "\n"; });
   above = "";
-  const code = library.ask("get_slot", disk.data, file.slot), statements = library.ask("disassemble_statements", code.bytes);
+  const code = library.ask("get", made.bytes, bytes(file.name)), statements = library.ask("disassemble_statements", code.bytes);
   sizes = headings(statements.status === DONE ? text(statements.bytes) : "");
   for (const id of ["scrolled", "screen", "traced", "answers", "flame"]) $(id).replaceChildren();
   $("program-title").textContent = "Program " + file.name;
@@ -639,24 +703,38 @@ function start(file, runs) {
 }
 let above = ""; // lines that have left the screen and are not shown yet
 
-// Closes the program. The disks are as the program left them.
+// The image on which a program has the system segment, as `run --system` makes it.
+function withSystem(image, name) {
+  if (system === null) {
+    const made = library.ask("assemble", systemText, 0); // 0: the code file, not its listing
+    if (made.status !== DONE) return made;
+    system = made.bytes;
+  }
+  return library.ask("with_system", image, bytes(name), system);
+}
+
+// Closes the program. The disks are as the program left them. With System its own disk is as it was before.
 function closeProgram() {
   if (program === null) return;
+  let lost = "";
   running = profile = null;
   for (const one of drives.values()) {
     if (library.call("eject", library.handle, one.unit) !== DONE) continue;
-    const left = library.ask("ejected", library.handle).bytes;
-    if (left.length === one.data.length && left.every((byte, k) => byte === one.data[k])) continue;
+    const left = library.ask("ejected", library.handle).bytes, isLent = lent !== null && one.unit === BOOT_UNIT;
+    if (same(left, isLent ? lent : one.data)) continue;
+    if (isLent) lost = "With System, what the program wrote to its own disk " + one.name + " is lost";
+    if (isLent) continue;
     Object.assign(one, {data: left, changed: true});
     if (shown?.unit !== one.unit) continue;
     const line = text(library.ask("list", one.data).bytes).split("\n")[shown.slot];
     if (!line?.startsWith(shown.name)) shown = null; // another file is in its slot now
   }
   library.c.pmach_free(library.handle);
-  program = null;
+  program = lent = null;
   list();
   places();
   layout();
+  if (lost !== "") say(lost, true);
 }
 
 // Runs a command of the debugger that takes a limit, in slices, until something else than the limit stops it.
@@ -932,7 +1010,7 @@ async function read(file, then) {
 // Opens what was chosen or dropped: one image, or a list of several.
 function opened(files, unit) {
   if (files.length > 1) return openBox([...files]);
-  return read(files[0], (data, name) => openImage(data, name, false, unit));
+  return read(files[0], (data, name) => openImage(data, name, unit));
 }
 
 // The byte of a key, or 0 if it is no key of the machine. Tab and Ctrl+V keep their meaning in the browser.
@@ -952,7 +1030,7 @@ function listen() {
   const on = (id, event, does) => $(id).addEventListener(event, e => safely(() => does(e)));
   const idle = does => e => { e?.preventDefault?.(); if (program !== null && running === null) does(); };
   const acts = {
-    open: () => { opensOn = undefined; $("image").click(); }, make: () => makeDisk(), sample: makeSample, save: saveImage,
+    open: () => { opensOn = undefined; $("image").click(); }, make: () => makeDisk(), sample: makeSample, save: saveImage, blocks: saveBlocks,
     add: () => $("added").click(), krunch: () => change("krunch"), first: moveDisk, eject: ejectDisk,
     pack: () => { closeProgram(); saveFiles(exported(disk.data, ""), pathPart(disk.name) + ".zip"); },
     export: exportBox, unbox: () => { box = []; layout(); },
@@ -1046,6 +1124,7 @@ async function begin() {
   library = new Library(await WebAssembly.instantiate(compiled, {}));
   listen();
   for (const id of ["open", "make", "sample"]) $(id).disabled = false;
+  systemText = new Uint8Array(await unpacked("system-text"));
   const own = $("inside").textContent.trim() === "" ? null : new Uint8Array(await unpacked("inside"));
   say("Ready");
   if (own !== null) safely(() => openImage(own, $("inside").dataset.name)); // the disk that site.sh put into this page

@@ -2,9 +2,9 @@
 
     site.sh IMAGE FILE.html
 
-In a browser FILE.html opens on the disk: its files, its programs and the debugger (docs/PAGE.md). An image in another format is
-converted by `pmach convert`. Of a damaged image the page shows the faults, and can salvage its files. The same image and page
-give the same bytes.
+In a browser FILE.html opens on the disk: its files, its programs and the debugger (docs/PAGE.md). It contains the image as it
+is, so the page finds its format, and saves the disk in this format. Of a damaged image the page shows the faults, and can
+salvage its files. The same image and page give the same bytes.
 
 FILE.html is a new file. Nothing is replaced, and no link is followed. The page is out/unproved/pmach.html of the clone, or the
 installed one; the variable PMACH_PAGE can name another. Status 0: success; 1: invalid command line, or FILE.html exists or
@@ -14,14 +14,11 @@ import gzip
 import html
 import os
 import re
-import subprocess
 import sys
-import tempfile
 
 ROOT = os.path.dirname(os.path.dirname(os.path.dirname(os.path.abspath(__file__))))
-PMACH = os.environ.get("PMACH", os.path.join(ROOT, "pmach"))
 ELEMENT = b'<script type="application/octet-stream" id="inside" data-name=""></script>'
-LARGEST = 65536 * 512  # bytes: more than any volume has
+LARGEST = 65536 * 512  # bytes: more than any volume has, also with a header
 
 
 def stop(status, reason):
@@ -54,21 +51,6 @@ def page():
     stop(2, "there is no page; build it first: ./pmach --page")
 
 
-def ran(*words):
-    return subprocess.run([PMACH, *words], stdin=subprocess.DEVNULL, stdout=subprocess.DEVNULL, stderr=subprocess.DEVNULL, check=False).returncode
-
-
-def volume(path):
-    """Returns the bytes of an image with its blocks in order, or of the image itself if it is no volume in any format."""
-    data = read(path, LARGEST)
-    own = os.path.abspath(path)
-    if ran("files", "--image", own, "list") == 0:
-        return data
-    with tempfile.TemporaryDirectory() as scratch:
-        new = os.path.join(scratch, "blocks")
-        return read(new, LARGEST) if ran("convert", "--", own, new) == 0 and os.path.getsize(new) else data
-
-
 def write(path, data):
     """Writes a new file. If this fails, the file is removed."""
     try:
@@ -91,7 +73,7 @@ def main():
     image, path = sys.argv[1:]
     text, name = page(), os.fsencode(os.path.basename(image)).decode("utf-8", "replace")
     shown = html.escape(re.sub(r"[\x00-\x1f\x7f]", "?", name), quote=True)
-    packed = base64.b64encode(gzip.compress(volume(image), 9, mtime=0))
+    packed = base64.b64encode(gzip.compress(read(image, LARGEST), 9, mtime=0))
     element = ELEMENT.replace(b'data-name="">', b'data-name="%s">%s' % (shown.encode(), packed))
     made = text.replace(ELEMENT, element)
     write(path, made)

@@ -47,6 +47,13 @@ const UNLIMITED: WordRow = (
     "Run without a step limit; cannot be used with --limit",
 );
 
+/// The option `--limit` of `debug`.
+const NO_LIMIT: WordRow = (
+    "limit",
+    Form::Free("N"),
+    "Has no effect; the command go N runs at most N steps",
+);
+
 const FROM: WordRow = (
     "from",
     Form::Free("N"),
@@ -474,7 +481,7 @@ Commands, one per line. Numbers are decimal, or $ and at most four hexadecimal d
   help           print the commands
   quit           end the session
 Answers: ok, numbers, ended K, error N K, limit K, waiting K, break K, stop K, changed K A; `?` for an unknown command; refused 1: 64 breakpoints or watched words are set already; refused 2: not set; refused 3: odd address; refused 5: depth above 127; refused 6: no run to continue
-`--limit` has no effect here.
+
 Examples:
   pmach debug --d4 kept.img LOADS
   printf 'break 2 1 0\\ngo 100\\nregs\\n' | pmach debug --d4 kept.img LOADS";
@@ -519,7 +526,7 @@ const DEBUG: CommandRow = (
     "debug",
     "Debug a code file on unit 4 with commands from standard input",
     &[
-        D4, D5, D9, D10, D11, D12, FORM, LIMIT, SYSTEM, INPUT, PROGRAM,
+        D4, D5, D9, D10, D11, D12, FORM, NO_LIMIT, SYSTEM, INPUT, PROGRAM,
     ],
 );
 
@@ -953,7 +960,7 @@ fn commands<'a>(alloc: Global) -> Result<Vec<Command<'a>>, AllocError> {
 const IMAGES: WordRow = (
     "IMAGE",
     Form::Many,
-    "Disk images, in any format that 'pmach convert' knows",
+    "Disk images, in any format that 'pmach convert' accepts",
 );
 
 const FIND: CommandRow = (
@@ -991,6 +998,7 @@ const INFO: CommandRow = (
 /// The text after the commands in the help of the program.
 const EXAMPLES: &str = "\
 docs/COMMANDS.md explains all commands, messages and numbers.
+
 Examples:
   pmach files --image kept.img list
   pmach run --d4 kept.img HANOI
@@ -1001,7 +1009,9 @@ pub fn all_commands<'a>(alloc: Global) -> Result<Command<'a>, AllocError> {
     let commands = commands(alloc)?;
     Command::new(alloc, "pmach")
         .version(VERSION)
-        .about("The p-machine of UCSD Pascal version II. Without arguments it does `raw`")
+        .about(
+            "The p-machine of UCSD Pascal version II. Without arguments, and with input from a pipe or a file, it does `raw`",
+        )
         .after_help(EXAMPLES)
         .subcommands(commands)
 }

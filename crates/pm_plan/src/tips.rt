@@ -94,7 +94,8 @@ pub fn tip_for_option(words: &[String]) -> Told {
     if is_run && words.iter().any(is_other) {
         return Told::Instead(UNITS);
     }
-    if words.iter().any(|word| is_negative(word.as_str())) {
+    let is_counted = is_run || command.as_str() == "raw";
+    if is_counted && words.iter().any(|word| is_negative(word.as_str())) {
         return Told::Instead("a number has only decimal digits, without a sign");
     }
     match command.as_str() {
@@ -105,9 +106,15 @@ pub fn tip_for_option(words: &[String]) -> Told {
         "files" if !has("--image") => {
             Told::Instead("name the image with --image: pmach files --image IMAGE list")
         }
-        "run" | "trace" | "debug" if !has("--d4") => Told::Instead(
-            "name the image of unit 4 with --d4: pmach run --d4 IMAGE NAME",
-        ),
+        "run" if !has("--d4") => {
+            Told::Instead("name the image of unit 4 with --d4: pmach run --d4 IMAGE NAME")
+        }
+        "trace" if !has("--d4") => {
+            Told::Instead("name the image of unit 4 with --d4: pmach trace --d4 IMAGE NAME")
+        }
+        "debug" if !has("--d4") => {
+            Told::Instead("name the image of unit 4 with --d4: pmach debug --d4 IMAGE NAME")
+        }
         _ => Told::Unchanged,
     }
 }

@@ -1,7 +1,8 @@
 #!/bin/bash
-# `page.sh [--every N] [PAGE]` tests the page that ./pmach --page makes, by default out/unproved/pmach.html. Run manually; not
-# part of the gate. Requires python3, and for looks and cases node 20 and cc. PMACH names another native program than
-# ../pmach. STEPS is the number of steps of the longest run in each browser, by default 100,000,000.
+# `page.sh [--every N] [PAGE]` tests the page that ./pmach --page makes, by default out/unproved/pmach.html. PAGE is another
+# page, such as out/proved/pmach.html. Run manually; not part of the gate. Requires python3, and for looks and cases node 20
+# and cc. PMACH names another native program than ../pmach. STEPS is the number of steps of the longest run in each browser,
+# by default 100,000,000.
 #
 #   file       its size, its parts, the checksums of its Content-Security-Policy, nothing that leads to a network
 #   numbers    each number of its JavaScript has a reason (page/numbers.txt)
@@ -69,7 +70,7 @@ for pattern in (rb"https?:", rb"//[a-z]+\.[a-z]", rb"\b(fetch|XMLHttpRequest|Web
         faults.append("the page has %r" % text[max(0, found.start() - 20):found.end() + 20])
 if b"{{" in text or len(page) >= 500000:
     faults.append("a part is missing, or it has %d bytes" % len(page))
-if not re.search(rb"<footer>\s*<p>pmach 0\.\d\S*, <b>not proved</b>", text):
+if not re.search(rb"<footer>\s*<p>pmach 0\.\d\S*, <b>(not proved</b>: built without a proof|proved</b>: built from the proved library),", text):
     faults.append("the footer does not say what it is")
 print("%d bytes, %s" % (len(page), "; ".join(faults) or "no fault"))
 sys.exit(1 if faults else 0)

@@ -2,7 +2,7 @@
 # `install.sh --install PREFIX` installs the program (the proved one if it has been built), the scripts of this folder, the
 # man page, the completions, the examples and the pages below PREFIX, where they need no clone. Each file is put in place
 # by a rename. If the library has been built, proved or not, it is installed too, with its header and a file for
-# pkg-config, and so is the page for a browser. `install.sh --uninstall PREFIX` removes these files and no others.
+# pkg-config, and so is the page for a browser, the proved one if it has been built. `install.sh --uninstall PREFIX` removes these files and no others.
 # PREFIX/lib/pmach/installed lists them.
 # Status 1: invalid command line, or a file exists that --install did not install; nothing was changed. Status 70: failed.
 script=$(dirname "$(readlink -f "$0")")
@@ -26,7 +26,9 @@ files() {
     done
     echo "$program lib/pmach/$which/pmach"
     [ -z "$library" ] || echo "examples/library/pmach.h include/pmach.h"
-    [ ! -f "$here/out/unproved/pmach.html" ] || echo "out/unproved/pmach.html share/doc/pmach/pmach.html"
+    page=out/proved/pmach.html
+    [ -f "$here/$page" ] || page=out/unproved/pmach.html
+    [ ! -f "$here/$page" ] || echo "$page share/doc/pmach/pmach.html"
     (cd "$here" && find share -type f) | sed 's/.*/& &/'
     (cd "$here" && find README.md INDEX.md docs examples -type f ! -name '*.pyc') | sed 's|.*|& share/doc/pmach/&|'
 }

@@ -39,8 +39,9 @@ def read(path, limit):
 
 
 def page():
-    """Returns the page that ./pmach --page built."""
-    built = [os.path.join(ROOT, "out", "unproved", "pmach.html"), os.path.join(ROOT, "pmach.html")]
+    """Returns the page that ./pmach --page built, the proved one first."""
+    built = [os.path.join(ROOT, "out", kind, "pmach.html") for kind in ("proved", "unproved")]
+    built.append(os.path.join(ROOT, "pmach.html"))
     named = os.environ.get("PMACH_PAGE")
     for path in [named] if named else built:
         if os.path.isfile(path):

@@ -79,6 +79,14 @@ static uint32_t command(void) {
 static uint32_t set_break(void) { return pmach_break(&h, 1, 2, 0, true); }
 static uint32_t watch(void) { return pmach_watch(&h, 65000, true); }
 static uint32_t go(void) { uint64_t steps; uint16_t at; return pmach_go(&h, 100000, &steps, &at); }
+static uint32_t on(void) {
+    uint64_t steps;
+    uint16_t at;
+    uint32_t status = pmach_go(&h, 1, &steps, &at);
+    return status ? status : pmach_on(&h, 100000, &steps, &at);
+}
+static uint32_t variable(void) { uint16_t word; return pmach_variable(&h, 0, 1, &word); }
+static uint32_t procedures(void) { return pmach_procedures(code, code_len, OUT); }
 static uint32_t sentence(void) { return pmach_sentence(8, OUT); }
 static uint32_t console(void) { return pmach_console(&h, 0, OUT); }
 static uint32_t printer(void) { return pmach_printer(&h, 0, OUT); }
@@ -103,7 +111,8 @@ static const struct job { const char *name; uint32_t (*call)(void); int has_mach
     {"console", console, 1, 0, 0}, {"printer", printer, 1, 0, 0}, {"ejected", ejected, 1, 0, 0}, {"poke", poke, 1, 0, 0},
     {"place", place, 1, 0, 0}, {"disassemble_blocks", blocks, 0, 0, 0}, {"salvage_report", report, 0, 0, 0},
     {"with_system", with_system, 0, 0, 0}, {"formats", formats, 0, 0, 0}, {"convert", convert, 0, 0, 0},
-    {"convert_back", convert_back, 0, 0, 0},
+    {"convert_back", convert_back, 0, 0, 0}, {"on", on, 1, 1, 0}, {"variable", variable, 1, 0, 0},
+    {"procedures", procedures, 0, 0, 0},
 };
 
 /* what the machine of a handle shows: registers, memory, both outputs; nothing of an empty one */
@@ -173,9 +182,11 @@ static void answers(void) {
     for (uint32_t n = PMACH_DONE; n <= PMACH_NO_FORMAT; n++)
         if (pmach_sentence(n, OUT) || needed == 0) { printf("WRONG %lu has no sentence\n", (unsigned long)n); wrong++; }
     uint32_t (*const on_empty[])(void) = {step, run, key, mount, eject, line, instruction, command, set_break, watch, go, console,
-        printer, ejected, poke, place};
+        printer, ejected, poke, place, on, variable};
     for (size_t k = 0; k < sizeof on_empty / sizeof *on_empty; k++) EXPECT(PMACH_NO_MACHINE, on_empty[k]());
     EXPECT(PMACH_NO_MACHINE, pmach_word(&h, 1024, &word));
+    EXPECT(PMACH_NO_MACHINE, pmach_on(&h, 9, &steps, &at));
+    EXPECT(PMACH_REFUSED, pmach_procedures(odd_name, 1, OUT));
     EXPECT(PMACH_NO_MACHINE, pmach_answer(&h, OUT));
     EXPECT(PMACH_NO_MACHINE, pmach_registers(&h, &(struct pmach_shown){0}));
     EXPECT(PMACH_TOO_LONG, pmach_assemble(long_text, sizeof long_text, false, OUT));
@@ -195,6 +206,8 @@ static void answers(void) {
     EXPECT(PMACH_ODD_ADDRESS, pmach_poke(&h, 1025, 7));
     EXPECT(PMACH_NO_DISK, pmach_eject(&h, unit));
     EXPECT(503, pmach_watch(&h, 1025, true));
+    EXPECT(505, pmach_variable(&h, 128, 1, &word));
+    EXPECT(506, pmach_on(&h, 9, &steps, &at));
     EXPECT(502, pmach_break(&h, 1, 1, 0, false));
     EXPECT(PMACH_DONE, pmach_watch(&h, 65490, true));
     EXPECT(PMACH_CHANGED, pmach_go(&h, 9, &steps, &at));

@@ -89,6 +89,21 @@ async function looks(given) {
   check("a slice that ends at a breakpoint", [library.line("go 52"), library.line("on 1000")], ["limit 52", "break 52"]);
   library.c.pmach_free(library.handle);
 
+  // a program whose segment has another number than its slot
+  const odd = library.ask("get", kept, bytes("HANOI")).bytes, word = at => odd[at] + 256 * odd[at + 1];
+  odd[512 * word(4) + word(6) - 2] = 9;
+  openImage(library.ask("put", kept, bytes("ODD"), 2, odd).bytes, "odd.img");
+  choose("ODD");
+  press("debug");
+  line("00060 local1 := string[5] '?>? '").click();
+  check("a line of a segment with another number sets a breakpoint", shows("breaks"), "9 3 0");
+  press("go");
+  await ended();
+  check("which stops the run at this line", [shows("state").endsWith(". Steps: 52"), here()], [true, ["00060 local1 := string[5] '?>? '"]]);
+  check("with the variables of the procedure", [document.querySelectorAll("#values tr").length > 1, /^param1 = \d+$/.test(valueIn("param1", "1 3"))], [true, true]);
+  press("close");
+  openImage(kept, "kept.img");
+
   // changes
   choose("READ.ME.TEXT");
   press("rename");

@@ -97,6 +97,9 @@ def show():
     with pmach.Machine.raw(bytes.fromhex("020382D6")) as machine:
         machine.watch(65490)
         print(*machine.go(100), machine.instruction(machine.registers().ipc), machine.call("watch", 65491, True))
+        machine.watch(65490, False)
+        print(*machine.go(1), *machine.on(1), *machine.on(9), machine.on(9)[0], machine.variable(1))
+    print(pmach.job("procedures", pmach.job("get", loads, b"LOADS")).decode(), end="")
     for status in 8, 404, 502, 602:
         print(status, pmach.sentence(status))
     print(pmach.CALLS["version"](), *pmach.told("put", loads, b"NEW", 16, b""))

@@ -45,7 +45,8 @@ enum {
     PMACH_CHANGED = 16,    /* a watched word has changed */
     PMACH_NO_FORMAT = 17   /* a name is not the name of a format of images */
     /* 100 + N: execution error N. 200 + N: `refused boot N`. 300 + N: 301 not a disk unit, 302 the unit has a disk.
-       400 + N: `refused volume N`. 500 + N: 501 too many breakpoints or watched words, 502 not set, 503 odd address. */
+       400 + N: `refused volume N`. 500 + N: 501 too many breakpoints or watched words, 502 not set, 503 odd address,
+       505 too many static links, 506 there is no run to continue. */
 };
 
 /* Writes the text for a result; an empty text if it is not a result. Returns 0; 7. For the message of a job the number is
@@ -78,6 +79,10 @@ uint32_t pmach_disassemble_indented(const uint8_t *file, size_t file_len,
     uint8_t *out, size_t out_len, size_t *needed);
 /* as statements in blocks */
 uint32_t pmach_disassemble_blocks(const uint8_t *file, size_t file_len, uint8_t *out, size_t out_len, size_t *needed);
+/* a line of six numbers for each procedure of a code file that has an attribute table: the slot of its segment and its
+   number, as a disassembly shows them; the number of its segment, as pmach_place and pmach_break use it; the offset of its
+   first instruction in the segment, and the sizes of its parameters and local variables, in bytes */
+uint32_t pmach_procedures(const uint8_t *file, size_t file_len, uint8_t *out, size_t out_len, size_t *needed);
 /* the trace of bare code, given in hexadecimal digits: 0 ended, 3 execution error, 6 step limit or waiting */
 uint32_t pmach_raw(const uint8_t *text, size_t text_len, uint32_t limit, uint8_t *out, size_t out_len, size_t *needed);
 
@@ -215,11 +220,18 @@ uint32_t pmach_watch(struct pmach *h, uint16_t address, bool on);
 /* Like pmach_run, but before each step except the first it stops at a breakpoint (15, even after a line `ignore`), or if a
    watched word has changed (16, and *address is its address). */
 uint32_t pmach_go(struct pmach *h, uint64_t limit, uint64_t *steps, uint16_t *address);
+/* Continues the last run of pmach_go, pmach_on or a line, which its limit stopped, as if the limit had not stopped it. A run
+   in slices is one run: also a breakpoint at the first of the new steps stops it, and *steps counts the whole run. Returns
+   what pmach_go returns; or, without a change: 506 no run can be continued. */
+uint32_t pmach_on(struct pmach *h, uint64_t limit, uint64_t *steps, uint16_t *address);
 
 /* ---- These change nothing. 0; 8, and then nothing is written. */
 uint32_t pmach_registers(struct pmach *h, struct pmach_shown *shown);
 /* the word at an address; 10 at an odd one */
 uint32_t pmach_word(struct pmach *h, uint16_t address, uint16_t *word);
+/* the value of variable `number` of the procedure that is `depth` static links up: 503 an odd address; 505 depth is above
+   127 */
+uint32_t pmach_variable(struct pmach *h, uint16_t depth, uint16_t number, uint16_t *word);
 /* the bytes written to the console, or to the printer, without the first `from` bytes; 7 */
 uint32_t pmach_console(struct pmach *h, size_t from, uint8_t *out, size_t out_len, size_t *needed);
 uint32_t pmach_printer(struct pmach *h, size_t from, uint8_t *out, size_t out_len, size_t *needed);

@@ -185,6 +185,18 @@ class Machine:
         steps, address = ctypes.c_uint64(), ctypes.c_uint16()
         return self.call("go", limit, ctypes.byref(steps), ctypes.byref(address)), steps.value, address.value
 
+    def on(self, limit):
+        """Continues the last run, which its limit stopped, for at most LIMIT more steps; returns what `go` returns for the
+        whole run. The status is 506 if no run can be continued."""
+        steps, address = ctypes.c_uint64(), ctypes.c_uint16()
+        return self.call("on", limit, ctypes.byref(steps), ctypes.byref(address)), steps.value, address.value
+
+    def variable(self, number, depth=0):
+        """Returns the value of a variable of the procedure that is DEPTH static links up."""
+        word = ctypes.c_uint16()
+        self.done("variable", depth, number, ctypes.byref(word))
+        return word.value
+
     def registers(self):
         shown = Shown()
         self.done("registers", ctypes.byref(shown))

@@ -98,6 +98,10 @@ break 1
 502 ok
 37 lines
 16 1 65490 SLDC 3 503
+0 1 0 0 2 0 2 3 0 506 0
+1 1 1 0 0 0
+2 1 2 0 0 4
+3 1 3 0 0 8
 8 the handle has no machine
 404 an entry of the directory is damaged
 502 not set

@@ -9,12 +9,22 @@ const WORDS = new RegExp(["'(?:[^']|'')*'", '"[^"]*"', // texts
   "\\b(?<label>L\\d{5})\\b(?!:)", "\\b(?<standard>[A-Z]{2,}[A-Z\\d]*)\\b"].join("|"), "g");
 const LISTED = /^(\d+) (\d+) (\d+) [\dA-F ]+  (.*)$/;    // a line of the listing
 
+// The procedures of a code file, from the lines of pmach_procedures: by slot and number, as a text of code names them. `own`
+// has the numbers with which the machine names the procedure, and `enter` the offset of its first instruction.
+function proceduresOf(lines) {
+  const all = lines.split("\n").slice(0, -1).map(line => {
+    const [slot, number, segment, enter, parameters, locals] = line.split(" ").map(Number);
+    return [slot + " " + number, {own: segment + " " + number, enter, parameters, locals}];
+  });
+  return new Map(all.reverse()); // (of two with the same numbers the first one counts)
+}
+
 // The lines of a text, each with its position in the code if it names one: segment, procedure and offset. Headings are
-// `PROCEDURE 2 OF SEGMENT 1: ..`, lines `00018 ..` or, in the listing, `01 002 00018 ..`. A breakpoint counts its offset
-// from the procedure's first line (docs/ASSEMBLY.md, "Listing, trace and breakpoints"); the lines count from the segment.
-// `head` is the procedure of whose text a line is the first.
-function marked(whole, isCode) {
-  let procedure = "", first = null, segment = null;
+// `PROCEDURE 2 OF SEGMENT 1: ..`, lines `00018 ..` or, in the listing, `01 002 00018 ..`. The lines count their offsets from
+// the segment, and a position from the first instruction of the procedure. `procedures` are those of proceduresOf. `head` is
+// the procedure of whose text a line is the first.
+function marked(whole, isCode, procedures) {
+  let procedure = "", segment = null;
   return whole.replace(/\r?\n$/, "").split(/\r?\n/).map(line => {
     if (!isCode) return {line};
     const head = /^PROCEDURE (\d+) OF SEGMENT (\d+)/.exec(line), at = /^(?:(\d+) (\d+) )?(\d+) /.exec(line);
@@ -22,11 +32,11 @@ function marked(whole, isCode) {
     const number = /^\.PROC (\d+)/.exec(line)?.[1];
     const names = head ? [head[2], head[1]] : at?.[1] ? [at[1], at[2]] : number ? [segment, number] : null;
     const named = names === null ? procedure : names.map(Number).join(" "), isFirst = named !== procedure;
-    if (isFirst) [procedure, first] = [named, null];
+    procedure = named;
     const made = {line, procedure, head: isFirst ? procedure : undefined, label: /^(L\d{5}):/.exec(line)?.[1]};
-    if (!at || procedure === "" || (at[1] && /^[\dA-F ]+  \./.test(line))) return made; // a directive
-    first ??= Number(at[3]);
-    return {...made, number: at[0].trimEnd(), place: procedure + " " + (Number(at[3]) - first)};
+    const known = procedures.get(procedure), offset = at && known ? Number(at[3]) - known.enter : -1;
+    if (offset < 0 || (at[1] && /^[\dA-F ]+  \./.test(line))) return made; // no code, or a directive
+    return {...made, number: at[0].trimEnd(), place: known.own + " " + offset};
   });
 }
 
@@ -84,11 +94,4 @@ function levels(made) {
     }
   }
   return level;
-}
-
-// The bytes of the parameters and variables of each procedure, from the headings of the statements.
-function headings(statements) {
-  const pattern = /^PROCEDURE (\d+) OF SEGMENT (\d+): level \S+, (\d+) bytes of parameters, (\d+) of locals/gm;
-  return new Map([...statements.matchAll(pattern)].map(([, procedure, segment, parameters, locals]) =>
-    [segment + " " + procedure, {parameters: Number(parameters), locals: Number(locals)}]));
 }

@@ -96,6 +96,12 @@ class Library {
     return shown;
   }
 
+  // Returns the value of a variable of the procedure that is `depth` static links up, or null if it has none.
+  variable(depth, number) {
+    if (this.call("variable", this.handle, depth, number, this.needed) !== DONE) return null;
+    return this.view(this.needed, WORD).getUint16(0, true);
+  }
+
   // Returns the position of the machine in the code, or null if it is unknown.
   place() {
     if (this.call("place", this.handle, this.needed) !== DONE) return null;

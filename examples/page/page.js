@@ -70,7 +70,8 @@ let running = null;        // the command with which the run goes on, or null if
 let resumes = false;       // whether a key continues a run that waits
 let seen = 0;              // the number of console bytes that are shown
 let screen = null;         // the screen of the console
-let sizes = new Map();     // the parameters and variables of the program's procedures
+let sizes = new Map();     // the program's procedures, by the numbers with which the machine names them
+let procedures = new Map(); // those of the file in the middle, by the numbers that its text shows
 let profile = null;        // the steps by their procedures, while they are counted: a tree {name, own, in}
 const recalled = [];       // commands that were sent
 let recall = 0;
@@ -522,13 +523,14 @@ function show(file) {
   $("lines").scrollTop = 0;
   $("lines").className = words === "Text" ? "numbered" : "";
   $("graph").hidden = true;
-  [rest, placed, targets] = [[], [], new Map()];
+  [rest, placed, targets, procedures] = [[], [], new Map(), new Map()];
   const whole = words === "Text" ? library.ask("get_text_slot", disk.data, file.slot) : library.ask("get_slot", disk.data, file.slot);
   const answer = whole.status === DONE && call ? library.ask(call, whole.bytes) : whole;
+  if (isCode && whole.status === DONE) procedures = proceduresOf(text(library.ask("procedures", whole.bytes).bytes));
   if (answer.status !== DONE) $("lines").append(el("div", {textContent: reason(answer)}));
   else if (words === "Bytes") rest = dump(answer.bytes);
   else if (words === "Calls") rest = graph(answer.bytes);
-  else rest = marked(text(answer.bytes.subarray(0, MOST_TEXT)), isCode);
+  else rest = marked(text(answer.bytes.subarray(0, MOST_TEXT)), isCode, procedures);
   if (answer.bytes.length > MOST_TEXT) rest.push({line: "The rest of " + answer.bytes.length + " characters is not shown."});
   if (isCode && call && answer.status === DONE) names = standards(text(library.ask("disassemble_names", whole.bytes).bytes));
   $("lines").hidden = words === "Calls" && rest.length === 0;
@@ -692,8 +694,8 @@ function start(file, runs) {
   seen = 0;
   screen = new Screen(line => { above += line + "\n"; });
   above = "";
-  const code = library.ask("get", made.bytes, bytes(file.name)), statements = library.ask("disassemble_statements", code.bytes);
-  sizes = headings(statements.status === DONE ? text(statements.bytes) : "");
+  const code = library.ask("get", made.bytes, bytes(file.name));
+  sizes = new Map([...proceduresOf(text(library.ask("procedures", code.bytes).bytes)).values()].map(one => [one.own, one]));
   for (const id of ["scrolled", "screen", "traced", "answers", "flame"]) $(id).replaceChildren();
   $("program-title").textContent = "Program " + file.name;
   if (shown !== file) show(file);
@@ -838,14 +840,12 @@ function pair(name, value) {
   return el("tr", {}, el("th", {textContent: name, scope: "row"}), el("td", {textContent: value}));
 }
 
-// The value of a variable, as the debugger answers it: `local`, or for a global variable the `local` of the static link whose
-// frame is that at BASE.
+// The value of a variable. A global variable belongs to the procedure whose frame is at BASE, some static links up.
 function valueOf(variable) {
   const [, name, up, number] = /^(param|local|global|up(\d+)_)(\d+)$/.exec(variable);
   const chain = name === "global" ? library.line("static " + MOST_LINKS).split(" ") : [];
   const depth = name === "global" ? chain.indexOf(String(library.registers().base)) : Number(up ?? 0);
-  const answer = depth < 0 ? "" : library.line("local " + depth + " " + number);
-  return /^\d+$/.test(answer) ? answer : "";
+  return String((depth < 0 ? null : library.variable(depth, Number(number))) ?? "");
 }
 
 // The value of a variable at a line of a procedure.
@@ -853,7 +853,7 @@ function valueIn(variable, procedure) {
   if (program === null || program.slot !== shown.slot || program.unit !== shown.unit) return variable + ": its value is shown after Debug";
   if (running !== null) return variable + ": its value is shown when the program stops";
   const place = library.place(), isGlobal = variable.startsWith("global");
-  if (!isGlobal && (place === null || place.segment + " " + place.procedure !== procedure)) return variable + ": the program is not in this procedure";
+  if (!isGlobal && (place === null || place.segment + " " + place.procedure !== procedures.get(procedure)?.own)) return variable + ": the program is not in this procedure";
   return variable + " = " + (valueOf(variable) || "no value");
 }
 

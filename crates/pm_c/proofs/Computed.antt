@@ -89,4 +89,6 @@ worked_refusals = record {
   too_many = refl;
   not_set = refl;
   odd_word = refl;
+  too_deep = refl;
+  nothing_left = refl;
 }

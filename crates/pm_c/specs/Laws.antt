@@ -1,5 +1,5 @@
 -- Laws about the statuses, the buffers and the sessions.
-use Rattle.std.specs.Prelude.{◌≡◌, ◌≢◌, ◌↔◌, ℕ, ◌+◌, List, [], ◌∷◌, ◌++◌, length, None, IsOk}
+use Rattle.std.specs.Prelude.{◌≡◌, ◌≢◌, ◌↔◌, ◌≤◌, ℕ, ◌+◌, List, [], ◌∷◌, ◌++◌, length, None, Some, IsOk}
 use Rattle.std.specs.Prelude.{is_some, false, true, codes, if◌then◌else◌}
 use Rattle.pm_volume.specs.Directory.{image_fault}
 use Rattle.pm_units.specs.Devices.{Devices, mounted}
@@ -8,11 +8,12 @@ use Rattle.pm_machine.specs.declared.state.Stop.{Stop}
 use Rattle.pm_machine.specs.State.{State}
 use Rattle.pm_machine.specs.declared.state.BootFault.{BootFault}
 use Rattle.pm_machine.specs.CodePlaces.{code_place}
-use Rattle.pm_debug.specs.Runs.{gone}
+use Rattle.pm_debug.specs.Runs.{Gone, gone, gone_on}
 use Rattle.pm_debug.specs.declared.run.Depth.TheVariants.{Any}
 use Rattle.pm_debug.specs.Session.{Session}
 use Rattle.pm_debug.specs.declared.reason.BreakReason.{BreakReason}
-use Rattle.pm_debug.specs.declared.refusal.DebugRefusal.TheVariants.{Full, NotSet, OddAddress}
+use Rattle.pm_debug.specs.declared.reason.BreakReason.TheVariants as reasons
+use Rattle.pm_debug.specs.declared.refusal.DebugRefusal.TheVariants.{Full, NothingLeft, NotSet, OddAddress, TooDeep}
 use Rattle.pm_debug.specs.Refusals.{number_of as refusal_number}
 use Rattle.pm_units.specs.Devices.{mount_number}
 use Rattle.pm_units.specs.declared.ports.MountFault.{MountFault}
@@ -29,7 +30,7 @@ use Rattle.pm_session.specs.Answers.{after_command, after_run, session_after, wi
 use Rattle.pm_session.specs.Orders.{order_of}
 use Rattle.pm_session.specs.Sessions.{answers, is_quit, opened}
 use Rattle.pm_c.specs.Sentences.{sentence}
-use Rattle.pm_c.specs.Sessions.{breaks_after, go_code, line_answer, watches_after}
+use Rattle.pm_c.specs.Sessions.{after_more, breaks_after, go_code, line_answer, watches_after}
 use Rattle.pm_c.specs.Changes.{fill_code, filled}
 use Rattle.pm_c.specs.Codes.{boot_code, image_code, on_unit_4, program_code, stop_code}
 use Rattle.pm_c.specs.declared.status.TheConstants.{DONE, NO_FORMAT, NO_MACHINE, NO_MEMORY, TOO_SHORT}
@@ -72,6 +73,8 @@ pub record AnswersAreTold : Type 0 where
   pub full : IsTold (500 + refusal_number Full)
   pub not_set : IsTold (500 + refusal_number NotSet)
   pub odd_address : IsTold (500 + refusal_number OddAddress)
+  pub too_deep : IsTold (500 + refusal_number TooDeep)
+  pub nothing_left : IsTold (500 + refusal_number NothingLeft)
   pub conversions : (fault : ConvertFault) → IsTold (900 + convert_number fault)
   pub systems : (fault : SystemFault) → fault ≢ system.NoMemory → IsTold (1000 + system_number fault)
   pub no_format : IsTold NO_FORMAT
@@ -100,3 +103,21 @@ pub record CallsAreLines : Type 0 where
       with_watches d (watches_after false a d.watches) ≡ after_command (commands.Unwatch a) d
   pub goes : (n : ℕ) (d : Session) → d.passes ≡ 0 →
       after_run d Any (gone d.breaks d.watches n d.machine) ≡ after_command (commands.Go n) d
+
+-- The run of `pmach_go` in the session `d`, and the session after it.
+abbrev pub run_of : Session → ℕ → Gone
+run_of d limit = gone d.breaks d.watches limit d.machine
+
+abbrev pub after_go : Session → ℕ → Session
+after_go d limit = after_run d Any (run_of d limit)
+
+-- A run that its limit stopped, continued by `pmach_on`, is one run with the sum of both limits. The outcome and the
+-- session are those of `pmach_go` with this sum.
+pub record IsOneRun (d : Session) (limit more : ℕ) : Type 0 where
+  pub outcome : gone_on d.breaks (after_go d limit).left more (run_of d limit).machine ≡ Some (run_of d (limit + more))
+  pub session : after_more (after_go d limit) more (run_of d (limit + more)) ≡ after_go d (limit + more)
+
+abbrev pub SlicesAreOneRun : Type 0
+SlicesAreOneRun =
+    (d : Session) (limit more : ℕ) → limit + more ≤ 18446744073709551615 → (run_of d limit).reason ≡ reasons.Limit
+    → IsOneRun d limit more

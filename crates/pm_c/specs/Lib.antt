@@ -4,6 +4,7 @@ pub mod Codes
 pub mod Images
 pub mod Laws
 pub mod Owned
+pub mod Procedures
 pub mod Sentences
 pub mod Sessions
 pub mod Worked

@@ -61,6 +61,8 @@ file_sentences =
     (501, codes "too many breakpoints or watched words") ∷
     (502, codes "not set") ∷
     (503, codes "odd address") ∷
+    (505, codes "too many static links") ∷
+    (506, codes "there is no run to continue") ∷
     (601, codes "the line is ill-formed or in the wrong place") ∷
     (602, codes "the line has an unknown mnemonic, directive or type keyword") ∷ (
       603,

@@ -6,12 +6,13 @@ use Rattle.pm_machine.specs.Runs.{GaveUp}
 use Rattle.pm_machine.specs.declared.code_place.CodePlace.{CodePlace}
 use Rattle.pm_debug.specs.Breaks.{breakpoint, with_break, without_break}
 use Rattle.pm_debug.specs.Refusals.{number_of}
-use Rattle.pm_debug.specs.Runs.{Gone, gone, nowhere, stops_after}
+use Rattle.pm_debug.specs.Runs.{GaveUpOn, Gone, gone, gone_on, left_on, nowhere, stops_after}
 use Rattle.pm_debug.specs.Session.{Debugged, Session, session_of}
 use Rattle.pm_debug.specs.Watches.{with_watch, without_watch}
 use Rattle.pm_debug.specs.declared.breaks.Breakpoint.{Breakpoint}
 use Rattle.pm_debug.specs.declared.breaks.Spot.TheVariants.{Code}
 use Rattle.pm_debug.specs.declared.refusal.DebugRefusal.{DebugRefusal}
+use Rattle.pm_debug.specs.declared.refusal.DebugRefusal.TheVariants.{NothingLeft}
 use Rattle.pm_debug.specs.declared.reason.BreakReason.{BreakReason}
 use Rattle.pm_debug.specs.declared.reason.BreakReason.TheVariants as reasons
 use Rattle.pm_debug.specs.declared.run.Depth.TheVariants.{Any}
@@ -110,3 +111,47 @@ pub record Goes (limit steps status was address : ℕ) (d e : Debugged) : Type 0
   pub went : status ≢ NO_MEMORY → GoesSo (gone d.breaks d.watches limit d.machine.state) steps status was address d e
   pub short : status ≡ NO_MEMORY → GoesShort limit d e
   pub none : status ≡ NO_MEMORY → (steps ≡ 0) × (address ≡ was)
+
+-- ---- continued runs, and variables
+
+-- The session after the continuation of the last run for at most `limit` more steps, if its outcome is `run`.
+abbrev pub after_more : Session → ℕ → Gone → Session
+after_more d limit run =
+    record d { machine = run.machine; left = left_on d.breaks d.left limit d.machine }
+
+-- The values that the call reports, and the new session, are those of the continuation `run` of the last run.
+pub record MoreSo (run : Gone) (limit steps status was address : ℕ) (d e : Debugged) : Type 0 where
+  pub counts : steps ≡ run.steps
+  pub says : status ≡ go_code run.reason
+  pub word : address ≡ changed_at run.reason was
+  pub session : session_of e ≡ after_more (session_of d) limit run
+
+-- The call was refused because no run can be continued: nothing has changed.
+pub record NoMore (before steps status was address : ℕ) (d e : Debugged) : Type 0 where
+  pub says : status ≡ 500 + number_of NothingLeft
+  pub counts : steps ≡ before
+  pub word : address ≡ was
+  pub same : e ≡ d
+
+-- The call continues the last run, or is refused if no run can be continued.
+abbrev pub MoreOrNot : Option Gone → ℕ → ℕ → ℕ → ℕ → ℕ → ℕ → Debugged → Debugged → Type 0
+MoreOrNot None limit before steps status was address d e = NoMore before steps status was address d e
+MoreOrNot (Some run) limit before steps status was address d e = MoreSo run limit steps status was address d e
+
+-- The continuation stopped because memory ran out, after the steps that succeeded. Only the machine and `left`, the
+-- rest of the last run, have changed. `left` is not specified.
+pub record MoreShort (limit : ℕ) (d e : Debugged) : Type 0 where
+  pub gave_up : GaveUpOn d.breaks d.left limit d.machine e.machine
+  pub same : e ≡ record d { machine = e.machine; left = e.left }
+
+-- The call continues the last run for at most `limit` more steps. If memory runs out, only a part of them is executed.
+pub record GoesOn (limit before steps status was address : ℕ) (d e : Debugged) : Type 0 where
+  pub went : status ≢ NO_MEMORY
+      → MoreOrNot (gone_on d.breaks d.left limit d.machine.state) limit before steps status was address d e
+  pub short : status ≡ NO_MEMORY → MoreShort limit d e
+  pub none : status ≡ NO_MEMORY → (steps ≡ 0) × (address ≡ was)
+
+-- The call returns the value of a variable, or 500 plus the number of the refusal.
+abbrev pub Finds : Result ℕ DebugRefusal → ℕ → ℕ → ℕ → Type 0
+Finds (Ok word) status old new = (status ≡ DONE) × (new ≡ word)
+Finds (Err refusal) status old new = (status ≡ 500 + number_of refusal) × (new ≡ old)

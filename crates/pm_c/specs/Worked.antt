@@ -113,3 +113,5 @@ pub record WorkedRefusals : Type 0 where
   pub too_many : breaks_code (Err debugs.Full) ≡ 501
   pub not_set : breaks_code (Err debugs.NotSet) ≡ 502
   pub odd_word : breaks_code (Err debugs.OddAddress) ≡ 503
+  pub too_deep : breaks_code (Err debugs.TooDeep) ≡ 505
+  pub nothing_left : breaks_code (Err debugs.NothingLeft) ≡ 506

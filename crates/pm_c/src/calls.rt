@@ -3,7 +3,9 @@
 mod images;
 mod jobs;
 mod machines;
+mod procedures;
 mod refusals;
+mod sessions;
 mod volumes;
 
 use crate::lines::Place;

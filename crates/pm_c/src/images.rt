@@ -20,7 +20,12 @@ use pm_volume::{Volume, VolumeFault};
 use std::alloc::{AllocError, Global};
 
 /// Copies the message of `refusal` to `out`. Returns the status.
-fn give_refusal(alloc: Global, refusal: Refusal, out: &mut [u8], needed: &mut usize) -> u32
+pub(crate) fn give_refusal(
+    alloc: Global,
+    refusal: Refusal,
+    out: &mut [u8],
+    needed: &mut usize,
+) -> u32
     ensures answers { Answers (refused refusal []) result out.old out.new needed.new }
     ensures text { result ≢ NO_TEXT }
 {

@@ -1,6 +1,6 @@
 //! Laws about the statuses, the buffers and the sessions. The functions do nothing.
 ghost use Rattle.pm_c.specs.Laws.{AnswersAreApart, AnswersAreTold, CallsAreLines, LinesAreASession};
-ghost use Rattle.pm_c.specs.Laws.{MountIsTold, StartIsTold, WantedLengthIsEnough};
+ghost use Rattle.pm_c.specs.Laws.{MountIsTold, SlicesAreOneRun, StartIsTold, WantedLengthIsEnough};
 
 /// A buffer that is too short is unchanged. If the call is repeated with a buffer of the needed length, the buffer gets
 /// exactly the bytes.
@@ -31,4 +31,10 @@ pub fn answers_are_told()
 pub fn lines_are_a_session()
     ensures law { LinesAreASession }
     ensures calls { CallsAreLines }
+{}
+
+/// A run in slices is one run. If its limit stops a run of `pmach_go`, then `pmach_on` continues it. The outcome and
+/// the session are those of one call of `pmach_go` with the sum of both limits.
+pub fn slices_are_one_run()
+    ensures law { SlicesAreOneRun }
 {}

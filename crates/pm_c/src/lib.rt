@@ -18,6 +18,7 @@ pub mod jobs;
 pub mod laws;
 pub mod lines;
 mod loose;
+pub mod procedures;
 pub mod sentences;
 pub mod session;
 pub mod shows;

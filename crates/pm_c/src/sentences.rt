@@ -53,6 +53,8 @@ fn file_sentence(status: u32) -> Option<&'static str>
         501 => Some("too many breakpoints or watched words"),
         502 => Some("not set"),
         503 => Some("odd address"),
+        505 => Some("too many static links"),
+        506 => Some("there is no run to continue"),
         601 => Some("the line is ill-formed or in the wrong place"),
         602 => Some("the line has an unknown mnemonic, directive or type keyword"),
         603 => Some(

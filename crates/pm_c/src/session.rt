@@ -1,10 +1,12 @@
 //! A session of the debugger on the machine of a handle. A call executes the command of one line and stores its answer.
 //! Other calls set breakpoints and watched words, or execute a run.
-ghost use Rattle.std.specs.Prelude.{◌≡◌, None, OnOk, string_bytes};
+ghost use Rattle.std.specs.Prelude.{◌≡◌, ◌≢◌, None, OnOk, string_bytes};
 ghost use Rattle.pm_machine.specs.CodePlaces.{code_place};
+ghost use Rattle.pm_debug.specs.Refusals.{or_refused};
+ghost use Rattle.pm_debug.specs.Views.{local};
 ghost use Rattle.pm_c.specs.Changes.{ChangesDebugger, Fills, Leads, Looks};
-ghost use Rattle.pm_c.specs.Sessions.{Commands, Goes, LeadsOrEnds, SetsBreaks, SetsWatches};
-ghost use Rattle.pm_c.specs.Sessions.{breaks_after, set_code, watches_after};
+ghost use Rattle.pm_c.specs.Sessions.{Commands, Finds, Goes, GoesOn, LeadsOrEnds, SetsBreaks, SetsWatches};
+ghost use Rattle.pm_c.specs.Sessions.{breaks_after, changed_at, go_code, set_code, watches_after};
 
 use crate::buffer::give;
 use crate::handle::{Handle, taken};
@@ -145,14 +147,12 @@ pub extern "C" fn pmach_watch(alloc: Global, handle: &mut Handle, address: u16, 
     set_code(outcome)
 }
 
-fn go_code(debugger: &mut Debugger, limit: u64, steps: &mut u64, address: &mut u16) -> u32
-    ensures goes { Goes limit steps.new result address.old address.new debugger.old debugger.new }
+// Returns the status of a run that ended for `reason`. If a watched word has changed, sets `address` to its address.
+fn reason_code(reason: BreakReason, address: &mut u16) -> u32
+    ensures says { result ≡ go_code reason }
+    ensures word { address.new ≡ changed_at reason address.old }
+    ensures other { result ≢ NO_MEMORY }
 {
-    let Ok((count, reason)) = debugger.go(limit) else {
-        *steps = 0;
-        return NO_MEMORY;
-    };
-    *steps = count;
     match reason {
         BreakReason::Limit | BreakReason::There => DONE,
         BreakReason::Waiting => WAITING,
@@ -164,6 +164,17 @@ fn go_code(debugger: &mut Debugger, limit: u64, steps: &mut u64, address: &mut u
         }
         BreakReason::Halted(error) => 100 + u32::from(error.number()),
     }
+}
+
+fn go_code(debugger: &mut Debugger, limit: u64, steps: &mut u64, address: &mut u16) -> u32
+    ensures goes { Goes limit steps.new result address.old address.new debugger.old debugger.new }
+{
+    let Ok((count, reason)) = debugger.go(limit) else {
+        *steps = 0;
+        return NO_MEMORY;
+    };
+    *steps = count;
+    reason_code(reason, address)
 }
 
 /// Executes at most `limit` steps, as the command `go` of a session does without `ignore`. Sets `steps` to the number
@@ -193,6 +204,92 @@ pub extern "C" fn pmach_go(
     };
     let mut held = held;
     let code = go_code(&mut held.debugger, limit, steps, address);
+    *handle = Handle::of(held);
+    code
+}
+
+fn on_code(debugger: &mut Debugger, limit: u64, steps: &mut u64, address: &mut u16) -> u32
+    ensures goes { GoesOn limit steps.old steps.new result address.old address.new debugger.old debugger.new }
+{
+    match debugger.go_on(limit) {
+        Ok((count, reason)) => {
+            *steps = count;
+            reason_code(reason, address)
+        }
+        Err(DebugRefusal::NoMemory) => {
+            *steps = 0;
+            NO_MEMORY
+        }
+        Err(refusal) => set_code(Err(refusal)),
+    }
+}
+
+/// Continues the last run of the session, which its limit stopped, for at most `limit` more steps. The run may be that
+/// of a call of `pmach_go` or `pmach_on`, or of a line of the session. The result is as if the limit had not stopped
+/// the run: breakpoints are checked before the first of the new steps too, and watched words are compared with their
+/// values when the whole run began. Sets `steps` to the number of counted steps of the whole run. Returns the statuses
+/// of `pmach_go`, or:
+///
+/// - 506: the limit did not stop the last run, or a word was watched or no longer watched since. Nothing has changed.
+#[unsafe(no_mangle)]
+pub extern "C" fn pmach_on(
+    alloc: Global,
+    handle: &mut Handle,
+    limit: u64,
+    steps: &mut u64,
+    address: &mut u16,
+) -> u32
+    ensures goes { Leads result handle.old.held handle.new.held (ChangesDebugger
+        (GoesOn limit steps.old steps.new result address.old address.new)) }
+    ensures same { handle.old.held ≡ None → (steps.new ≡ steps.old) × (address.new ≡ address.old) }
+{
+    let Some(held) = taken(alloc, handle) else {
+        return NO_MACHINE;
+    };
+    let mut held = held;
+    let code = on_code(&mut held.debugger, limit, steps, address);
+    *handle = Handle::of(held);
+    code
+}
+
+fn find(debugger: &mut Debugger, depth: u16, number: u16, word: &mut u16) -> u32
+    ensures finds { Finds (or_refused (local debugger.old.machine.state depth number)) result word.old word.new }
+    ensures same { debugger.new ≡ debugger.old }
+{
+    match debugger.local(depth, number) {
+        Ok(found) => {
+            *word = found;
+            DONE
+        }
+        Err(reason) => set_code(Err(reason)),
+    }
+}
+
+/// Sets `word` to the value of the variable `number` of the procedure that is `depth` static links up, as the command
+/// `local` shows it. The running procedure has depth 0. Returns 0 if the call succeeded.
+///
+/// Otherwise `word` is unchanged:
+///
+/// - 8: the handle is empty.
+/// - 505: `depth` is above 127.
+/// - 503: a static link or the variable is at an odd address.
+#[unsafe(no_mangle)]
+pub extern "C" fn pmach_variable(
+    alloc: Global,
+    handle: &mut Handle,
+    depth: u16,
+    number: u16,
+    word: &mut u16,
+) -> u32
+    ensures looks { Leads result handle.old.held handle.new.held (Looks (λ m.
+        Finds (or_refused (local m.debugger.machine.state depth number)) result word.old word.new)) }
+    ensures same { handle.old.held ≡ None → word.new ≡ word.old }
+{
+    let Some(held) = taken(alloc, handle) else {
+        return NO_MACHINE;
+    };
+    let mut held = held;
+    let code = find(&mut held.debugger, depth, number, word);
     *handle = Handle::of(held);
     code
 }

@@ -27,7 +27,7 @@ pub(super) fn raw(rt: &impl Abort, alloc: Global, code: &[u8]) -> Handle {
 }
 
 /// Creates the machine of the program that the test volume has.
-fn booted(rt: &impl Abort, alloc: Global) -> Handle {
+pub(super) fn booted(rt: &impl Abort, alloc: Global) -> Handle {
     let mut handle = Handle::empty();
     assert_eq!(rt;
         pmach_boot(alloc, &mut handle, &with_program(rt, alloc), b"OK", 0),

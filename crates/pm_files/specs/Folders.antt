@@ -1,5 +1,6 @@
 -- The contents of the files of a folder, by their names. `None` means that the contents are not known.
-use Rattle.std.specs.Prelude.{◌≡◌, ◌≢◌, ◌⊎◌, ◌<◌, ℕ, List, ⊤, Option, None, Some, length}
+use Rattle.std.specs.Prelude.{◌≡◌, ◌≢◌, ◌⊎◌, ◌<◌, ℕ, List, [], ◌∷◌, ◌++◌, ⊤, Option, None, Some, length}
+use Rattle.std.specs.List.{All}
 use Rattle.pm_files.specs.Held.{Files}
 use Rattle.pm_files.specs.declared.fault.DiskFault.{DiskFault}
 use Rattle.pm_files.specs.declared.fault.DiskFault.TheVariants.{NoMemory}
@@ -28,3 +29,18 @@ abbrev pub MayFail : Files → List ℕ → DiskFault → Type 0
 MayFail None name fault = ⊤
 MayFail (Some files) name fault = (files name ≡ None) ⊎ ((fault ≡ NoMemory)
     ⊎ ((bytes : List ℕ) × (files name ≡ Some bytes) × (IMAGE_LIMIT < length bytes)))
+
+-- The bytes are the name of a file.
+abbrev pub IsName : (List ℕ → Option (List ℕ)) → List ℕ → Type 0
+IsName files name = (bytes : List ℕ) × (files name ≡ Some bytes)
+
+-- The name does not begin with a full stop.
+abbrev pub IsShownName : List ℕ → Type 0
+IsShownName [] = ⊤
+IsShownName (c ∷ rest) = c ≢ 46
+
+-- The list has the name of each file of the folder that does not begin with a full stop, and no other bytes.
+abbrev pub HasNames : Files → List (List ℕ) → Type 0
+HasNames None names = ⊤
+HasNames (Some files) names = All (IsName files) names × ((name : List ℕ) → IsName files name → IsShownName name
+    → (before after : List (List ℕ)) × (names ≡ before ++ name ∷ after))

@@ -1,7 +1,7 @@
 //! A folder that is created or opened once, and the files in it.
-ghost use Rattle.std.specs.Prelude.{◌≡◌, ℕ, List, Option, None, IfErr, IfOk, OnErr, OnOk};
-ghost use Rattle.pm_files.specs.Folders.{AddsFile, IsAt, IsEmptyFolder, MayFail};
-ghost use Rattle.pm_files.specs.Held.{HoldsFile};
+ghost use Rattle.std.specs.Prelude.{◌≡◌, ℕ, List, Option, None, IfErr, IfOk, OnErr, OnOk, map, string_bytes};
+ghost use Rattle.pm_files.specs.Folders.{AddsFile, HasNames, IsAt, IsEmptyFolder, MayFail};
+ghost use Rattle.pm_files.specs.Held.{HoldsFile, HoldsNone};
 
 use crate::fault::DiskFault;
 use crate::host::{Host, Kind, Node};
@@ -42,10 +42,19 @@ pub trait Folder {
         ensures unchanged { OnErr result (files self.new ≡ files self.old) };
 
     /// Returns the contents of the regular file `name` of the folder, which has at most `IMAGE_LIMIT` bytes. The call
-    /// follows no link.
+    /// follows no link. `Read(NotFound)` is returned only if the folder has no file `name`.
     fn read(&mut self, alloc: Global, name: &str) -> Result<Vec<u8>, DiskFault>
         ensures value { IfOk result (λ bytes. HoldsFile (files self.old) name.now bytes.items) }
         ensures fault { IfErr result (λ fault. MayFail (files self.old) name.now fault) }
+        ensures missing { IfErr result (λ fault.
+            fault ≡ DiskFault.Read ErrorKind.NotFound → HoldsNone (files self.old) name.now) }
+        ensures at { at self.new ≡ at self.old }
+        ensures unchanged { files self.new ≡ files self.old };
+
+    /// Returns the names of the regular files of the folder, each once, in the order of their bytes. Names that begin
+    /// with a full stop are left out.
+    fn names(&mut self, alloc: Global) -> Result<Vec<String>, DiskFault>
+        ensures names { IfOk result (λ names. HasNames (files self.old) (map string_bytes names.items)) }
         ensures at { at self.new ≡ at self.old }
         ensures unchanged { files self.new ≡ files self.old };
 }
@@ -148,6 +157,42 @@ fn regular<R: Host>(rt: &R, path: &str) -> Result<R::File, DiskFault> {
     }
 }
 
+/// Returns whether the file `name` of the folder at `path` is a regular file whose name does not begin with a full stop.
+fn is_listed<R: Host>(rt: &R, alloc: Global, path: &str, name: &str) -> Result<bool, DiskFault> {
+    if name.starts_with('.') {
+        return Ok(false);
+    }
+    let path = joined(alloc, path, name)?;
+    match rt.node_at(path.as_str(), false) {
+        Ok(Some(node)) => Ok(node.is_file()),
+        Ok(None) => Ok(false),
+        Err(error) => Err(DiskFault::of_read(error)),
+    }
+}
+
+/// Returns the names of the regular files of the folder at `path` that do not begin with a full stop, in the order of
+/// their bytes.
+fn names_in<R: Host>(rt: &R, alloc: Global, path: &str) -> Result<Vec<String>, DiskFault> {
+    let mut names = Vec::new(alloc);
+    for name in rt.names(alloc, path).map_err(DiskFault::of_read)? {
+        if is_listed(rt, alloc, path, name.as_str())? {
+            push_name(&mut names, name)?;
+        }
+    }
+    match names.sort() {
+        Ok(()) => Ok(names),
+        Err(_) => Err(DiskFault::NoMemory),
+    }
+}
+
+/// Appends `name` to `names`.
+fn push_name(names: &mut Vec<String>, name: String) -> Result<(), DiskFault> {
+    match names.push(name) {
+        Ok(()) => Ok(()),
+        Err(_) => Err(DiskFault::NoMemory),
+    }
+}
+
 impl<'a, R: Host + AllocGlobal> HostFolder<'a, R> {
     /// Returns a folder of the system that is not yet created or opened.
     pub fn new(rt: &'a R) -> HostFolder<'a, R> {
@@ -186,5 +231,12 @@ impl<R: Host + AllocGlobal> Folder for HostFolder<'_, R> {
         let path = joined(self.rt.alloc(), opened.path.as_str(), name)?;
         let mut file = regular(self.rt, path.as_str())?;
         read_file(alloc, &mut file)
+    }
+
+    fn names(&mut self, alloc: Global) -> Result<Vec<String>, DiskFault> {
+        let Some(opened) = &self.opened else {
+            return Err(DiskFault::Read(ErrorKind::NotFound));
+        };
+        names_in(self.rt, alloc, opened.path.as_str())
     }
 }

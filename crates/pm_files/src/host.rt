@@ -2,6 +2,7 @@
 ghost use Rattle.std.specs.Prelude.{◌≡◌};
 ghost use Rattle.pm_files.specs.Nodes.{is_file, is_one_file, is_replaced};
 
+use std::alloc::Global;
 use std::fs::{File, Metadata, OpenOptions, TryLockError};
 use std::io;
 use std::io::{ErrorKind, IsTerminal};
@@ -84,6 +85,10 @@ pub trait Host: Files {
     /// at the end of `path` is followed. Otherwise the data are those of the link.
     fn node_at(&self, path: &str, follows: bool) -> io::Result<Option<Node>>;
 
+    /// Returns the names of the files and folders in the folder at `path`, except `.` and `..`. Their order is not
+    /// specified. A name that is not UTF-8 is an error.
+    fn names(&self, alloc: Global, path: &str) -> io::Result<Vec<String>>;
+
     /// Creates a file at `path` and opens it for reading and writing. The call fails if anything exists at `path`, even
     /// a symbolic link. The file never has more permissions than `mode`.
     fn make(&self, path: &str, mode: u32) -> io::Result<Self::File>;
@@ -145,6 +150,15 @@ impl Host for HostRuntime {
             Err(error) if error.kind() == ErrorKind::NotFound => Ok(None),
             Err(error) => Err(error),
         }
+    }
+
+    fn names(&self, alloc: Global, path: &str) -> io::Result<Vec<String>> {
+        let mut names = Vec::new(alloc);
+        for entry in std::fs::read_dir(self, path)? {
+            let entry = entry?;
+            names.push(String::from_str(alloc, entry.file_name())?)?;
+        }
+        Ok(names)
     }
 
     fn make(&self, path: &str, mode: u32) -> io::Result<File> {

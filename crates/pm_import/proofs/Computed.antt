@@ -5,12 +5,15 @@ use Rattle.std.specs.List.{AllByRecursion}
 use Rattle.std.specs.Str.{chars, is_utf8}
 use Rattle.std.proofs.Math.Utf8.{encode}
 use Rattle.std.proofs.lemmas.Bool.Decides.{nat_tests}
+use Rattle.percent_encoding.specs.AsciiSet.{should_percent_encode}
+use Rattle.percent_encoding.specs.Percent.{percent_encode, percent_encode_byte}
 use Rattle.pm_folder.specs.Contents.{with_ends}
 use Rattle.pm_folder.specs.declared.contents.Ends.{Ends}
 use Rattle.pm_folder.specs.declared.contents.Ends.TheVariants as ends
 use Rattle.pm_import.specs.Feeds.{feed_for, with_feeds, without_returns}
 use Rattle.pm_import.specs.Listed.{cut, date_of, kind_of, listed_of}
-use Rattle.pm_import.specs.Worked.{WorkedLists}
+use Rattle.pm_import.specs.Plain.{has_ending, kind_by_name}
+use Rattle.pm_import.specs.Worked.{WorkedLists, WorkedPlain}
 
 same : (b : ℕ) → (b == b) ≡ true
 same b = grind (arith, nat_tests)
@@ -60,4 +63,17 @@ worked_lists = record {
   two_returns = refl;
   returns = refl;
   feeds = refl;
+}
+
+pub worked_plain : WorkedPlain
+unfolding listed_of kind_of date_of is_utf8 chars encode has_ending kind_by_name percent_encode percent_encode_byte should_percent_encode
+worked_plain = record {
+  names = refl;
+  kinds = refl;
+  plain_text = refl;
+  header = refl;
+  no_text = refl;
+  escaped = refl;
+  plain = refl;
+  listed = refl;
 }

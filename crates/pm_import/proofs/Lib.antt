@@ -1,3 +1,4 @@
 pub mod Computed
 pub mod Cutting
 pub mod Taken
+pub mod Named

@@ -7,6 +7,7 @@ use Rattle.pm_folder.specs.declared.contents.Ends.TheVariants as ends
 use Rattle.pm_folder.specs.declared.contents.How.TheVariants as how
 use Rattle.pm_import.specs.Feeds.{with_feeds}
 use Rattle.pm_import.specs.Listed.{cut, date_of, kind_of, last_date_in, lines_of, listed_of}
+use Rattle.pm_import.specs.Plain.{escaped_name, how_by_bytes, kind_by_name, plain_line, plain_listed, plain_name}
 
 -- Two pieces with a byte between them come back if the first piece does not contain the byte. A text comes back from
 -- each form of line ends that an export gives it, if it contains no byte 13. The examples are: a line of an
@@ -38,3 +39,19 @@ pub record WorkedLists : Type 0 where
   pub two_returns : with_feeds ends.CrLf (codes "a\r\r\n") ≡ codes "a\r\n"
   pub returns : with_feeds ends.Cr (codes "a\rb\r\n") ≡ codes "a\nb\n\n"
   pub feeds : with_feeds ends.Lf (codes "a\r\n") ≡ codes "a\r\n"
+
+-- Files of a folder without LIST: names in capital letters, and `.TEXT` for `.TXT`; kinds by the ending; plain texts, and
+-- text files with a byte 0; names with escapes; and the line of a file, which states what the file is on the volume.
+pub record WorkedPlain : Type 0 where
+  pub names : map plain_name (codes "letter.txt" ∷ codes "A.TEXT" ∷ codes "game.code" ∷ codes "az.{" ∷ codes ".txt"
+      ∷ codes "txt" ∷ [])
+      ≡ codes "LETTER.TEXT" ∷ codes "A.TEXT" ∷ codes "GAME.CODE" ∷ codes "AZ.{" ∷ codes ".TEXT" ∷ codes "TXT" ∷ []
+  pub kinds : map kind_by_name (codes "A.TEXT" ∷ codes "A.CODE" ∷ codes "A.DATA" ∷ codes "TEXT" ∷ [] ∷ [])
+      ≡ 3 ∷ 2 ∷ 5 ∷ 5 ∷ 5 ∷ []
+  pub plain_text : how_by_bytes 3 (codes "hi\n") ≡ how.Text
+  pub header : how_by_bytes 3 (104 ∷ 0 ∷ []) ≡ how.Bytes
+  pub no_text : how_by_bytes 2 (codes "hi\n") ≡ how.Bytes
+  pub escaped : escaped_name (codes "a b") ≡ codes "A%20B"
+  pub plain : plain_line (plain_listed (codes "a.txt") (codes "hi")) ≡ codes "a.txt\tA.TEXT\ttext\t000-00-00\ttext\n"
+  pub listed : listed_of (codes "a.txt\tA.TEXT\ttext\t000-00-00\ttext")
+      ≡ Some (plain_listed (codes "a.txt") (codes "hi"))

@@ -5,7 +5,8 @@ mod feeds;
 mod imported;
 mod listed;
 mod placed;
+mod plain;
 pub mod worked;
 
 pub use feeds::with_feeds;
-pub use imported::{Left, Why, import};
+pub use imported::{ImportReport, Left, Why, import};

@@ -1,0 +1,5 @@
+pub mod SameNames
+pub mod Taking
+pub mod Differences
+pub mod Pairing
+pub mod Computed

@@ -1,0 +1,4 @@
+pub mod Listed
+pub mod Fields
+pub mod Strings
+pub mod Computed

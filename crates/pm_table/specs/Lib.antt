@@ -1,0 +1,4 @@
+pub mod Rows
+pub mod Tabs
+pub mod Json
+pub mod Worked

@@ -147,8 +147,8 @@ check "one byte more is a read fault" [ "$(cat err)" = "read fault" ]
 line=$(head -c 120 /dev/zero | tr '\0' x)
 printf '%s\n' "$(head -n 1 l.out2/LIST)" "$line" "${line}y" >fl/LIST
 check "long lines" ends 2 files l import fl
-check "of 120 characters" grep -qx "pmach: fl/$line: LIST has no valid line for it" err
-check "of more" grep -qx "pmach: fl/$line\.\.: LIST has no valid line for it" err
+check "of 120 characters" grep -qx "pmach: fl/$line: this line of LIST is not valid" err
+check "of more" grep -qx "pmach: fl/$line\.\.: this line of LIST is not valid" err
 check "none of these changes the image" cmp l l.before
 
 # byte FILE PLACE VALUE

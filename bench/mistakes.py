@@ -1,5 +1,5 @@
 """mistakes.py PMACH [N]: makes the mistakes of bench/mistakes (or the Nth alone) on a pseudo terminal, shows what is said, and counts
-those of which the answer has each piece that it has to have. PMACH is the program itself. What stands in the folder: d.img with
+those of which the answer has each piece that it has to have. PMACH is the program itself. The folder has d.img with
 README.TEXT, DATA, HELLO.CODE, CALLS and WHOLE (code files), dos.dsk in DOS order, header.2mg, hurt.img with a damaged entry, sys.code."""
 import os
 import pty

@@ -13,22 +13,23 @@ use Rattle.pm_plan.specs.declared.form.Form.{Form}
 use Rattle.pm_plan.specs.declared.form.Form.TheVariants as forms
 use Rattle.pm_check.specs.declared.order.Order.{Order}
 use Rattle.pm_check.specs.declared.order.Order.TheVariants as orders
+use Rattle.pm_plan.specs.declared.in_form.PathForm.{PathForm}
 use Rattle.pm_plan.specs.InForm.{IsFound, PutsFormed, PutsVolume, form_at, in_form}
 
 -- If the file at `path` contains `bytes`, then the converted file at `path` contains the volume in `bytes`.
-pub holds_volume : (form : Form) (system printer : Option (List ℕ)) (files : Files) (path bytes : List ℕ)
+pub holds_volume : (form : Form) (own : List PathForm) (files : Files) (path bytes : List ℕ)
     → HoldsFile files path bytes
-    → HoldsFile (in_form form system printer files) path (volume_of (form_at form system printer path) bytes)
-holds_volume form system printer None path bytes holds = tt
-holds_volume form system printer (Some files) path bytes holds =
-    ap (option_map (volume_of (form_at form system printer path))) holds
+    → HoldsFile (in_form form own files) path (volume_of (form_at form own path) bytes)
+holds_volume form own None path bytes holds = tt
+holds_volume form own (Some files) path bytes holds =
+    ap (option_map (volume_of (form_at form own path))) holds
 
 -- If no file exists at `path`, then no converted file exists at `path`.
-pub holds_none : (form : Form) (system printer : Option (List ℕ)) (files : Files) (path : List ℕ)
-    → HoldsNone files path → HoldsNone (in_form form system printer files) path
-holds_none form system printer None path none = tt
-holds_none form system printer (Some files) path none =
-    ap (option_map (volume_of (form_at form system printer path))) none
+pub holds_none : (form : Form) (own : List PathForm) (files : Files) (path : List ℕ)
+    → HoldsNone files path → HoldsNone (in_form form own files) path
+holds_none form own None path none = tt
+holds_none form own (Some files) path none =
+    ap (option_map (volume_of (form_at form own path))) none
 
 -- If the file at `path` contains `bytes`, then `bytes` are found. If no file exists at `path`, then the empty list is
 -- found.
@@ -42,43 +43,43 @@ found_none (Some files) path none = sym (ap (λ held. unwrap_or held []) none)
 
 -- If `file` is written to `path` and `bytes` is the volume in `file`, then the converted file at `path` contains
 -- `bytes`.
-pub puts_formed : (form : Form) (system printer : Option (List ℕ)) (old new : Files) (path file bytes : List ℕ)
-    → Puts old new path file → volume_of (form_at form system printer path) file ≡ bytes
-    → Puts (in_form form system printer old) (in_form form system printer new) path bytes
-puts_formed form system printer None new path file bytes puts is = tt
-puts_formed form system printer (Some old) None path file bytes puts is = absurd puts
-puts_formed form system printer (Some old) (Some new) path file bytes puts is = (
-  ap (option_map (volume_of (form_at form system printer path))) puts.0 ∙ ap Some is,
-  λ other apart. ap (option_map (volume_of (form_at form system printer other))) (puts.1 other apart),
+pub puts_formed : (form : Form) (own : List PathForm) (old new : Files) (path file bytes : List ℕ)
+    → Puts old new path file → volume_of (form_at form own path) file ≡ bytes
+    → Puts (in_form form own old) (in_form form own new) path bytes
+puts_formed form own None new path file bytes puts is = tt
+puts_formed form own (Some old) None path file bytes puts is = absurd puts
+puts_formed form own (Some old) (Some new) path file bytes puts is = (
+  ap (option_map (volume_of (form_at form own path))) puts.0 ∙ ap Some is,
+  λ other apart. ap (option_map (volume_of (form_at form own other))) (puts.1 other apart),
 )
 
 -- If the result `r` is the volume in the bytes of the file at `path`, then `r` is the contents of the converted file.
-pub read_volume : (r : Result (Vec ℕ Global) DiskFault) (form at : Form) (system printer : Option (List ℕ)) (files : Files)
-    (path bytes : List ℕ) → at ≡ form_at form system printer path → HoldsFile files path bytes
+pub read_volume : (r : Result (Vec ℕ Global) DiskFault) (form at : Form) (own : List PathForm) (files : Files)
+    (path bytes : List ℕ) → at ≡ form_at form own path → HoldsFile files path bytes
     → IfOk r (λ made. made.items ≡ volume_of at bytes)
-    → IfOk r (λ made. HoldsFile (in_form form system printer files) path made.items)
-read_volume (Ok made) form at system printer files path bytes is holds turns =
-    subst (HoldsFile (in_form form system printer files) path) (sym (turns ∙ ap (λ form. volume_of form bytes) is))
-    (holds_volume form system printer files path bytes holds)
-read_volume (Err fault) form at system printer files path bytes is holds turns = tt
+    → IfOk r (λ made. HoldsFile (in_form form own files) path made.items)
+read_volume (Ok made) form at own files path bytes is holds turns =
+    subst (HoldsFile (in_form form own files) path) (sym (turns ∙ ap (λ form. volume_of form bytes) is))
+    (holds_volume form own files path bytes holds)
+read_volume (Err fault) form at own files path bytes is holds turns = tt
 
-pub put_turned : {A : Type 0} (r : Result A DiskFault) (form : Form) (order : Order) (system printer : Option (List ℕ))
-    (old new : Files) (path bytes made : List ℕ) → forms.In order ≡ form_at form system printer path
+pub put_turned : {A : Type 0} (r : Result A DiskFault) (form : Form) (order : Order) (own : List PathForm)
+    (old new : Files) (path bytes made : List ℕ) → forms.In order ≡ form_at form own path
     → made ≡ turned order bytes → OnOk r (Puts old new path made)
-    → OnOk r (Puts (in_form form system printer old) (in_form form system printer new) path bytes)
-put_turned (Ok done) form order system printer old new path bytes made is turns puts =
-    puts_formed form system printer old new path made bytes puts
+    → OnOk r (Puts (in_form form own old) (in_form form own new) path bytes)
+put_turned (Ok done) form order own old new path bytes made is turns puts =
+    puts_formed form own old new path made bytes puts
     (ap (λ form. volume_of form made) (sym is) ∙ ap (turned order) turns ∙ turned_back order bytes)
-put_turned (Err fault) form order system printer old new path bytes made is turns puts = tt
+put_turned (Err fault) form order own old new path bytes made is turns puts = tt
 
-pub put_blocks : {A : Type 0} (r : Result A DiskFault) (form : Form) (system printer : Option (List ℕ))
-    (old new : Files) (path bytes : List ℕ) → forms.In orders.Blocks ≡ form_at form system printer path
+pub put_blocks : {A : Type 0} (r : Result A DiskFault) (form : Form) (own : List PathForm)
+    (old new : Files) (path bytes : List ℕ) → forms.In orders.Blocks ≡ form_at form own path
     → OnOk r (Puts old new path bytes)
-    → OnOk r (Puts (in_form form system printer old) (in_form form system printer new) path bytes)
-put_blocks (Ok done) form system printer old new path bytes is puts =
-    puts_formed form system printer old new path bytes bytes puts
+    → OnOk r (Puts (in_form form own old) (in_form form own new) path bytes)
+put_blocks (Ok done) form own old new path bytes is puts =
+    puts_formed form own old new path bytes bytes puts
     (ap (λ form. volume_of form bytes) (sym is) ∙ turned_blocks bytes)
-put_blocks (Err fault) form system printer old new path bytes is puts = tt
+put_blocks (Err fault) form own old new path bytes is puts = tt
 
 -- ---- .2mg files
 
@@ -94,14 +95,14 @@ puts_volume (Ok done) files between new path before made volume same is filed_is
 }
 puts_volume (Err fault) files between new path before made volume same is filed_is back puts = tt
 
-pub put_volume : {A : Type 0} (r : Result A DiskFault) (form : Form) (system printer : Option (List ℕ))
-    (old new : Files) (path bytes : List ℕ) → forms.Headed ≡ form_at form system printer path
+pub put_volume : {A : Type 0} (r : Result A DiskFault) (form : Form) (own : List PathForm)
+    (old new : Files) (path bytes : List ℕ) → forms.Headed ≡ form_at form own path
     → OnOk r (PutsVolume old new path bytes)
-    → OnOk r (Puts (in_form form system printer old) (in_form form system printer new) path bytes)
-put_volume (Ok done) form system printer old new path bytes is puts =
-    puts_formed form system printer old new path (filed puts.before bytes) bytes puts.puts
+    → OnOk r (Puts (in_form form own old) (in_form form own new) path bytes)
+put_volume (Ok done) form own old new path bytes is puts =
+    puts_formed form own old new path (filed puts.before bytes) bytes puts.puts
     (ap (λ form. volume_of form (filed puts.before bytes)) (sym is) ∙ puts.back)
-put_volume (Err fault) form system printer old new path bytes is puts = tt
+put_volume (Err fault) form own old new path bytes is puts = tt
 
 -- ---- the file that is written
 

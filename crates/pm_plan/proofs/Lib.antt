@@ -1,3 +1,4 @@
 pub mod Found
 pub mod InFormLaws
 pub mod Computed
+pub mod AutoLaws

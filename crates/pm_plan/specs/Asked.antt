@@ -1,6 +1,6 @@
 -- The jobs that command lines specify. clap stores each argument of a command as a row: an id and the argument's bytes.
 -- clap stores a command or verb that follows separately, with its name and its own rows.
-use Rattle.std.specs.Prelude.{◌≡◌, ◌≤◌, ◌⊎◌, ◌||◌, ⊤, ℕ, Bool, true, false, List, [], ◌∷◌, Option, String}
+use Rattle.std.specs.Prelude.{◌≡◌, ◌≤◌, ◌⊎◌, ◌&&◌, ◌||◌, ⊤, ℕ, Bool, true, false, List, [], ◌∷◌, Option, String}
 use Rattle.std.specs.Prelude.{None, Some, map, option_map, string_bytes, codes}
 use Rattle.std.specs.declared.alloc.Global.{Global}
 use Rattle.std.specs.Str.{bytes_eq}
@@ -25,6 +25,7 @@ use Rattle.pm_folder.specs.declared.folder.Wanted.{Wanted}
 use Rattle.pm_folder.specs.declared.folder.Wanted.TheVariants as wanted
 use Rattle.pm_plan.specs.ConvertWords.{IsFormat, IsTarget}
 use Rattle.pm_plan.specs.FolderWords.{AreEnds, AreEndsGiven, IsText}
+use Rattle.pm_plan.specs.declared.compare_words.ComparePlan.{ComparePlan}
 use Rattle.pm_plan.specs.declared.convert_words.ConvertPlan.{ConvertPlan}
 use Rattle.pm_plan.specs.declared.folder_words.ExportPlan.{ExportPlan}
 use Rattle.pm_plan.specs.declared.folder_words.ImportPlan.{ImportPlan}
@@ -36,12 +37,15 @@ use Rattle.pm_plan.specs.declared.file_words.Chosen.{Chosen}
 use Rattle.pm_plan.specs.declared.file_words.Chosen.TheVariants as chosen
 use Rattle.pm_plan.specs.declared.run_words.RunChoices.{RunChoices}
 use Rattle.pm_plan.specs.declared.run_words.Program.{Program}
+use Rattle.pm_plan.specs.declared.table_words.TableForm.{TableForm}
+use Rattle.pm_plan.specs.declared.table_words.TableForm.TheVariants as tables
+use Rattle.pm_plan.specs.declared.table_words.TablePlan.{TablePlan}
 use Rattle.pm_plan.specs.declared.text_words.TextFiles.{TextFiles}
 use Rattle.pm_plan.specs.declared.text_words.TextInput.{TextInput}
 use Rattle.pm_plan.specs.declared.text_words.TextInput.TheVariants as inputs
 use Rattle.pm_plan.specs.SearchWords.{AsksSearch}
 use Rattle.pm_plan.specs.Forms.{AsksForm}
-use Rattle.pm_plan.specs.declared.form.Form.{Form}
+use Rattle.pm_plan.specs.declared.form.FormChoice.{FormChoice}
 use Rattle.pm_plan.specs.declared.words.Asked.{Asked}
 use Rattle.pm_plan.specs.declared.words.Plan.{Plan}
 use Rattle.pm_plan.specs.declared.words.Plan.TheVariants as plans
@@ -286,6 +290,34 @@ AsksImport m plan = (rows : List Row) × (subcommand_rows_of m ≡ Some (codes "
     × AreEnds (word_found rows (codes "ends")) plan.ends
     × IsFlag (one_of (codes "dry-run") rows) plan.is_trial
 
+-- Is true if the arguments `m` of `files diff` specify `plan`.
+abbrev pub AsksCompare : ArgMatches → ComparePlan → Type 0
+AsksCompare m plan = (rows : List Row) × (subcommand_rows_of m ≡ Some (codes "diff", rows))
+    × IsPath (word_found (words_of m) (codes "image")) (word_found rows (codes "image")) (string_bytes plan.path)
+    × (word_found rows (codes "OTHER") ≡ Some (string_bytes plan.other))
+
+-- Returns whether `--json` or `--tabs` is given after the verb `list`.
+abbrev pub is_table : Option (List ℕ × List Row) → Bool
+is_table None = false
+is_table (Some after) = bytes_eq after.0 (codes "list")
+    && (is_set (word_found after.1 (codes "json")) || is_set (word_found after.1 (codes "tabs")))
+
+-- Is true if `form` is the form of a list with `--json` or `--tabs`. The first two arguments state whether `--json` and
+-- `--tabs` are given. They cannot both be given.
+abbrev pub IsTableForm : Bool → Bool → TableForm → Type 0
+IsTableForm false tabs form = form ≡ tables.Tabs
+IsTableForm true false form = form ≡ tables.Json
+IsTableForm true true form = ⊥
+
+-- Is true if the arguments `m` of `files list` with `--json` or `--tabs` specify `plan`. The option `--all` cannot be
+-- given.
+abbrev pub AsksTable : ArgMatches → TablePlan → Type 0
+AsksTable m plan = (rows : List Row) × (subcommand_rows_of m ≡ Some (codes "list", rows))
+    × IsPath (word_found (words_of m) (codes "image")) (word_found rows (codes "image")) (string_bytes plan.path)
+    × IsTableForm (is_set (word_found rows (codes "json"))) (is_set (word_found rows (codes "tabs"))) plan.form
+    × (word_found rows (codes "matching") ≡ option_map string_bytes plan.pattern)
+    × (is_set (word_found rows (codes "all")) ≡ false)
+
 -- ---- lines of a trace
 
 -- Is true if `first` is the number of the first step whose line is shown, given by `--from`. The default is 0.
@@ -387,7 +419,8 @@ Asks command m (plans.Dis what files) = (command ≡ codes "dis")
     (is_set (word_found (words_of m) (codes "statements"))) (is_set (word_found (words_of m) (codes "indent")))
     (is_set (word_found (words_of m) (codes "blocks"))) what
     × AsksTextFiles (words_of m) files
-Asks command m (plans.Files plan) = (command ≡ codes "files") × AsksFiles m plan
+Asks command m (plans.Files plan) =
+    (command ≡ codes "files") × AsksFiles m plan × (is_table (subcommand_rows_of m) ≡ false)
 Asks command m (plans.Run program choices) =
     (command ≡ codes "run") × AsksProgram (words_of m) program × AsksChoices (words_of m) choices
 Asks command m (plans.Trace program selection output) =
@@ -398,6 +431,9 @@ Asks command m (plans.Debug program typed) = (command ≡ codes "debug") × Asks
 Asks command m (plans.Salvage plan) = (command ≡ codes "files") × AsksSalvage m plan
 Asks command m (plans.Export plan) = (command ≡ codes "files") × AsksExport m plan
 Asks command m (plans.Import plan) = (command ≡ codes "files") × AsksImport m plan
+Asks command m (plans.Compare plan) = (command ≡ codes "files") × AsksCompare m plan
+Asks command m (plans.Table plan) =
+    (command ≡ codes "files") × AsksTable m plan × (is_table (subcommand_rows_of m) ≡ true)
 Asks command m (plans.Convert plan) = (command ≡ codes "convert") × AsksConvert m plan
 Asks command m (plans.Search plan) = AsksSearch command m plan
 
@@ -410,9 +446,9 @@ abbrev pub word_below : Option (List ℕ × List Row) → Option (List ℕ)
 word_below None = None
 word_below (Some behind) = word_found behind.1 (codes "form")
 
--- Is true if `form` is the form of the images, which `--form` specifies before or after the verb.
-unfoldable pub IsForm : ArgMatches → Form → Type 0
-IsForm m form = AsksForm (word_found (words_of m) (codes "form")) (word_below (subcommand_rows_of m)) form
+-- Is true if `choice` is what `--form` specifies before or after the verb: the forms of the images.
+unfoldable pub IsForm : ArgMatches → FormChoice → Type 0
+IsForm m choice = AsksForm (word_found (words_of m) (codes "form")) (word_below (subcommand_rows_of m)) choice
 
 -- Returns whether `--quiet` is given after a verb.
 abbrev pub is_quiet_below : Option (List ℕ × List Row) → Bool

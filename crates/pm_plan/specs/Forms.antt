@@ -1,10 +1,12 @@
 -- The forms of images: their names, the volume in a file of each form, and the file in which a volume is stored.
-use Rattle.std.specs.Prelude.{◌≡◌, ⊤, ℕ, List, Option, None, Some, IsSome, codes, if◌then◌else◌}
+use Rattle.std.specs.Prelude.{◌≡◌, ⊤, ℕ, List, Option, None, Some, IsSome, codes, option_map, if◌then◌else◌}
 use Rattle.std.specs.Str.{bytes_eq}
 use Rattle.pm_check.specs.Headed.{filed, volume_in}
 use Rattle.pm_check.specs.Orders.{turned}
 use Rattle.pm_plan.specs.declared.form.Form.{Form}
 use Rattle.pm_plan.specs.declared.form.Form.TheVariants as forms
+use Rattle.pm_plan.specs.declared.form.FormChoice.{FormChoice}
+use Rattle.pm_plan.specs.declared.form.FormChoice.TheVariants as choices
 use Rattle.pm_check.specs.declared.order.Order.TheVariants as orders
 
 -- Returns the volume in the bytes `file` of a file with this form. The blocks of the volume are in order.
@@ -26,18 +28,29 @@ form_named word =
     else (if bytes_eq word (codes "swapped") then Some (forms.In orders.Swapped)
     else (if bytes_eq word (codes "2mg") then Some forms.Headed else None)))
 
--- Is true if `form` is the form that `--form` names. The first argument is its value before the verb, and the second
--- its value after the verb. At most one of them can be given. The default is `In Blocks`.
-abbrev pub AsksForm : Option (List ℕ) → Option (List ℕ) → Form → Type 0
-AsksForm None None form = form ≡ forms.In orders.Blocks
-AsksForm (Some word) None form = form_named word ≡ Some form
-AsksForm None (Some word) form = form_named word ≡ Some form
-AsksForm (Some before) (Some behind) form = ⊥
+-- The word that names this form.
+abbrev pub form_name : Form → List ℕ
+form_name (forms.In orders.Blocks) = codes "blocks"
+form_name (forms.In orders.Dos) = codes "dos"
+form_name (forms.In orders.Swapped) = codes "swapped"
+form_name forms.Headed = codes "2mg"
 
--- Is true if `--form` is valid: its value names one of the four forms, and it is not given both before and after the
--- verb.
+-- What the value `word` of `--form` specifies: `auto`, or one form for all images.
+abbrev pub choice_named : List ℕ → Option FormChoice
+choice_named word = if bytes_eq word (codes "auto") then Some choices.Auto else option_map choices.Named (form_named word)
+
+-- Is true if `choice` is what `--form` specifies. The first argument is its value before the verb, and the second its
+-- value after the verb. At most one of them can be given. The default is `In Blocks` for all images.
+abbrev pub AsksForm : Option (List ℕ) → Option (List ℕ) → FormChoice → Type 0
+AsksForm None None choice = choice ≡ choices.Named (forms.In orders.Blocks)
+AsksForm (Some word) None choice = choice_named word ≡ Some choice
+AsksForm None (Some word) choice = choice_named word ≡ Some choice
+AsksForm (Some before) (Some behind) choice = ⊥
+
+-- Is true if `--form` is valid: its value is `auto` or names one of the four forms, and it is not given both before and
+-- after the verb.
 abbrev pub IsFormWord : Option (List ℕ) → Option (List ℕ) → Type 0
 IsFormWord None None = ⊤
-IsFormWord (Some word) None = IsSome (form_named word)
-IsFormWord None (Some word) = IsSome (form_named word)
+IsFormWord (Some word) None = IsSome (choice_named word)
+IsFormWord None (Some word) = IsSome (choice_named word)
 IsFormWord (Some before) (Some behind) = ⊥

@@ -1,28 +1,23 @@
--- The contents of files that are converted from another form. All files are converted, except those at two paths.
-use Rattle.std.specs.Prelude.{◌≡◌, ⊤, ℕ, Bool, false, ◌||◌, List, [], Option, None, Some, option_map, if◌then◌else◌}
+-- The contents of files that are converted from another form. Some paths have forms of their own.
+use Rattle.std.specs.Prelude.{◌≡◌, ⊤, ℕ, List, [], ◌∷◌, Option, None, Some, option_map, if◌then◌else◌, string_bytes}
 use Rattle.std.specs.Option.{unwrap_or}
 use Rattle.std.specs.Str.{bytes_eq}
 use Rattle.pm_files.specs.Held.{Files, Puts}
 use Rattle.pm_plan.specs.Forms.{file_of, volume_of}
 use Rattle.pm_check.specs.Headed.{filed, volume_in}
 use Rattle.pm_plan.specs.declared.form.Form.{Form}
-use Rattle.pm_plan.specs.declared.form.Form.TheVariants as forms
-use Rattle.pm_check.specs.declared.order.Order.TheVariants as orders
+use Rattle.pm_plan.specs.declared.in_form.PathForm.{PathForm}
 
--- Returns whether `path` has the same bytes as `one`. Returns `false` if the second argument is `None`.
-abbrev pub is_path : List ℕ → Option (List ℕ) → Bool
-is_path path None = false
-is_path path (Some one) = bytes_eq path one
-
--- Returns the form of the file at `path`. The files at the paths `system` and `printer` are not converted.
-abbrev pub form_at : Form → Option (List ℕ) → Option (List ℕ) → List ℕ → Form
-form_at form system printer path = if is_path path system || is_path path printer then forms.In orders.Blocks else form
+-- Returns the form of the file at `path`: the first form that `own` has for this path, and `form` if it has none.
+unfoldable pub form_at : Form → List PathForm → List ℕ → Form
+form_at form [] path = form
+form_at form (first ∷ more) path =
+    if bytes_eq path (string_bytes first.path) then first.form else form_at form more path
 
 -- Returns `files` with each file converted to a volume with its blocks in order.
-abbrev pub in_form : Form → Option (List ℕ) → Option (List ℕ) → Files → Files
-in_form form system printer None = None
-in_form form system printer (Some files) =
-    Some (λ path. option_map (volume_of (form_at form system printer path)) (files path))
+abbrev pub in_form : Form → List PathForm → Files → Files
+in_form form own None = None
+in_form form own (Some files) = Some (λ path. option_map (volume_of (form_at form own path)) (files path))
 
 -- ---- files written
 

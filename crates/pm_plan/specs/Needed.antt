@@ -7,6 +7,7 @@ use Rattle.std.specs.Str.{bytes_eq}
 use Rattle.clap.specs.Words.{Row, subcommand_rows_of}
 use Rattle.clap.specs.declared.parser.matches.ArgMatches.{ArgMatches}
 use Rattle.pm_plan.specs.Asked.{IsCommand, IsKind, IsLimitWord, IsNumberUpTo, IsNumberWord, IsRunLimitWord, is_set}
+use Rattle.pm_plan.specs.Asked.{is_table}
 use Rattle.pm_plan.specs.Asked.{word_below, word_found, words_of}
 use Rattle.pm_plan.specs.ConvertWords.{HasNew, IsGoodFormat, IsGoodTarget}
 use Rattle.pm_plan.specs.FolderWords.{AreGoodEnds, IsGoodText}
@@ -283,11 +284,28 @@ IsGoodImport rows (Some after) = (after.0 ≡ codes "import")
     × IsOnePath (word_found rows (codes "image")) (word_found after.1 (codes "image"))
     × IsThere (word_found after.1 (codes "FOLDER")) × AreGoodEnds (word_found after.1 (codes "ends"))
 
+-- The arguments before `diff`, the verb and the arguments after it are valid.
+abbrev pub IsGoodCompare : List Row → Option (List ℕ × List Row) → Type 0
+IsGoodCompare rows None = ⊥
+IsGoodCompare rows (Some after) = (after.0 ≡ codes "diff")
+    × IsOnePath (word_found rows (codes "image")) (word_found after.1 (codes "image"))
+    × IsThere (word_found after.1 (codes "OTHER"))
+
+-- Is true if the verb is `list`, and the arguments before and after it are valid for a list with `--json` or `--tabs`.
+abbrev pub IsGoodTable : List Row → Option (List ℕ × List Row) → Type 0
+IsGoodTable rows None = ⊥
+IsGoodTable rows (Some after) = (after.0 ≡ codes "list")
+    × IsOnePath (word_found rows (codes "image")) (word_found after.1 (codes "image"))
+    × IsNotBoth (is_set (word_found after.1 (codes "json"))) (is_set (word_found after.1 (codes "tabs")))
+    × (is_set (word_found after.1 (codes "all")) ≡ false)
+
 -- Is true if the arguments of `files` are valid for its verb.
 abbrev pub AreGoodFiles : List Row → Option (List ℕ × List Row) → Type 0
 AreGoodFiles rows after = MatchBool (is_verb (codes "salvage") after) (IsGoodSalvage rows after)
     (MatchBool (is_verb (codes "export") after) (IsGoodExport rows after)
-    (MatchBool (is_verb (codes "import") after) (IsGoodImport rows after) (AreGoodBefore rows after)))
+    (MatchBool (is_verb (codes "import") after) (IsGoodImport rows after)
+    (MatchBool (is_verb (codes "diff") after) (IsGoodCompare rows after)
+    (MatchBool (is_table after) (IsGoodTable rows after) (AreGoodBefore rows after)))))
 
 -- Is true if `--form`, `--as` or `--back` is given. The option `--form` has the id `format`.
 abbrev pub has_options : List Row → Bool

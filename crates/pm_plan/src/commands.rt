@@ -154,7 +154,8 @@ const IMAGE: WordRow = ("image", Form::Free("PATH"), "Disk image to work on");
 const FORM: WordRow = (
     "form",
     Form::Free("FORM"),
-    "Format of the images: blocks, dos, swapped or 2mg; converted when read, and back when written [default: blocks]",
+    "Format of the images: blocks, dos, swapped, 2mg, or auto for the one in which each image opens; an image is \
+     converted when it is read, and converted back when it is written [default: blocks]",
 );
 
 const FILE: WordRow = ("NAME", Form::Word, "File name, in upper or lower case");
@@ -216,6 +217,16 @@ const VERBS: &[CommandRow] = &[
                 Form::Free("PATTERN"),
                 "List only the files whose names match PATTERN; = matches any characters",
             ),
+            (
+                "json",
+                Form::Flag,
+                "Print the list as JSON, for other programs; cannot be used with --all or --tabs",
+            ),
+            (
+                "tabs",
+                Form::Flag,
+                "Print a line with tabs between its fields for each file; cannot be used with --all or --json",
+            ),
         ],
     ),
     (
@@ -269,14 +280,14 @@ const VERBS: &[CommandRow] = &[
     ),
     (
         "import",
-        "Add the files of a folder that 'export' or 'salvage FOLDER/' made, with their kinds and dates",
+        "Add the files of a folder: those of its list LIST, with their kinds and dates, or all files if it has no LIST",
         &[
             IMAGE,
             FORM,
             (
                 "FOLDER",
                 Form::Word,
-                "Folder with the files and the list LIST",
+                "Folder with the files; 'export' and 'salvage FOLDER/' make the list LIST in it",
             ),
             (
                 "ends",
@@ -286,7 +297,20 @@ const VERBS: &[CommandRow] = &[
             (
                 "dry-run",
                 Form::Flag,
-                "Report the files that cannot be added, and do not write the image",
+                "Report the files that cannot be added, and do not write the image; without LIST, print its lines",
+            ),
+        ],
+    ),
+    (
+        "diff",
+        "Compare the files with those of another volume",
+        &[
+            IMAGE,
+            FORM,
+            (
+                "OTHER",
+                Form::Word,
+                "Disk image of the other volume, in the same format",
             ),
         ],
     ),
@@ -444,12 +468,12 @@ const MORE_VERBS: &[CommandRow] = &[
 /// The text after the arguments in the help of `debug`: the commands of the debugger, and two examples.
 const DEBUG_HELP: &str = "\
 Commands, one per line. Numbers are decimal, or $ and at most four hexadecimal digits, as in $1F:
-  break S P O    set a breakpoint at offset O, in bytes from the entry of procedure P of segment S; with `if A = W` after it, stop only if the word at the even address A is W; replaces one at the same position
-  clear S P O    remove this breakpoint
+  break S P O    set a breakpoint at offset O, in bytes from the entry of procedure P of segment S; with `if A = W` after it, stop only if the word at the even address A is W; a breakpoint at the same position is replaced
+  clear S P O    remove the breakpoint of break S P O
   reads A N      set a breakpoint on the N words from the even address A: a run stops before a step that reads one of them; with `if B = W` after it, only if the word at the even address B is W
-  writes A N     the same, for a step that writes one of the words
-  clear reads A N  remove this breakpoint
-  clear writes A N  remove this breakpoint
+  writes A N     set a breakpoint on the N words from the even address A: a run stops before a step that writes one of them; with `if` as for reads
+  clear reads A N  remove the breakpoint of reads A N
+  clear writes A N  remove the breakpoint of writes A N
   go N           run at most N steps
   poke A W       write the word W to the even address A
   key B          append the byte B to the console input
@@ -459,17 +483,17 @@ Commands, one per line. Numbers are decimal, or $ and at most four hexadecimal d
   dynamic N      print at most N frames, following the dynamic links
   local D B      print variable B of the procedure D static links up
   regs           print the registers
-  place N        print the address of the segment in slot N, its calls in progress and its keeps
+  place N        print the address of the segment in slot N, the number of its calls in progress, and the number of its keeps
   trace          print the trace line of the next step
   peek A N       print at most N words of memory from the even address A
   bytes A N      print at most N bytes of memory from address A, in hexadecimal and as characters
   where          print segment, procedure and offset of IPC, as for break, and the next instruction
-  breaks         print the breakpoints, and how many more are ignored
+  breaks         print the breakpoints, and how many further stops ignore skips
   frames N       print at most N frames, following the dynamic links, each with the position to which it returns
   list N         print the next N instructions, each with its offset
   console N      print the last N bytes written to the console, spelled as in the assembler
   console on     before each answer, print what the command wrote to the console
-  console off    stop printing it
+  console off    stop printing the console output before each answer
   step [N]       run one instruction and everything that it calls, at most N steps
   finish [N]     run the rest of the current procedure and its return, at most N steps
   until S P O    run up to this position; with N after it, at most N steps
@@ -608,7 +632,7 @@ const ALL: WordRow = (
 const SYMBOLS: WordRow = (
     "symbols",
     Form::Flag,
-    "Print a line for each procedure and label with its position, no code file; cannot be used with --list or --all",
+    "Print a line for each procedure and label with its position, and write no code file; cannot be used with --list or --all",
 );
 
 const ASM: CommandRow = (
@@ -722,6 +746,12 @@ Examples:
 Examples:
   pmach files --image kept.img import folder
   pmach files --image kept.img import folder --dry-run"
+        }
+        "diff" => {
+            "\
+Examples:
+  pmach files --image kept.img diff copy.img
+  pmach files kept.dsk diff copy.dsk --form dos"
         }
         "krunch" => {
             "\
@@ -935,7 +965,7 @@ const CONVERT: CommandRow = (
         (
             "back",
             Form::Free("IMAGE"),
-            "NEW is this image, with OLD instead of its blocks",
+            "Write NEW as this image, with its blocks replaced by OLD",
         ),
     ],
 );
@@ -960,7 +990,7 @@ fn commands<'a>(alloc: Global) -> Result<Vec<Command<'a>>, AllocError> {
 const IMAGES: WordRow = (
     "IMAGE",
     Form::Many,
-    "Disk images, in any format that 'pmach convert' accepts",
+    "Disk images in any format that 'pmach convert' accepts, or folders of them",
 );
 
 const FIND: CommandRow = (
@@ -1010,7 +1040,7 @@ pub fn all_commands<'a>(alloc: Global) -> Result<Command<'a>, AllocError> {
     Command::new(alloc, "pmach")
         .version(VERSION)
         .about(
-            "The p-machine of UCSD Pascal version II. Without arguments, and with input from a pipe or a file, it does `raw`",
+            "The p-machine of UCSD Pascal version II. Without arguments, and with input from a pipe or a file, pmach runs `raw`",
         )
         .after_help(EXAMPLES)
         .subcommands(commands)

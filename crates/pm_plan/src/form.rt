@@ -1,7 +1,7 @@
 //! The form of an image: how its bytes are stored in its file (`--form`).
 ghost use Rattle.std.specs.Prelude.{◌≡◌, IfErr, IfOk, IsOk, IsOkUnless, codes, option_map};
 ghost use Rattle.pm_plan.specs.Asked.{IsForm, word_below, word_found, words_of};
-ghost use Rattle.pm_plan.specs.Forms.{form_named};
+ghost use Rattle.pm_plan.specs.Forms.{choice_named, form_named, form_name};
 ghost use Rattle.pm_plan.specs.Needed.{IsGoodForm, IsWrong};
 ghost use Rattle.pm_plan.specs.declared.words.WordsError.TheVariants.{NoMemory};
 ghost use Rattle.clap.specs.Words.{subcommand_rows_of};
@@ -12,7 +12,7 @@ use pm_check::Order;
 
 /// The message for an invalid form.
 const FORM: &str =
-    "invalid --form: it must be blocks, dos, swapped or 2mg; 'pmach convert' converts images in other formats";
+    "invalid --form: it must be auto, blocks, dos, swapped or 2mg; 'pmach convert' converts images in other formats";
 
 /// How an image is stored in its file.
 #[derive(Clone, Copy)]
@@ -36,6 +36,40 @@ impl Form {
             _ => None,
         }
     }
+
+    /// Returns the word that names this form.
+    pub fn name(self) -> &'static str
+        ensures name { result.now ≡ form_name self }
+    {
+        match self {
+            Form::In(Order::Blocks) => "blocks",
+            Form::In(Order::Dos) => "dos",
+            Form::In(Order::Swapped) => "swapped",
+            Form::Headed => "2mg",
+        }
+    }
+}
+
+/// The forms of images that `--form` specifies.
+#[derive(Clone, Copy)]
+pub enum FormChoice {
+    /// All images have this form.
+    Named(Form),
+    /// Each image has the form in which it opens (`auto`).
+    Auto,
+}
+
+impl FormChoice {
+    /// Returns what `word` specifies: `auto`, or the name of a form. Returns `None` for any other word.
+    pub fn named(word: &str) -> Option<FormChoice>
+        ensures value { result ≡ choice_named word.now }
+    {
+        if word == "auto" {
+            return Some(FormChoice::Auto);
+        }
+        let form = Form::named(word)?;
+        Some(FormChoice::Named(form))
+    }
 }
 
 /// Returns the value of `--form` after a verb. Returns `None` if it is not given after a verb.
@@ -48,23 +82,25 @@ fn word_below<'a>(matches: &ArgMatches<'a>) -> Option<&'a str>
     }
 }
 
-/// Returns the form of the images that the arguments of a command specify. The default is `In(Blocks)`: only the image,
+/// Returns the forms of the images that the arguments of a command specify. The default is `In(Blocks)`: only the image,
 /// with its blocks in order.
 ///
 /// # Errors
 ///
-/// - The form is unknown: `Wrong`.
+/// - The word is neither `auto` nor the name of a form: `Wrong`.
 /// - The form is given both before and after a verb: `Wrong`.
 #[tactic(auto, unfolding(crate::specs::Asked::IsForm, crate::specs::Needed::IsGoodForm))]
-pub fn form_asked(matches: &ArgMatches<'_>) -> Result<Form, WordsError>
-    ensures asked { IfOk result (λ form. IsForm matches.now form) }
+pub fn form_asked(matches: &ArgMatches<'_>) -> Result<FormChoice, WordsError>
+    ensures asked { IfOk result (λ choice. IsForm matches.now choice) }
     ensures good { IsOk result → IsGoodForm matches.now }
     ensures taken { IsGoodForm matches.now → IsOkUnless result NoMemory }
     ensures refusal { IfErr result IsWrong }
 {
     match (found(matches, "form"), word_below(matches)) {
-        (None, None) => Ok(Form::In(Order::Blocks)),
-        (Some(word), None) | (None, Some(word)) => Form::named(word).ok_or(WordsError::Wrong(FORM)),
+        (None, None) => Ok(FormChoice::Named(Form::In(Order::Blocks))),
+        (Some(word), None) | (None, Some(word)) => {
+            FormChoice::named(word).ok_or(WordsError::Wrong(FORM))
+        }
         (Some(_), Some(_)) => Err(WordsError::Wrong("--form is given twice")),
     }
 }

@@ -1,9 +1,9 @@
 //! A file store that converts images. An image in the given form is converted to a volume with its blocks in order when
 //! it is read, and back to its form when it is written.
-ghost use Rattle.std.specs.Prelude.{◌≡◌, Bool, IfErr, IfOk, OnErr, OnOk, Some, option_map, string_bytes};
+ghost use Rattle.std.specs.Prelude.{◌≡◌, IfErr, IfOk, OnErr, OnOk};
 ghost use Rattle.pm_files.specs.Held.{Puts};
 ghost use Rattle.pm_plan.specs.Forms.{volume_of};
-ghost use Rattle.pm_plan.specs.InForm.{IsFound, PutsFormed, PutsVolume, form_at, in_form, is_path};
+ghost use Rattle.pm_plan.specs.InForm.{IsFound, PutsFormed, PutsVolume, form_at, in_form};
 
 use crate::form::Form;
 use pm_check::{Order, filed, volume_in};
@@ -11,48 +11,50 @@ use pm_files::{DiskFault, IMAGE_LIMIT, Store};
 use std::alloc::Global;
 use std::io::ErrorKind;
 
-/// A file store that converts all files from and to `form`, except the files at the paths `system` and `printer`. A
-/// path is one of these two only if it has the same bytes.
+/// A path with the form of the file at this path.
+#[derive(Drop)]
+pub struct PathForm {
+    /// The path. Only a path with the same bytes is this path.
+    pub path: String,
+    /// The form of the file.
+    pub form: Form,
+}
+
+/// A file store that converts all files from and to their forms.
 #[derive(Drop)]
 pub struct InForm<S> {
     /// The store with the unconverted files.
     pub store: S,
-    /// The form of the images.
+    /// The form of the files at all paths that `own` does not list.
     pub form: Form,
-    /// The path of a file that is not converted, such as the system's code file.
-    pub system: Option<String>,
-    /// The path of another file that is not converted, such as the printer's file.
-    pub printer: Option<String>,
+    /// The paths whose files have forms of their own, such as the path of the system's code file. If a path is listed
+    /// twice, its first form counts.
+    pub own: Vec<PathForm>,
     /// The allocator for converted images.
     pub alloc: Global,
 }
 
-/// Returns whether `path` has the same bytes as `one`. Returns `false` if `one` is `None`.
-fn is_path(path: &str, one: &Option<String>) -> bool
-    ensures value { result ≡ is_path path.now (option_map string_bytes one.now) }
+/// Returns the form of the file at `path`: the first form that `own` has for this path, and `form` if it has none.
+#[tactic(auto, unfolding(crate::specs::InForm::form_at))]
+fn form_at(form: Form, own: &[PathForm], path: &str) -> Form
+    ensures value { result ≡ form_at form own.now path.now }
 {
-    match one {
-        Some(one) => path == one.as_str(),
-        None => false,
-    }
-}
-
-/// Returns the form of the file at `path`: `In(Blocks)` if `path` is `system` or `printer`, and `form` otherwise.
-fn form_at(form: Form, system: &Option<String>, printer: &Option<String>, path: &str) -> Form
-    ensures value { result ≡ form_at form (option_map string_bytes system.now)
-        (option_map string_bytes printer.now) path.now }
-{
-    if is_path(path, system) || is_path(path, printer) {
-        Form::In(Order::Blocks)
-    } else {
-        form
+    match own {
+        [] => form,
+        [first, more @ ..] => {
+            if path == first.path.as_str() {
+                first.form
+            } else {
+                form_at(form, more, path)
+            }
+        }
     }
 }
 
 /// Returns the volume in a file with the bytes `file` and the form `form`. The blocks of the volume are in order. The
 /// only error is `NoMemory`.
 #[tactic(auto, using(pm_check::proofs::OrderLaws::turned_blocks))]
-fn volume_of(alloc: Global, form: Form, file: Vec<u8>) -> Result<Vec<u8>, DiskFault>
+pub(crate) fn volume_of(alloc: Global, form: Form, file: Vec<u8>) -> Result<Vec<u8>, DiskFault>
     ensures value { IfOk result (λ volume. volume.items ≡ volume_of form file.items) }
     ensures refusal { IfErr result (λ fault. fault ≡ DiskFault.NoMemory) }
 {
@@ -103,8 +105,7 @@ fn put_headed<S: Store>(
 }
 
 impl<S: Store> Store for InForm<S> {
-    ghost files = { λ s. in_form s.form (option_map string_bytes s.system) (option_map string_bytes s.printer)
-        (S.files s.store) };
+    ghost files = { λ s. in_form s.form s.own.items (S.files s.store) };
 
     ghost same = { λ s. S.same s.store };
 
@@ -117,7 +118,7 @@ impl<S: Store> Store for InForm<S> {
     #[tactic(auto, using(crate::proofs::InFormLaws::read_volume, crate::proofs::InFormLaws::holds_none))]
     fn read(&mut self, alloc: Global, path: &str) -> Result<Vec<u8>, DiskFault> {
         let bytes = self.store.read(alloc, path)?;
-        let form = form_at(self.form, &self.system, &self.printer, path);
+        let form = form_at(self.form, self.own.as_slice(), path);
         volume_of(alloc, form, bytes)
     }
 
@@ -131,23 +132,15 @@ impl<S: Store> Store for InForm<S> {
 
     #[tactic(auto, using(crate::proofs::InFormLaws::put_turned, crate::proofs::InFormLaws::put_blocks, crate::proofs::InFormLaws::put_volume, crate::proofs::InFormLaws::formed_turned, crate::proofs::InFormLaws::formed_blocks, crate::proofs::InFormLaws::formed_headed))]
     fn put(&mut self, path: &str, bytes: &[u8]) -> Result<(), DiskFault>
-        ensures puts { OnOk result (Puts
-            (in_form self.old.form (option_map string_bytes self.old.system) (option_map string_bytes self.old.printer)
-            (S.files self.old.store))
-            (in_form self.new.form (option_map string_bytes self.new.system) (option_map string_bytes self.new.printer)
-            (S.files self.new.store)) path.now bytes.now) }
+        ensures puts { OnOk result (Puts (in_form self.old.form self.old.own.items (S.files self.old.store))
+            (in_form self.new.form self.new.own.items (S.files self.new.store)) path.now bytes.now) }
         ensures held { S.held self.new.store ≡ S.held self.old.store }
-        ensures unchanged { OnErr result (
-            in_form self.new.form (option_map string_bytes self.new.system) (option_map string_bytes self.new.printer)
-            (S.files self.new.store)
-            ≡ in_form self.old.form (option_map string_bytes self.old.system) (option_map string_bytes self.old.printer)
-            (S.files self.old.store)) }
-        ensures formed { OnOk result (PutsFormed
-            (form_at self.old.form (option_map string_bytes self.old.system)
-            (option_map string_bytes self.old.printer) path.now)
+        ensures unchanged { OnErr result (in_form self.new.form self.new.own.items (S.files self.new.store)
+            ≡ in_form self.old.form self.old.own.items (S.files self.old.store)) }
+        ensures formed { OnOk result (PutsFormed (form_at self.old.form self.old.own.items path.now)
             (S.files self.old.store) (S.files self.new.store) path.now bytes.now) }
     {
-        match form_at(self.form, &self.system, &self.printer, path) {
+        match form_at(self.form, self.own.as_slice(), path) {
             Form::In(Order::Blocks) => self.store.put(path, bytes),
             Form::In(order) => {
                 let turned = order.turned(self.alloc, bytes)?;

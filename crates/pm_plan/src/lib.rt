@@ -1,7 +1,9 @@
 //! The arguments of the command line, and the job that they specify.
 #![tactic(auto)]
 
+mod auto_form;
 mod commands;
+mod compare_words;
 mod convert_words;
 mod file_words;
 mod folder_words;
@@ -10,19 +12,23 @@ mod in_form;
 mod run_words;
 mod search_words;
 mod shorthand;
+mod table_words;
 mod text_words;
 mod tips;
 mod trace_words;
 mod words;
 pub mod worked;
 
+pub use auto_form::{Detected, detect};
+pub use compare_words::ComparePlan;
 pub use convert_words::{ConvertPlan, Target};
 pub use file_words::{FilesPlan, SalvagePlan, Verb};
 pub use folder_words::{ExportPlan, ImportPlan};
-pub use form::Form;
-pub use in_form::InForm;
+pub use form::{Form, FormChoice};
+pub use in_form::{InForm, PathForm};
 pub use pm_check::Order;
 pub use run_words::{Others, Program, RunChoices};
 pub use search_words::{SearchPlan, Sought};
+pub use table_words::{TableForm, TablePlan};
 pub use text_words::{TextFiles, TextInput};
 pub use words::{Asked, Plan, WordsError, plan_of};

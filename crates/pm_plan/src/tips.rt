@@ -143,11 +143,11 @@ fn tip_for_name(word: &str) -> Option<&'static str> {
         "add" | "write" | "insert" | "store" => {
             "to add a file: pmach files --image IMAGE put NAME KIND <FILE; a text: puttext NAME <FILE"
         }
-        "compare" | "diff" | "cmp" => {
-            "to compare two volumes, export both and compare the folders: pmach files --image IMAGE export FOLDER"
+        "compare" | "cmp" => {
+            "to compare the files of two volumes: pmach files --image IMAGE diff OTHERIMAGE"
         }
         "resize" | "grow" | "enlarge" | "expand" => {
-            "to enlarge a volume, make a longer copy of the image with truncate, and then: files --image COPY salvage LARGER"
+            "to enlarge a volume, make a longer copy of the image with truncate, and then: pmach files --image COPY salvage LARGER"
         }
         "undelete" | "unremove" => {
             "a removed file may remain in a free area; 'list --all' shows the free areas"

@@ -9,13 +9,15 @@ ghost use Rattle.pm_plan.specs.Needed.{AreAllGood, AreGood, IsOptional, IsWrong,
 ghost use Rattle.pm_plan.specs.declared.words.WordsError.TheVariants.{NoCommand, NoMemory, NoValue};
 
 use crate::commands::all_commands;
+use crate::compare_words::{ComparePlan, compare_plan};
 use crate::convert_words::{ConvertPlan, convert_plan};
 use crate::file_words::{FilesPlan, SalvagePlan, files_plan, is_verb, salvage_plan};
 use crate::folder_words::{ExportPlan, ImportPlan, export_plan, import_plan};
-use crate::form::{Form, form_asked};
+use crate::form::{Form, FormChoice, form_asked};
 use crate::run_words::{Program, RunChoices, choices_of, program_of};
 use crate::search_words::{SearchPlan, search_plan};
 use crate::shorthand::name_image;
+use crate::table_words::{TablePlan, is_table, table_plan};
 use crate::text_words::{TextFiles, text_files};
 use crate::tips::{Told, tip_for_option, tip_for_verb, with_tip};
 use crate::trace_words::selection_of;
@@ -59,6 +61,10 @@ pub enum Plan {
     Export(ExportPlan),
     /// Adds the files of a folder to a volume.
     Import(ImportPlan),
+    /// Compares the files of two volumes.
+    Compare(ComparePlan),
+    /// Lists the files of a volume in a form that other programs read.
+    Table(TablePlan),
     /// Converts an image to another format, or prints its formats.
     Convert(ConvertPlan),
     /// Searches in images.
@@ -69,8 +75,8 @@ pub enum Plan {
 #[derive(Drop)]
 pub struct Asked {
     pub plan: Plan,
-    /// The form of the images.
-    pub form: Form,
+    /// The forms of the images.
+    pub form: FormChoice,
     /// Whether nothing is printed on standard error.
     pub is_quiet: bool,
 }
@@ -244,6 +250,10 @@ fn files_asked(alloc: Global, matches: &ArgMatches<'_>) -> Result<Plan, WordsErr
         Ok(Plan::Export(export_plan(alloc, matches)?))
     } else if is_verb(matches, "import") {
         Ok(Plan::Import(import_plan(alloc, matches)?))
+    } else if is_verb(matches, "diff") {
+        Ok(Plan::Compare(compare_plan(alloc, matches)?))
+    } else if is_table(matches) {
+        Ok(Plan::Table(table_plan(alloc, matches)?))
     } else {
         Ok(Plan::Files(files_plan(alloc, matches)?))
     }
@@ -435,7 +445,7 @@ pub fn plan_of(
                 limit: LIMIT,
                 selection: Selection::ALL,
             },
-            form: Form::In(Order::Blocks),
+            form: FormChoice::Named(Form::In(Order::Blocks)),
             is_quiet: false,
         });
     };

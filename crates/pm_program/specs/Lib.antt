@@ -9,3 +9,7 @@ pub mod Console
 pub mod Ended
 pub mod Searched
 pub mod Replaced
+pub mod Formed
+pub mod Opened
+pub mod Compared
+pub mod Tabled

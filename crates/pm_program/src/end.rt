@@ -1,8 +1,10 @@
 //! The end of the program: its exit status and its message.
 ghost use Rattle.std.specs.Prelude.{◌≡◌};
+ghost use Rattle.pm_program.specs.Compared.{compare_status};
 ghost use Rattle.pm_program.specs.Searched.{search_status};
 
 use crate::converted::Converted;
+use crate::formed::Several;
 use crate::searched::Hits;
 use pm_export::Unwritten;
 use pm_files::DiskFault;
@@ -71,8 +73,12 @@ pub enum End {
     Import(String, Vec<Left>, String),
     /// An image at this path was converted, or not. The line is the message; it is empty if there was no fault.
     Convert(String, Converted, String),
+    /// With `--form auto`, an image opens in several forms. No job was executed.
+    Form(Several),
     /// Images were searched. The line is the message; it is empty if no image was refused.
     Search(Hits, String),
+    /// Lines were written, and there is no message. The field states whether the lines report a difference of two volumes.
+    Lines(bool),
     /// The arguments are in conflict.
     Words(Conflict),
 }
@@ -92,6 +98,20 @@ fn status_of_search(hits: Hits) -> u8
     }
 }
 
+/// The exit status of a comparison that found a difference.
+const DIFFERENT: u8 = 7;
+
+/// Returns the exit status of a job that wrote lines: 7 if they report a difference of two volumes, and 0 otherwise.
+fn status_of_lines(differ: bool) -> u8
+    ensures status { result ≡ compare_status differ }
+{
+    if differ {
+        DIFFERENT
+    } else {
+        Exit::Ended.number()
+    }
+}
+
 impl End {
     /// Returns the exit status.
     pub fn status(&self) -> u8 {
@@ -105,7 +125,9 @@ impl End {
             End::Import(_, left, _) => status_of_import(left),
             End::Convert(_, converted, _) if converted.fault.is_some() => Exit::Refused.number(),
             End::Convert(..) => Exit::Ended.number(),
+            End::Form(_) => Exit::Refused.number(),
             End::Search(hits, _) => status_of_search(*hits),
+            End::Lines(differ) => status_of_lines(*differ),
             End::Words(_) => Exit::Usage.number(),
         }
     }

@@ -5,17 +5,21 @@ ghost use Rattle.pm_plan.specs.Asked.{paths_in};
 ghost use Rattle.pm_program.specs.Conflicts.{are_shared, conflict_of, is_other, is_taken_away, names_image};
 ghost use Rattle.pm_program.specs.Conflicts.{others_take_away, printer_conflict, takes_away};
 
-use crate::about::{Named, about, copy_of, named_in, no_program};
+use crate::about::{Named, about, named_in, no_program};
+use crate::compared::{Comparison, do_compare};
 use crate::console::{END, ESCAPE, Failed, Keys, Lined, Lines, Prompted, Typed};
 use crate::converted::{Converted, do_convert};
 use crate::end::{Conflict, End};
 use crate::ended::{do_gettext, do_puttext, read_text};
+use crate::expanded::expanded;
 use crate::exported::{Exported, SavedFolder, do_export, do_salvage_folder};
+use crate::formed::{Formed, Forms, forms_for};
 use crate::got::do_get;
 use crate::imported::{Imported, do_import};
 use crate::replaced::do_replace;
 use crate::saved::{Printing, SavedOfRun, do_debug, do_files, do_run, do_salvage, do_trace};
 use crate::searched::{Hits, do_search};
+use crate::tabled::do_table;
 use crate::texts::do_text;
 use pm_export::Unwritten;
 use pm_filer::FileCommand;
@@ -24,8 +28,9 @@ use pm_folder::Ends;
 use pm_import::Left;
 use pm_jobs::{AsmOutput, Reader, Saving, Sink, Source, Writer};
 use pm_plan::{
-    Asked, ConvertPlan, ExportPlan, FilesPlan, Form, ImportPlan, InForm, Order, Plan, Program,
-    RunChoices, SalvagePlan, Target, TextFiles, TextInput, Verb,
+    Asked, ComparePlan, ConvertPlan, ExportPlan, FilesPlan, Form, FormChoice, ImportPlan, InForm,
+    Order, Plan, Program, RunChoices, SalvagePlan, SearchPlan, TablePlan, Target, TextFiles,
+    TextInput, Verb,
 };
 use pm_tool::{Ending, Exit, Job, Outcome, Refusal};
 use pm_volume::VolumeFault;
@@ -164,6 +169,8 @@ enum Surprise {
     NoText,
     /// `run` without `--text`, which waits for the key Return in an input whose lines end with line feeds.
     NoReturn,
+    /// `salvage --second`, which reads blocks of files if the volume has no second copy of its directory.
+    NoSecond,
     /// Any other plan.
     None,
 }
@@ -174,6 +181,7 @@ fn surprise_of(plan: &Plan) -> Surprise {
         Plan::Dis(_, files) if files.output.is_none() => Surprise::NoCode,
         Plan::Files(plan) if plan.output.is_none() && gets_text(&plan.verb) => Surprise::NoText,
         Plan::Run(program, _) if !program.is_text => Surprise::NoReturn,
+        Plan::Salvage(plan) if plan.second => Surprise::NoSecond,
         _ => Surprise::None,
     }
 }
@@ -183,15 +191,15 @@ fn is_waiting(outcome: &Outcome) -> bool {
     outcome.ending == Some(Ending::Waiting)
 }
 
-/// Returns what a terminal shows after the message of `end`. `has_only_feeds` states whether the input has line feeds
+/// Returns what a terminal shows after the message of `ran`. `has_only_feeds` states whether the input has line feeds
 /// and no carriage return.
 fn note_of<W: Write>(
     surprise: Surprise,
-    end: &End,
+    ran: &Ran,
     lined: &Lined<W>,
     has_only_feeds: bool,
 ) -> Option<&'static str> {
-    let End::Outcome(outcome, _) = end else {
+    let End::Outcome(outcome, _) = &ran.end else {
         return None;
     };
     match (surprise, outcome.exit) {
@@ -202,10 +210,13 @@ fn note_of<W: Write>(
             "the file has no text; 'files list' shows its kind, and 'files get' writes its bytes",
         ),
         (Surprise::NoText, Exit::Ended) if lined.has_replaced() => Some(
-            "a ? stands for a byte that is no character; 'files get' writes the bytes of the file",
+            "a ? is shown in place of a byte that is no character; 'files get' writes the bytes of the file",
         ),
         (Surprise::NoReturn, Exit::Stopped) if has_only_feeds && is_waiting(outcome) => Some(
             "lines of the input end with line feeds, and the program waits for the key Return; --text converts them",
+        ),
+        (Surprise::NoSecond, _) if ran.lacks_second => Some(
+            "the directory states that it has no second copy, and that blocks 6 to 9 are of files; try salvage without --second",
         ),
         _ => None,
     }
@@ -327,6 +338,41 @@ enum Ended {
     Convert(String, Converted),
     /// Images were searched.
     Search(Hits),
+    /// The image at a path is no volume. The outcome is that of `files list` for it.
+    Refused(String, Outcome),
+    /// Lines were written. The field states whether they report a difference of two volumes.
+    Lines(bool),
+}
+
+/// Compares the files of two volumes.
+fn compare<S: Store, O: Sink>(
+    alloc: Global,
+    store: &mut S,
+    sink: &mut O,
+    plan: ComparePlan,
+) -> Result<Ended, DiskFault>
+    requires well { (O.seen sink.old).failed ≡ false }
+{
+    match do_compare(alloc, store, sink, &plan)? {
+        Comparison::HereRefused(outcome) => Ok(Ended::Refused(plan.path, outcome)),
+        Comparison::ThereRefused(outcome) => Ok(Ended::Refused(plan.other, outcome)),
+        Comparison::Done(differ) => Ok(Ended::Lines(differ)),
+    }
+}
+
+/// Lists the files of a volume in a form that other programs read.
+fn table<S: Store, O: Sink>(
+    alloc: Global,
+    store: &mut S,
+    sink: &mut O,
+    plan: TablePlan,
+) -> Result<Ended, DiskFault>
+    requires well { (O.seen sink.old).failed ≡ false }
+{
+    match do_table(alloc, store, sink, &plan)? {
+        Some(outcome) => Ok(Ended::Refused(plan.path, outcome)),
+        None => Ok(Ended::Lines(false)),
+    }
 }
 
 /// Converts an image.
@@ -440,6 +486,8 @@ fn act<S: Store, F: Folder, I: Source, O: Sink>(
         Plan::Import(plan) => return import(alloc, store, folder, source, sink, plan),
         Plan::Convert(plan) => return convert(alloc, store, sink, plan),
         Plan::Search(plan) => return Ok(Ended::Search(do_search(alloc, store, sink, &plan)?)),
+        Plan::Compare(plan) => return compare(alloc, store, sink, plan),
+        Plan::Table(plan) => return table(alloc, store, sink, plan),
     };
     Ok(Ended::Job(outcome))
 }
@@ -819,78 +867,85 @@ fn folder_path(alloc: Global, plan: &Plan) -> Option<String> {
     }
 }
 
-/// Two paths of a plan that name no image. `--form` does not apply to the files at these paths.
-///
-/// - The first is the path of the system's code file. For `asm` and `dis` it is the path of the file that is read.
-/// - The second is the path of the printer's file. For `debug` it is the path of the file with console input. For the
-///   other commands it is the value of `--output`.
-type OwnPaths = (Option<String>, Option<String>);
-
-/// Returns the two paths of `plan` that name no image.
-fn own_paths(alloc: Global, plan: &Plan) -> Result<OwnPaths, AllocError> {
+/// Returns `plan` with the files of each folder in place of the folder, if the plan is a search.
+fn with_files<R: Host + AllocGlobal>(rt: &R, plan: Plan) -> Result<Plan, AllocError> {
     match plan {
-        Plan::Run(program, choices) => {
-            let system = copy_of(alloc, &program.system)?;
-            Ok((system, copy_of(alloc, &choices.printer)?))
+        Plan::Search(SearchPlan { sought, images }) => {
+            let images = expanded(rt, rt.alloc(), images)?;
+            Ok(Plan::Search(SearchPlan { sought, images }))
         }
-        Plan::Trace(program, _, other) | Plan::Debug(program, other) => {
-            let system = copy_of(alloc, &program.system)?;
-            Ok((system, copy_of(alloc, other)?))
-        }
-        Plan::Asm(_, files) | Plan::Dis(_, files) => {
-            let read = match &files.input {
-                TextInput::File(path) => Some(String::from_str(alloc, path.as_str())?),
-                TextInput::Standard | TextInput::OnImage { .. } => None,
-            };
-            Ok((read, copy_of(alloc, &files.output)?))
-        }
-        Plan::Files(plan) => Ok((None, copy_of(alloc, &plan.output)?)),
-        _ => Ok((None, None)),
+        plan => Ok(plan),
     }
 }
 
-/// Returns `store` as a store that converts the images of `plan` from and to `form`. Returns `AllocError` if memory is
-/// exhausted.
-fn in_form<S: Drop>(
-    alloc: Global,
-    store: S,
-    form: Form,
-    plan: &Plan,
-) -> Result<InForm<S>, AllocError> {
-    let (system, printer) = match form {
-        Form::In(Order::Blocks) => (None, None),
-        _ => own_paths(alloc, plan)?,
-    };
-    Ok(InForm {
-        store,
-        form,
-        system,
-        printer,
-        alloc,
-    })
+/// The offset of the word in an image that has the number of the block after its directory. It is 6 if the volume has no
+/// second copy of its directory.
+const FILES_BEGIN: usize = 1026;
+
+/// Returns whether the directory in block 2 of `image` states that the volume has no second copy of its directory.
+fn states_no_second(image: &[u8]) -> bool {
+    image.get(FILES_BEGIN..FILES_BEGIN + 2) == Some([6, 0].as_slice())
 }
 
-/// Executes the job that `asked` specifies and returns its end. If `is_told`, the end names the file that a refusal is
-/// about. `is_told` states whether standard error is a terminal.
-fn end_of_plan<R: Host + AllocGlobal, I: Source, O: Sink>(
+/// Returns whether `plan` is `salvage --second`, and the directory of its image states that there is no second copy.
+fn lacks_second<S: Store>(alloc: Global, store: &mut S, plan: &Plan) -> bool {
+    match plan {
+        Plan::Salvage(plan) if plan.second => match store.read(alloc, plan.path.as_str()) {
+            Ok(image) => states_no_second(&image),
+            Err(_) => false,
+        },
+        _ => false,
+    }
+}
+
+/// What the execution of a job gave.
+#[derive(Drop)]
+struct Ran {
+    end: End,
+    /// Whether `salvage --second` was executed on an image whose directory states that there is no second copy.
+    lacks_second: bool,
+}
+
+/// Executes the job that `asked` specifies. If `is_told`, the end names the file that a refusal is about. `is_told` states
+/// whether standard error is a terminal. `forms` has the forms of the files of the plan.
+fn run_plan<R: Host + AllocGlobal, I: Source, O: Sink>(
     rt: &R,
     store: HostStore<R>,
     source: &mut I,
     sink: &mut O,
     asked: Asked,
+    forms: Forms,
+    is_told: bool,
+) -> Ran
+    requires well { AreWell (both (I.seen source.old) (O.seen sink.old)) }
+{
+    let form = forms.first;
+    let mut files = forms.store(rt.alloc(), store);
+    let lacks_second = is_told && lacks_second(rt.alloc(), &mut files, &asked.plan);
+    let end = match with_files(rt, asked.plan) {
+        Ok(plan) => end_of_plan(rt, files, source, sink, plan, form, is_told),
+        Err(_) => End::File(DiskFault::NoMemory, None),
+    };
+    Ran { end, lacks_second }
+}
+
+/// Executes the job of `plan` with the files `files`, and returns its end, as `run_plan` states. `form` is the form of the
+/// first image.
+fn end_of_plan<R: Host + AllocGlobal, I: Source, O: Sink>(
+    rt: &R,
+    mut files: InForm<HostStore<R>>,
+    source: &mut I,
+    sink: &mut O,
+    plan: Plan,
+    form: Form,
     is_told: bool,
 ) -> End
     requires well { AreWell (both (I.seen source.old) (O.seen sink.old)) }
 {
-    let Asked { plan, form, .. } = asked;
     let named = if is_told {
         named_in(rt.alloc(), &plan)
     } else {
         None
-    };
-    let mut files = match in_form(rt.alloc(), store, form, &plan) {
-        Ok(files) => files,
-        Err(_) => return End::File(DiskFault::NoMemory, None),
     };
     let mut folder = HostFolder::new(rt);
     let path = folder_path(rt.alloc(), &plan);
@@ -900,6 +955,10 @@ fn end_of_plan<R: Host + AllocGlobal, I: Source, O: Sink>(
         Ok(Ended::Import(path, left)) => end_of_import(rt.alloc(), path, left),
         Ok(Ended::Convert(path, converted)) => end_of_conversion(rt.alloc(), path, converted),
         Ok(Ended::Search(hits)) => end_of_search(rt.alloc(), hits),
+        Ok(Ended::Refused(path, outcome)) => {
+            end_of_job(rt.alloc(), &Some(Named::Image(path)), form, outcome)
+        }
+        Ok(Ended::Lines(differ)) => End::Lines(differ),
         Err(fault) => End::File(fault, files.store.into_refused().or(path)),
     }
 }
@@ -920,42 +979,74 @@ fn is_text(plan: &Plan) -> bool {
     }
 }
 
+/// Returns the result of a command line whose job was not executed.
+fn not_done(end: End, is_quiet: bool) -> Done {
+    Done {
+        end,
+        begun: false,
+        is_silent: is_quiet,
+        has_system: false,
+        note: None,
+    }
+}
+
+/// Returns what a terminal shows about the form of the first image, if the forms were detected.
+fn note_of_forms(choice: FormChoice, forms: &Forms) -> Option<&'static str> {
+    match choice {
+        FormChoice::Named(_) => None,
+        FormChoice::Auto => Some(match forms.first {
+            Form::In(Order::Blocks) => "--form auto: the format of the image is blocks",
+            Form::In(Order::Dos) => "--form auto: the format of the image is dos",
+            Form::In(Order::Swapped) => "--form auto: the format of the image is swapped",
+            Form::Headed => "--form auto: the format of the image is 2mg",
+        }),
+    }
+}
+
 /// Executes the job that `asked` specifies with the standard streams and the files of the host system.
 pub fn follow<R: Host + Input + Print + Eprint + AllocGlobal>(rt: &R, asked: Asked) -> Done {
+    let mut store = HostStore::new(rt);
+    if let Some(conflict) = conflict_in(&store, &asked.plan) {
+        return not_done(End::Words(conflict), asked.is_quiet);
+    }
+    match forms_for(rt.alloc(), &mut store, asked.form, &asked.plan) {
+        Ok(Formed::Found(forms)) => follow_in(rt, store, forms, asked),
+        Ok(Formed::Several(several)) => not_done(End::Form(several), asked.is_quiet),
+        Err(fault) => not_done(End::File(fault, store.into_refused()), asked.is_quiet),
+    }
+}
+
+/// Executes the job that `asked` specifies, as `follow` states. `forms` has the forms of its files.
+fn follow_in<R: Host + Input + Print + Eprint + AllocGlobal>(
+    rt: &R,
+    store: HostStore<R>,
+    forms: Forms,
+    asked: Asked,
+) -> Done {
     let plan = &asked.plan;
     let is_quiet = asked.is_quiet;
     let at = Terminals::of(rt, is_quiet);
-    let store = HostStore::new(rt);
-    if let Some(conflict) = conflict_in(&store, plan) {
-        return Done {
-            end: End::Words(conflict),
-            begun: false,
-            is_silent: is_quiet,
-            has_system: false,
-            note: None,
-        };
-    }
     let has_system = has_system(plan);
     let end = end_key(plan);
     let has_keys = at.input && matches!(plan, Plan::Run(_, _));
     let is_text = is_text(plan);
     let surprise = surprise_of(plan);
+    let of_forms = note_of_forms(asked.form, &forms);
     let mut keys = Typed::new(Keys::new(rt.reader(), has_keys, end), is_text);
     let mut lined = Lined::new(rt.alloc(), io::writer(rt), at.lines_of(plan));
     let mut source = Reader::new(prompted(rt, &mut keys, at.prompt(plan)));
     let mut sink = Writer::new(&mut lined);
-    let end = end_of_plan(rt, store, &mut source, &mut sink, asked, at.error);
+    let mut ran = run_plan(rt, store, &mut source, &mut sink, asked, forms, at.error);
     drop(sink);
     drop(source);
-    let rest = lined.finish();
-    let end = match (lined.failed(), rest) {
-        (Some(Failed::NoText), _) => End::Words(Conflict::BytesOnTerminal),
-        (_, Err(error)) => End::File(DiskFault::Write(error.kind()), None),
-        _ => end,
-    };
-    let note = note_of(surprise, &end, &lined, keys.has_only_feeds());
+    match (lined.finish(), lined.failed()) {
+        (_, Some(Failed::NoText)) => ran.end = End::Words(Conflict::BytesOnTerminal),
+        (Err(error), _) => ran.end = End::File(DiskFault::Write(error.kind()), None),
+        _ => {}
+    }
+    let note = note_of(surprise, &ran, &lined, keys.has_only_feeds()).or(of_forms);
     Done {
-        end,
+        end: ran.end,
         note,
         // An unfinished line of the output is also an unfinished line of standard error on the same terminal.
         begun: lined.has_begun() && at.output && at.error,

@@ -1,17 +1,18 @@
 //! The files of a folder, added to a volume.
-ghost use Rattle.std.specs.Prelude.{◌≡◌, IfOk, OnErr, OnOk, not, string_bytes};
+ghost use Rattle.std.specs.Prelude.{◌≡◌, IfOk, OnErr, OnOk, false, not, string_bytes};
 ghost use Rattle.pm_jobs.specs.Streams.{AreWell, both};
-ghost use Rattle.pm_program.specs.Imported.{ImportsInto, WritesImage};
+ghost use Rattle.pm_program.specs.Imported.{ImportsInto, ShowsList, WritesImage};
 ghost use Rattle.pm_program.specs.Saved.{held_by};
 
 use pm_filer::FileCommand;
 use pm_files::{DiskFault, Folder, Store};
-use pm_import::{Left, import};
-use pm_jobs::{Sink, Source};
+use pm_import::{ImportReport, Left, import};
+use pm_jobs::{Sink, Source, write_all};
 use pm_plan::ImportPlan;
 use pm_tool::{Job, Outcome};
 use pm_volume::Volume;
 use std::alloc::Global;
+use std::io::ErrorKind;
 
 /// How an import ended.
 #[derive(Drop)]
@@ -46,16 +47,35 @@ fn put<S: Store>(store: &mut S, plan: &ImportPlan, image: &[u8]) -> Result<(), D
     store.put(plan.path.as_str(), image)
 }
 
+/// Writes the lines that `LIST` would have to `sink`, which must not have failed, if the import is a trial.
+///
+/// # Errors
+///
+/// `sink` failed: `Write`.
+fn show<O: Sink>(sink: &mut O, plan: &ImportPlan, list: &[u8]) -> Result<(), DiskFault>
+    requires well { (O.seen sink.old).failed ≡ false }
+    ensures shows { OnOk result (ShowsList plan.now list.now (O.seen sink.old).contents (O.seen sink.new).contents) }
+{
+    if !plan.is_trial {
+        return Ok(());
+    }
+    match write_all(sink, list) {
+        Ok(()) => Ok(()),
+        Err(_) => Err(DiskFault::Write(ErrorKind::Other)),
+    }
+}
+
 /// Adds the files of a folder to the volume of an image, and writes the image. The image is written once, after all
-/// files were added. Neither stream may have failed before.
+/// files were added. If the import is a trial, the lines that `LIST` would have for a folder without `LIST` are written
+/// to `sink` instead. Neither stream may have failed before.
 ///
 /// # Errors
 ///
 /// No file has changed.
 ///
 /// - The fault of locking or reading the image.
-/// - The fault of opening the folder, or of reading its `LIST`. `NoMemory`.
-/// - The fault of writing the image.
+/// - The fault of opening or reading the folder. `NoMemory`.
+/// - The fault of writing the image, or of writing to `sink`.
 pub fn do_import<S: Store, I: Source, O: Sink, F: Folder>(
     alloc: Global,
     store: &mut S,
@@ -66,7 +86,7 @@ pub fn do_import<S: Store, I: Source, O: Sink, F: Folder>(
 ) -> Result<Imported, DiskFault>
     requires well { AreWell (both (I.seen source.old) (O.seen sink.old)) }
     ensures imports { IfOk result (λ imported. ImportsInto (S.files store.old) (S.files store.new) plan.now
-        (F.files folder.new) (F.at folder.new) imported) }
+        (F.files folder.new) (F.at folder.new) (O.seen sink.old).contents (O.seen sink.new).contents imported) }
     ensures held { OnOk result (S.held store.new
         ≡ held_by (not plan.now.is_trial) (string_bytes plan.now.path) (S.held store.old)) }
     ensures unchanged { OnErr result (S.files store.new ≡ S.files store.old) }
@@ -75,7 +95,15 @@ pub fn do_import<S: Store, I: Source, O: Sink, F: Folder>(
     let image = store.read(alloc, plan.path.as_str())?;
     match Volume::open(image) {
         Ok(mut volume) => {
-            let left = import(alloc, folder, &mut volume, plan.folder.as_str(), plan.ends)?;
+            let folder_path = plan.folder.as_str();
+            let ImportReport { left, list } = import(
+                alloc,
+                folder,
+                &mut volume,
+                folder_path,
+                plan.ends,
+            )?;
+            show(sink, plan, &list)?;
             put(store, plan, &volume.into_bytes())?;
             Ok(Imported::Done(left))
         }

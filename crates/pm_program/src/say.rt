@@ -5,6 +5,7 @@ use crate::end::{End, first_unread};
 use pm_convert::ConvertFault;
 use pm_filer::FilerFault;
 use pm_import::Why;
+use pm_plan::Form;
 use pm_textfile::TextFault;
 use pm_tool::{Ending, Outcome, Reason, Refusal, RunReason, Whereabouts};
 use std::fmt;
@@ -164,11 +165,13 @@ fn message(end: &End, is_silent: bool) -> &str
             None => "",
         },
         End::Convert(_, _, line) | End::Search(_, line) => line.as_str(),
+        End::Form(_) => "refused form 1",
         End::Import(_, left, _) if left.is_empty() => "",
         End::Import(_, left, line) => match first_unread(left) {
             Some(fault) => fault.fault().text(),
             None => line.as_str(),
         },
+        End::Lines(_) => "",
         End::Words(conflict) => conflict.text(),
     }
 }
@@ -219,9 +222,13 @@ fn explain<R: Eprint>(rt: &R, end: &End, has_system: bool) {
             explain_refusal(rt, outcome, about);
             Ok(())
         }
-        End::Folder(..) | End::Import(..) | End::Convert(..) | End::Search(..) | End::Words(_) => {
-            Ok(())
-        }
+        End::Folder(..)
+        | End::Import(..)
+        | End::Convert(..)
+        | End::Form(_)
+        | End::Search(..)
+        | End::Lines(_)
+        | End::Words(_) => Ok(()),
     };
 }
 
@@ -247,7 +254,7 @@ struct NotAdded(Why);
 impl fmt::Display for NotAdded {
     fn fmt<W: fmt::Write>(&self, f: &mut fmt::Formatter<W>) -> fmt::Result {
         match self.0 {
-            Why::Line => f.write_str("LIST has no valid line for it"),
+            Why::Line => f.write_str("this line of LIST is not valid"),
             Why::Unread(fault) => f.write_str(fault.reason()),
             Why::Refused(FilerFault::Text(fault @ TextFault::BadByte(_))) => {
                 write!(
@@ -296,10 +303,37 @@ fn note_conversion<R: Eprint>(rt: &R, end: &End) {
         }
         (Some(fault), _) => eprintln!(rt; "pmach: {path}: {}", fault.text()),
         (None, _) if converted.is_no_volume => eprintln!(rt;
-            "pmach: {path}: it opens as no volume in this format; its blocks are written, for 'files check' and 'files salvage'"
+            "pmach: {path}: the image opens as no volume in this format; its blocks are written, for 'files check' and 'files salvage'"
         ),
         (None, _) => Ok(()),
     };
+}
+
+/// The names of forms, with a comma and a space between them.
+#[derive(Clone, Copy)]
+struct FormNames<'a>(&'a [Form]);
+
+impl fmt::Display for FormNames<'_> {
+    fn fmt<W: fmt::Write>(&self, f: &mut fmt::Formatter<W>) -> fmt::Result {
+        for (place, form) in self.0.iter().enumerate() {
+            if place > 0 {
+                f.write_str(", ")?;
+            }
+            f.write_str(form.name())?;
+        }
+        Ok(())
+    }
+}
+
+/// Prints in which forms an image opens, if `end` is that it opens in several.
+fn name_forms<R: Eprint>(rt: &R, end: &End) {
+    if let End::Form(several) = end {
+        let path = Plain(several.path.as_str());
+        let forms = FormNames(several.forms.as_slice());
+        let _ = eprintln!(rt;
+            "pmach: {path}: the image opens in several formats: {forms}; choose one of them with --form"
+        );
+    }
 }
 
 /// How messages are written to standard error.
@@ -331,6 +365,7 @@ pub fn say<R: Eprint + AllocGlobal>(rt: &R, end: &End, manner: Manner) {
     name_unwritten(rt, end);
     name_left(rt, end);
     note_conversion(rt, end);
+    name_forms(rt, end);
     if manner.explains {
         explain(rt, end, manner.has_system);
     }

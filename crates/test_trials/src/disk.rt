@@ -249,6 +249,24 @@ impl Disk {
         Ok(String::from_str(self.alloc, path)?)
     }
 
+    /// Returns the names in the folder at `path`, the latest first. The path can be that of an open folder.
+    pub(crate) fn names_in(&self, alloc: Global, path: &str) -> io::Result<Vec<String>> {
+        let opened = self
+            .open_at(path)
+            .and_then(|number| self.folder_name(number));
+        let folder = opened.unwrap_or(path).trim_end_matches('/');
+        let mut names = Vec::new(alloc);
+        for name in self.names.iter().rev() {
+            let rest = name.path.strip_prefix(folder);
+            if let Some(name) = rest.and_then(|rest| rest.strip_prefix('/')) {
+                if !name.contains('/') {
+                    names.push(String::from_str(alloc, name)?)?;
+                }
+            }
+        }
+        Ok(names)
+    }
+
     /// Adds an empty folder.
     pub(crate) fn add_folder(&mut self, path: &str) -> io::Result<()> {
         let number = self.add(path)?;

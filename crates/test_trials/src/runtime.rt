@@ -83,6 +83,9 @@ impl Read for FakeFile<'_> {
         let Some(inode) = disk.inodes.get(self.inode) else {
             return Err(missing());
         };
+        if inode.is_folder {
+            return Err(io::Error::from(ErrorKind::IsADirectory));
+        }
         let Some(rest) = inode.bytes.as_slice().get(self.at..) else {
             return Ok(0);
         };
@@ -393,6 +396,14 @@ impl<'a> Host for FakeRuntime<'a> {
             Some(inode) => Ok(disk.node_of(inode)),
             None => Ok(None),
         }
+    }
+
+    fn names(&self, alloc: Global, path: &str) -> io::Result<Vec<String>> {
+        let Ok(mut disk) = self.disk.try_borrow_mut() else {
+            return Err(in_use());
+        };
+        disk.tick('T')?;
+        disk.names_in(alloc, path)
     }
 
     fn make(&self, path: &str, mode: u32) -> io::Result<FakeFile<'a>> {

@@ -45,6 +45,7 @@ replay_page() {
         awk '/^```/ { inside = !inside; next } inside' "$here/$page" >"$scratch/wanted"
         replay "$(sed -n 's/^    \(echo .* | .\/pmach raw\)$/\1/p' "$here/$page" | head -n 1)"
         ;;
+    docs/LIBRARY.md) "$PMACH" --library >"$scratch/build" 2>&1 ;;
     examples/*/*) cd "$(dirname "$page")" || exit 1 ;;
     esac
     for name in $(sed -n 's/.*into a file `\([^`]*\)`.*/\1/p' "$here/$page"); do save_text "$name"; done

@@ -2,7 +2,7 @@
 use Rattle.std.proofs.Common.{◌≡◌, ◌<◌, ◌≤◌, ℕ, zero, suc, ◌+◌, ◌-◌, ◌*◌, ◌%◌, Bool, true, false, cond, List, [], ◌∷◌, ◌++◌, ◌∙◌}
 use Rattle.std.proofs.Common.{ap, sym, refl, subst, inl, inr, length, arith, Option, Some, None, Result, Ok, Err}
 use Rattle.std.proofs.Math.Seq.{set-append_seam}
-use Rattle.std.specs.Prelude.{slice_set}
+use Rattle.std.specs.Prelude.{slice_get, slice_set, if◌then◌else◌}
 use Rattle.std.specs.List.{All, find, position_from}
 use Rattle.std.proofs.lemmas.Bool.{cases_Bool}
 use Rattle.std.proofs.lemmas.List.Elements.{All-head, All-tail}
@@ -18,9 +18,9 @@ use Rattle.pm_volume.specs.declared.fault.VolumeFault.{VolumeFault}
 use Rattle.pm_volume.proofs.SecondLaws.{Changed-kinded}
 use Rattle.pm_volume.proofs.RenameLaws.{files-split}
 use Rattle.pm_volume.proofs.SlotChanges.{length-entries_from}
-use Rattle.pm_filer.specs.Filed.{bytes_of_file, copied, copied_bytes, copied_from, filed}
-use Rattle.pm_filer.specs.Laws.{file_given}
-use Rattle.law_disks.specs.Kinds.{AreAlike, CopyIsGot, CopyKeepsKind, KindIsSet, KindKeepsNames}
+use Rattle.pm_filer.specs.Filed.{bytes_of_file, copied, copied_bytes, copied_from, file_in_slot, filed}
+use Rattle.pm_filer.specs.Laws.{IsVolumeOfBytes, file_given}
+use Rattle.law_disks.specs.Kinds.{AreAlike, CopyIsGot, CopyKeepsKind, CopySlotIsGot, CopySlotKeepsKind, KindIsSet, KindKeepsNames}
 use Rattle.law_disks.proofs.FoundFiles.{found_stays, position-within}
 use Rattle.law_disks.proofs.GivenLaws.{added_found, added_given, changed-ok}
 use Rattle.law_disks.proofs.SalvagedFiles.{IsOfBytes, Small, entry-bytes, small-bytes, small-range}
@@ -64,29 +64,78 @@ found-bytes directory small p n (suc left) e is = elim (cases_Bool (p (entry_in 
   | inr on ↦ found-bytes directory small p (n + 1) left e (rw on at is)
 ]
 
+-- If the elements of a directory are bytes, then the entry in each of its slots has only byte values.
+slot-bytes : (directory : List ℕ) → Small directory → (n left i : ℕ) (e : Entry)
+    → slice_get (entries_from directory n left) i ≡ Some e → IsOfBytes e
+unfolding entries_from
+slot-bytes directory small n zero zero e is = cc
+slot-bytes directory small n zero (suc i) e is = cc
+slot-bytes directory small n (suc left) zero e is =
+    let same : entry_in directory n ≡ e = some_of (entry_in directory n) e is in
+    subst IsOfBytes same (entry-bytes _ (small-range directory (26 * n) (26 * n + 26) small))
+slot-bytes directory small n (suc left) (suc i) e is = slot-bytes directory small (n + 1) left i e is
+
+-- The directory of a volume of bytes has only byte values.
+small-directory : (from : List ℕ) → IsVolumeOfBytes from → Small (directory_of from)
+small-directory from there = small-range from 1024 3072 (small-bytes from there.bytes)
+
+named-bytes : (from name : List ℕ) (e : Entry) → IsVolumeOfBytes from → file_named from name ≡ Some e → IsOfBytes e
+named-bytes from name e there found =
+    found-bytes (directory_of from) (small-directory from there) (is_named name) 1 (file_count (directory_of from)) e found
+
+in_slot-bytes : (from : List ℕ) (slot : ℕ) (e : Entry) → IsVolumeOfBytes from → file_in_slot from slot ≡ Some e
+    → IsOfBytes e
+in_slot-bytes from zero e there found = cc
+in_slot-bytes from (suc before) e there found =
+    slot-bytes (directory_of from) (small-directory from there) 1 (file_count (directory_of from)) before e found
+
+-- A file that was copied from an entry with byte values is given by its name, and has the kind and the date of the
+-- entry.
+module _ (image name from : List ℕ) (entry : Option Entry) (new : List ℕ) (b : IsVolumeOfBytes image)
+    (c : IsCopied image name from entry new) (of_bytes : IsOfBytes c.e) where
+  given_copied : (other : List ℕ) → file_given new other
+      ≡ (if is_same_name name other then bytes_of_file from entry else file_given image other)
+  given_copied other =
+      let has : bytes_of_file from entry ≡ Some c.bytes = ap (bytes_of_file from) c.found ∙ c.had in
+      added_given image name c.e.kind c.bytes c.e.date new b of_bytes.date c.made other
+      ∙ sym (ap (λ given. cond (is_same_name name other) given (file_given image other)) has)
+
+  alike_copied : (old copy : Entry) → entry ≡ Some old → file_named new name ≡ Some copy → AreAlike copy old
+  alike_copied old copy found told =
+      let made = added_found image name c.e.kind c.bytes c.e.date new b of_bytes.date c.made in
+      let same = some_of (new_entry made.0 name c.e.kind (length c.bytes) c.e.date) copy (sym made.1 ∙ told) in
+      let own = some_of c.e old (sym c.found ∙ found) in
+      let kind : c.e.kind % 16 ≡ c.e.kind = omega (arith, of_bytes.kind) in record {
+        kind = sym (ap (λ (e : Entry). e.kind) same) ∙ kind ∙ ap (λ (e : Entry). e.kind) own;
+        date = sym (ap (λ (e : Entry). e.date) same) ∙ ap (λ (e : Entry). e.date) own;
+      }
+
 pub copy_is_got : CopyIsGot
 unfolding filed
 copy_is_got image name from f b there done other =
     let c = IsCopied-from_ok image name from (file_named from name) (image_fault from) f.image (changed-ok _ f done) in
-    let small = small-range from 1024 3072 (small-bytes from there.bytes) in
-    let of_bytes = found-bytes (directory_of from) small (is_named name) 1 (file_count (directory_of from)) c.e c.found in
-    let has : file_given from name ≡ Some c.bytes = ap (bytes_of_file from) c.found ∙ c.had in
-    added_given image name c.e.kind c.bytes c.e.date f.image b of_bytes.date c.made other
-    ∙ sym (ap (λ given. cond (is_same_name name other) given (file_given image other)) has)
+    given_copied image name from (file_named from name) f.image b c (named-bytes from name c.e there c.found) other
 
 pub copy_keeps_kind : CopyKeepsKind
 unfolding filed
 copy_keeps_kind image name from f b there done old new found told =
     let c = IsCopied-from_ok image name from (file_named from name) (image_fault from) f.image (changed-ok _ f done) in
-    let small = small-range from 1024 3072 (small-bytes from there.bytes) in
-    let of_bytes = found-bytes (directory_of from) small (is_named name) 1 (file_count (directory_of from)) c.e c.found in
-    let made = added_found image name c.e.kind c.bytes c.e.date f.image b of_bytes.date c.made in
-    let same = some_of (new_entry made.0 name c.e.kind (length c.bytes) c.e.date) new (sym made.1 ∙ told) in
-    let own = some_of c.e old (sym c.found ∙ found) in
-    let kind : c.e.kind % 16 ≡ c.e.kind = omega (arith, of_bytes.kind) in record {
-      kind = sym (ap (λ (e : Entry). e.kind) same) ∙ kind ∙ ap (λ (e : Entry). e.kind) own;
-      date = sym (ap (λ (e : Entry). e.date) same) ∙ ap (λ (e : Entry). e.date) own;
-    }
+    alike_copied image name from (file_named from name) f.image b c (named-bytes from name c.e there c.found)
+    old new found told
+
+pub slot_copy_is_got : CopySlotIsGot
+unfolding filed
+slot_copy_is_got image name from slot f b there done other =
+    let entry = file_in_slot from slot in
+    let c = IsCopied-from_ok image name from entry (image_fault from) f.image (changed-ok _ f done) in
+    given_copied image name from entry f.image b c (in_slot-bytes from slot c.e there c.found) other
+
+pub slot_copy_keeps_kind : CopySlotKeepsKind
+unfolding filed
+slot_copy_keeps_kind image name from slot f b there done old new found told =
+    let entry = file_in_slot from slot in
+    let c = IsCopied-from_ok image name from entry (image_fault from) f.image (changed-ok _ f done) in
+    alike_copied image name from entry f.image b c (in_slot-bytes from slot c.e there c.found) old new found told
 
 -- ---- another kind
 

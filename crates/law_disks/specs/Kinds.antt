@@ -6,7 +6,7 @@ use Rattle.pm_volume.specs.Directory.{IsVolume}
 use Rattle.pm_volume.specs.Files.{file_named}
 use Rattle.pm_volume.specs.Names.{is_same_name}
 use Rattle.pm_volume.specs.declared.entry.Entry.{Entry}
-use Rattle.pm_filer.specs.Filed.{Copy, Filed, Kind, filed}
+use Rattle.pm_filer.specs.Filed.{Copy, CopySlot, Filed, Kind, bytes_of_file, file_in_slot, filed}
 use Rattle.pm_filer.specs.Laws.{IsVolumeOfBytes, file_given}
 
 -- After a successful `Copy` from a volume of bytes `from` to another volume of bytes, the name `name` gives what it
@@ -30,6 +30,24 @@ CopyKeepsKind =
     (image name from : List ℕ) (f : Filed) → IsVolumeOfBytes image → IsVolumeOfBytes from
     → filed image (Copy name from) ≡ Ok f
     → (there here : Entry) → file_named from name ≡ Some there → file_named f.image name ≡ Some here
+    → AreAlike here there
+
+-- After a successful `CopySlot` from a volume of bytes `from` to another volume of bytes, the name `name` gives the bytes
+-- of the file in the slot `slot` of `from`. Every other name gives what it gave before.
+abbrev pub CopySlotIsGot : Type 0
+CopySlotIsGot =
+    (image name from : List ℕ) (slot : ℕ) (f : Filed) → IsVolumeOfBytes image → IsVolumeOfBytes from
+    → filed image (CopySlot slot name from) ≡ Ok f
+    → (other : List ℕ) → file_given f.image other
+    ≡ (if is_same_name name other then bytes_of_file from (file_in_slot from slot) else file_given image other)
+
+-- After a successful `CopySlot`, the first file with the name `name` has the kind and the date of the file in the slot
+-- `slot` of the volume `from`.
+abbrev pub CopySlotKeepsKind : Type 0
+CopySlotKeepsKind =
+    (image name from : List ℕ) (slot : ℕ) (f : Filed) → IsVolumeOfBytes image → IsVolumeOfBytes from
+    → filed image (CopySlot slot name from) ≡ Ok f
+    → (there here : Entry) → file_in_slot from slot ≡ Some there → file_named f.image name ≡ Some here
     → AreAlike here there
 
 -- After a successful `Kind`, the first file with the name `name` has the kind `kind`, modulo 16, and its entry is

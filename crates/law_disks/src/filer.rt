@@ -4,7 +4,8 @@
 ghost use Rattle.pm_filer.specs.Laws.{ChangeKeepsOthers, KrunchKeepsFree, KrunchLeavesOneGap, NamesAreKept};
 ghost use Rattle.pm_filer.specs.Laws.{NewNameGives, PutFindsRoom, PutIsGot, PutIsLowest, RemovalKeepsOthers};
 ghost use Rattle.pm_filer.specs.Laws.{SlotsCountFiles, SlotsEnd, TextIsGot, TextKeepsOthers};
-ghost use Rattle.law_disks.specs.Kinds.{CopyIsGot, CopyKeepsKind, KindIsSet, KindKeepsNames};
+ghost use Rattle.law_disks.specs.Kinds.{CopyIsGot, CopyKeepsKind, CopySlotIsGot, CopySlotKeepsKind, KindIsSet};
+ghost use Rattle.law_disks.specs.Kinds.{KindKeepsNames};
 ghost use Rattle.pm_volume.specs.Laws.{DamageIsUndone, GoodImagesStay, SecondCopySaves};
 
 /// After a successful `Put` on a volume of bytes, the name gives the bytes that were put. Every other name gives what
@@ -26,6 +27,14 @@ pub fn text_is_got()
 pub fn copy_is_got()
     ensures law { CopyIsGot }
     ensures alike { CopyKeepsKind }
+{}
+
+/// After a successful `CopySlot` from one volume of bytes to another, the name gives the bytes of the file in this slot
+/// of the volume that was copied from. Every other name gives what it gave before. The first file with the name has the
+/// kind and the date of the file in the slot.
+pub fn slot_copy_is_got()
+    ensures law { CopySlotIsGot }
+    ensures alike { CopySlotKeepsKind }
 {}
 
 /// After a successful `Kind` on a volume, the first file with the name has the given kind, modulo 16, and its entry is

@@ -4,20 +4,22 @@ use Rattle.pm_words.specs.Words.{IsMemory, byte_at, copied, moved_up, moved_down
 
 -- ---- moves
 
--- If MOVELEFT reads no byte that it wrote before, then it copies the whole source.
+-- If the destination of MOVELEFT is not above the source, or does not overlap it, then MOVELEFT copies the whole source.
 abbrev pub MoveLeftCopies : Type 0
 MoveLeftCopies =
     (m : List ℕ) (from to n : ℕ) → IsMemory m → from + n ≤ 65536 → to + n ≤ 65536 → (to ≤ from) ⊎ (from + n ≤ to) →
     moved_up m from to n ≡ copied m from to n
 
--- If MOVERIGHT reads no byte that it wrote before, then it copies the whole source.
+-- If the destination of MOVERIGHT is not below the source, or does not overlap it, then MOVERIGHT copies the whole
+-- source.
 abbrev pub MoveRightCopies : Type 0
 MoveRightCopies =
     (m : List ℕ) (from to n : ℕ) → IsMemory m → from + n ≤ 65536 → to + n ≤ 65536 → (from ≤ to) ⊎ (to + n ≤ from) →
     moved_down m from to n ≡ copied m from to n
 
 -- After a MOVELEFT to the same or a higher address, each byte of the destination equals the byte that the source has
--- after the move. Hence, if both ranges overlap, the bytes between the two addresses are repeated.
+-- after the move. Hence, if both ranges overlap, the bytes between the two addresses are repeated up to the end of the
+-- destination.
 abbrev pub MoveLeftRepeats : Type 0
 MoveLeftRepeats =
     (m : List ℕ) (from to n i : ℕ) → IsMemory m → from + n ≤ 65536 → to + n ≤ 65536 → from ≤ to → i < n →

@@ -16,7 +16,8 @@ pub record Content : Type 0 where
   pub bytes : List ℕ
   pub date : ℕ
 
--- The contents of the file of the entry `e` in `image`.
+-- The contents of the file of the entry `e` in `image`. The kind of an entry that was read from a directory is below 16
+-- already.
 unfoldable pub content_in : List ℕ → Entry → Content
 content_in image e = record { kind = e.kind % 16; bytes = unwrap_or (file_bytes image e) []; date = e.date }
 

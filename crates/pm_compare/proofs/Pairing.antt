@@ -3,10 +3,10 @@ use Rattle.std.proofs.Common.{◌≡◌, ◌↔◌, ◌==◌, ◌+◌, ◌-◌, 
 use Rattle.std.specs.List.{list_any}
 use Rattle.std.specs.Str.{bytes_eq}
 use Rattle.std.proofs.lemmas.Bool.{or_parts}
-use Rattle.pm_volume.specs.Files.{file_named, files_of, is_named}
+use Rattle.pm_volume.specs.Files.{bytes_of, file_named, files_of, is_named}
 use Rattle.pm_volume.specs.Names.{characters_of, is_same_name}
 use Rattle.pm_volume.specs.declared.entry.Entry.{Entry}
-use Rattle.pm_compare.specs.Verdicts.{agreeing, bytes_of, compared, compared_from, differs, verdict_for, only_there, without_first}
+use Rattle.pm_compare.specs.Verdicts.{agreeing, compared, compared_from, differs, verdict_for, only_there, without_first}
 use Rattle.pm_compare.specs.Worked.{has_name_of, left_over, same_file}
 use Rattle.pm_compare.specs.declared.verdicts.Compared.{Compared}
 use Rattle.pm_compare.specs.declared.verdicts.Verdict.{Verdict}

@@ -1,9 +1,8 @@
 -- The comparison of the files of two volumes.
 use Rattle.std.specs.Prelude.{ℕ, ◌==◌, Bool, true, false, List, [], ◌∷◌, map, Option, None, Some, if◌then◌else◌}
 use Rattle.std.specs.List.{find, list_any, prefix_len, zip}
-use Rattle.std.specs.Option.{unwrap_or}
 use Rattle.std.specs.Str.{bytes_eq}
-use Rattle.pm_volume.specs.Files.{file_bytes, files_of, is_named}
+use Rattle.pm_volume.specs.Files.{bytes_of, files_of, is_named}
 use Rattle.pm_volume.specs.Names.{characters_of}
 use Rattle.pm_volume.specs.declared.entry.Entry.{Entry}
 use Rattle.pm_compare.specs.declared.verdicts.Compared.{Compared}
@@ -11,10 +10,6 @@ use Rattle.pm_compare.specs.declared.verdicts.Verdict.{Verdict}
 use Rattle.pm_compare.specs.declared.verdicts.Verdict.TheVariants as verdicts
 
 -- ---- two files
-
--- The bytes of the file of the entry `e` of the volume `image`, as `files get` returns them.
-abbrev pub bytes_of : List ℕ → Entry → List ℕ
-bytes_of image e = unwrap_or (file_bytes image e) []
 
 -- The number of bytes before the first place at which `left` and `right` differ.
 abbrev pub agreeing : List ℕ → List ℕ → ℕ

@@ -1,13 +1,14 @@
 //! The comparison of two files.
 ghost use Rattle.std.specs.Prelude.{◌≡◌};
 ghost use Rattle.pm_compare.specs.Verdicts as verdicts;
+ghost use Rattle.pm_volume.specs.Files.{bytes_of};
 
 use crate::verdicts::Verdict;
 use pm_volume::{Entry, Volume};
 
 /// Returns the bytes of the file of `entry` on `volume`, as `files get` returns them.
 pub(crate) fn bytes_of<'a>(volume: &'a Volume, entry: &Entry) -> &'a [u8]
-    ensures bytes { result.now ≡ verdicts.bytes_of volume.now entry.now }
+    ensures bytes { result.now ≡ bytes_of volume.now entry.now }
 {
     volume.file(entry).unwrap_or(&[])
 }

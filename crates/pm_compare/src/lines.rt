@@ -1,31 +1,10 @@
 //! The lines of a comparison.
 ghost use Rattle.std.specs.Prelude.{◌≡◌, ◌++◌, IfOk, OnOk};
-ghost use Rattle.pm_filer.specs.Listing.{printable_name, shown_byte};
 ghost use Rattle.pm_compare.specs.Lines as lines;
 
 use crate::verdicts::{Compared, Verdict};
+use pm_filer::push_shown;
 use std::alloc::{AllocError, Global};
-
-/// Returns `byte`, or a question mark if it is below 32 or above 126.
-fn shown_byte(byte: u8) -> u8
-    ensures value { result ≡ shown_byte byte }
-{
-    if 32 <= byte && byte <= 126 {
-        byte
-    } else {
-        b'?'
-    }
-}
-
-/// Appends the printable form of `name` to `text`.
-fn push_shown(text: &mut Vec<u8>, name: &[u8]) -> Result<(), AllocError>
-    ensures text { OnOk result (text.new.items ≡ text.old.items ++ printable_name name.now) }
-{
-    for byte in name {
-        text.push(shown_byte(*byte))?;
-    }
-    Ok(())
-}
 
 /// Returns the words before the name of a file with this result.
 fn begin_of(verdict: Verdict) -> &'static str

@@ -3,7 +3,8 @@ use Rattle.std.proofs.Common.{◌≡◌, ◌∙◌, ◌+◌, ◌-◌, ◌*◌, �
 use Rattle.std.proofs.Common.{List, length, map, drop, refl, sym, ap, arith, ltb, leb, cond}
 use Rattle.std.specs.Prelude.{◌==◌, ◌&&◌, ◌||◌, nat_le, nat_lt, slice_index}
 use Rattle.std.specs.List.{list_any, range_with_len}
-use Rattle.std.proofs.lemmas.Bool.{agree_below_at, and_from, and_parts, cases_lt, cond_both, cond-true, cond-false, le-leb, le-ltb, lt-leb, leb-true, lt-ltb, ltb-true}
+use Rattle.std.proofs.lemmas.Bool.{agree_below_at, and_from, and_parts, cases_lt, cond_both, cond-true, cond-false}
+use Rattle.std.proofs.lemmas.Bool.{le-leb, le-ltb, lt-leb, leb-true, lt-ltb, ltb-true}
 use Rattle.std.proofs.lemmas.List.{get_or-drop, get_or-take}
 use Rattle.std.proofs.lemmas.List.FromFn.{fill_by_all, get_or-map-range_with_len}
 use Rattle.pm_check.specs.Orders.{place_in_word}
@@ -75,8 +76,8 @@ exchanged_same second blocks size place =
     let block : place_in_word place / 512 ≡ place / 512 = omega arith in
     rw (first, copy, rest, table, whole, block) refl
 
--- The offset of a byte before the conversion is an offset of the image. If it is computed twice, the result is the first
--- offset.
+-- The offset of a byte before the conversion is an offset of the image. If it is computed twice, the result is the
+-- first offset.
 big_inside : (second : Bool) (blocks : List ℕ) (size place : ℕ) → place < size → big_place second blocks size place < size
 big_inside second blocks size place inside =
     cond_both (nat_lt place (size / 2 * 2) && is_exchanged second blocks size place) _ _ (λ there. there < size)

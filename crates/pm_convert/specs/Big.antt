@@ -1,5 +1,6 @@
 -- The order `big`: which bytes of an image are exchanged.
-use Rattle.std.specs.Prelude.{◌≡◌, ◌<◌, ◌≤◌, ℕ, ◌+◌, ◌-◌, ◌*◌, ◌/◌, ◌%◌, ◌==◌, ◌&&◌, ◌||◌, Bool, nat_le, nat_lt, List, length, map}
+use Rattle.std.specs.Prelude.{◌≡◌, ◌<◌, ◌≤◌, ℕ, ◌+◌, ◌-◌, ◌*◌, ◌/◌, ◌%◌, ◌==◌, ◌&&◌, ◌||◌, Bool, nat_le, nat_lt, List}
+use Rattle.std.specs.Prelude.{length, map}
 use Rattle.std.specs.Prelude.{slice_index, if◌then◌else◌, true, false}
 use Rattle.std.specs.List.{filter, list_any, range_with_len}
 use Rattle.pm_check.specs.Orders.{place_in_word}
@@ -16,8 +17,8 @@ is_directory_word place =
     else (if nat_lt (place % 26) 6 then true
     else (if nat_lt place 26 then nat_le 14 place && nat_lt place 22 else nat_le 22 (place % 26)))
 
--- Is true if the byte at offset `place` of the block with a dictionary is in a word whose bytes are exchanged: the first
--- block and the length of each segment, its kind, its text block and its numbers.
+-- Is true if the byte at offset `place` of the block with a dictionary is in a word whose bytes are exchanged: the
+-- first block and the length of each segment, its kind, its text block and its numbers.
 abbrev pub is_dictionary_word : ℕ → Bool
 is_dictionary_word place = nat_lt place 64 || (nat_le 192 place && nat_lt place 288)
 

@@ -19,8 +19,8 @@ has_disk_copy image =
 abbrev pub bare_size : ℕ → ℕ
 bare_size size = if size == 143488 then 143360 else size
 
--- The position of the volume in `image` after this cover, or `None` if `image` has no such cover. `Bare` needs no header,
--- so that each image has this cover.
+-- The position of the volume in `image` after this cover, or `None` if `image` has no such cover. `Bare` needs no
+-- header, so that each image has this cover.
 abbrev pub part_in : Cover → List ℕ → Option Part
 part_in covers.Bare image = Some (record { begin = 0; size = bare_size (length image) })
 part_in covers.TwoImg image =
@@ -38,4 +38,5 @@ bytes_at part image = slice_range image part.begin (part.begin + part.size)
 
 -- The cover that `image` has: the first one of `DiskCopy` and `TwoImg` whose header is valid, or `Bare`.
 abbrev pub cover_of : List ℕ → Cover
-cover_of image = if has_disk_copy image then covers.DiskCopy else (if has_front image then covers.TwoImg else covers.Bare)
+cover_of image = if has_disk_copy image then covers.DiskCopy else (if has_front image then covers.TwoImg
+    else covers.Bare)

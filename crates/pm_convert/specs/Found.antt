@@ -35,7 +35,8 @@ are_volume (Some blocks) = is_volume blocks
 abbrev pub opens : List ℕ → Format → Bool
 opens image format = are_volume (blocks_in format image)
 
--- The formats in which `image` opens as a volume.
+-- The formats in which `image` opens as a volume. If `image` has a valid header, only the four formats with this header
+-- are tried. Otherwise only the four formats without a header are tried.
 abbrev pub formats_of : List ℕ → List Format
 formats_of image = filter (opens image) (formats_with (cover_of image))
 

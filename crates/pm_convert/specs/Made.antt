@@ -23,8 +23,8 @@ sealed covers.DiskCopy volume image = written image 72 (high_bytes (checksum vol
 abbrev pub replaced_at : Cover → Part → List ℕ → List ℕ → List ℕ
 replaced_at cover part volume image = sealed cover volume (written image part.begin volume)
 
--- `image`, which has this format and a volume at this position, with `blocks` instead of its own blocks. `None` if there
--- is no position, a volume of this length cannot be in this order, or the lengths differ.
+-- `image`, which has this format and a volume at this position, with `blocks` instead of its own blocks. `None` if
+-- there is no position, a volume of this length cannot be in this order, or the lengths differ.
 abbrev pub with_blocks_at : Format → Option Part → List ℕ → List ℕ → Option (List ℕ)
 with_blocks_at format None image blocks = None
 with_blocks_at format (Some part) image blocks =

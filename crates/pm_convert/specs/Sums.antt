@@ -19,8 +19,8 @@ rotated sum = sum / 2 + sum % 2 * 2147483648
 abbrev pub with_word : ℕ → ℕ → ℕ
 with_word sum word = rotated ((sum + word) % 4294967296)
 
--- The checksum that begins with `sum`, after the words of a list of bytes. The high byte of each word is first. A single
--- last byte is the high byte of a word.
+-- The checksum that begins with `sum`, after the words of a list of bytes. The high byte of each word is first. A
+-- single last byte is the high byte of a word.
 unfoldable pub sum_from : ℕ → List ℕ → ℕ
 sum_from sum [] = sum
 sum_from sum (high ∷ []) = with_word sum (256 * high)

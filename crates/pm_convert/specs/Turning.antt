@@ -6,8 +6,8 @@ use Rattle.pm_convert.specs.Big.{from_big, to_big}
 use Rattle.pm_convert.specs.declared.format.ByteOrder.{ByteOrder}
 use Rattle.pm_convert.specs.declared.format.ByteOrder.TheVariants as orders
 
--- Is true if a volume of `size` bytes can be in this order. Only a disk of 143,360 bytes has sectors in DOS order, and a
--- volume in the order `big` has a directory.
+-- Is true if a volume of `size` bytes can be in this order. Only a disk of 143,360 bytes has sectors in DOS order, and
+-- a volume in the order `big` has a directory.
 abbrev pub fits : ByteOrder → ℕ → Bool
 fits orders.Blocks size = true
 fits orders.Dos size = size == 143360

@@ -8,7 +8,8 @@ use Rattle.pm_volume.specs.declared.fault.VolumeFault.{VolumeFault}
 use Rattle.pm_check.specs.Orders.{turned}
 use Rattle.pm_check.specs.declared.order.Order.TheVariants as turns
 use Rattle.pm_check.specs.Headed.{example}
-use Rattle.pm_convert.specs.Big.{IsClear, big_place, big_with, code_blocks, directory_place, exchanged_with, is_dictionary_word, is_directory_word}
+use Rattle.pm_convert.specs.Big.{IsClear, big_place, big_with, code_blocks, directory_place, exchanged_with}
+use Rattle.pm_convert.specs.Big.{is_dictionary_word, is_directory_word}
 use Rattle.pm_convert.specs.Big.{listed, turned_directory}
 use Rattle.pm_convert.specs.Covers.{bare_size, cover_of, part_in}
 use Rattle.pm_convert.specs.Foreigners.{foreign_text, recognized, volume_size}
@@ -24,8 +25,8 @@ use Rattle.pm_convert.specs.declared.format.ByteOrder.TheVariants as orders
 use Rattle.pm_convert.specs.declared.format.Cover.TheVariants as covers
 use Rattle.pm_convert.specs.declared.format.Format.{Format}
 
--- The volume `blocks` comes back after a conversion to an order and back. For `big`, no code file begins in the blocks of
--- the directory, as the directory states that has the low byte first.
+-- The volume `blocks` comes back after a conversion to an order and back. For `big`, no code file begins in the blocks
+-- of the directory, as the directory states that has the low byte first.
 abbrev pub ComesBack : ByteOrder → List ℕ → Type 0
 ComesBack orders.Blocks blocks = ⊤
 ComesBack orders.Dos blocks = ⊤
@@ -72,7 +73,8 @@ pub record WorkedImages : Type 0 where
   pub size : (format : Format) (image blocks made : List ℕ) → with_blocks format image blocks ≡ Some made
       → length made ≡ length image
   pub same : (format : Format) (image blocks : List ℕ) → blocks_in format image ≡ Some blocks
-      → is_own_inverse format.order ≡ true → format.cover ≢ covers.DiskCopy → with_blocks format image blocks ≡ Some image
+      → is_own_inverse format.order ≡ true → format.cover ≢ covers.DiskCopy → with_blocks format image blocks
+      ≡ Some image
   pub sealed : (order : ByteOrder) (image blocks made : List ℕ)
       → with_blocks (record { cover = covers.DiskCopy; order = order }) image blocks ≡ Some made
       → is_sum_wrong made ≡ false
@@ -94,7 +96,8 @@ pub record WorkedNames : Type 0 where
       ≡ None ∷ None ∷ None ∷ None ∷ None ∷ []
   pub reported : formats_with covers.TwoImg
       ≡ record { cover = covers.TwoImg; order = orders.Blocks } ∷ record { cover = covers.TwoImg; order = orders.Dos }
-      ∷ record { cover = covers.TwoImg; order = orders.Swapped } ∷ record { cover = covers.TwoImg; order = orders.Big } ∷ []
+      ∷ record { cover = covers.TwoImg; order = orders.Swapped }
+      ∷ record { cover = covers.TwoImg; order = orders.Big } ∷ []
 
 -- An image of DiskCopy 4.2 for examples: a volume of `size` bytes with the checksum `sum`, and `rest` after the header.
 abbrev pub copied : ℕ → ℕ → List ℕ → List ℕ
@@ -136,12 +139,15 @@ pub record WorkedCovers : Type 0 where
   pub whole : part_in covers.DiskCopy (copied 2 129 (1 ∷ 2 ∷ 9 ∷ [])) ≡ Some (record { begin = 84; size = 2 })
   pub short : part_in covers.DiskCopy (copied 2 129 (1 ∷ [])) ≡ None
   pub empty : part_in covers.DiskCopy (copied 0 0 (1 ∷ 2 ∷ [])) ≡ None
-  pub two_img : part_in covers.TwoImg (example 1 7 66 3 (1 ∷ 2 ∷ 3 ∷ 4 ∷ 5 ∷ [])) ≡ Some (record { begin = 66; size = 3 })
-  pub covers_seen : map cover_of (copied 2 129 (1 ∷ 2 ∷ []) ∷ copied 2 129 (1 ∷ []) ∷ example 1 7 66 3 (1 ∷ 2 ∷ 3 ∷ 4 ∷ 5 ∷ []) ∷ [] ∷ [])
+  pub two_img : part_in covers.TwoImg (example 1 7 66 3 (1 ∷ 2 ∷ 3 ∷ 4 ∷ 5 ∷ []))
+      ≡ Some (record { begin = 66; size = 3 })
+  pub covers_seen : map cover_of (copied 2 129 (1 ∷ 2 ∷ []) ∷ copied 2 129 (1 ∷ []) ∷ example 1 7 66 3 (1 ∷ 2 ∷ 3
+      ∷ 4 ∷ 5 ∷ []) ∷ [] ∷ [])
       ≡ covers.DiskCopy ∷ covers.Bare ∷ covers.TwoImg ∷ covers.Bare ∷ []
   pub sum_wrong : map is_sum_wrong (copied 2 129 (1 ∷ 2 ∷ []) ∷ copied 2 130 (1 ∷ 2 ∷ []) ∷ copied 2 130 (1 ∷ []) ∷ [])
       ≡ false ∷ true ∷ false ∷ []
-  pub changed : with_blocks (record { cover = covers.DiskCopy; order = orders.Swapped }) (copied 2 129 (1 ∷ 2 ∷ 9 ∷ [])) (4 ∷ 3 ∷ [])
+  pub changed : with_blocks (record { cover = covers.DiskCopy; order = orders.Swapped }) (copied 2 129 (1 ∷ 2 ∷ 9
+      ∷ [])) (4 ∷ 3 ∷ [])
       ≡ Some (copied 2 386 (3 ∷ 4 ∷ 9 ∷ []))
   pub found : blocks_in (record { cover = covers.DiskCopy; order = orders.Swapped }) (copied 2 129 (1 ∷ 2 ∷ 9 ∷ []))
       ≡ Some (2 ∷ 1 ∷ [])
@@ -150,8 +156,8 @@ pub record WorkedCovers : Type 0 where
   pub dos_sizes : map (fits orders.Dos) (143359 ∷ 143360 ∷ 143361 ∷ []) ≡ false ∷ true ∷ false ∷ []
   pub big_sizes : map (fits orders.Big) (3071 ∷ 3072 ∷ []) ≡ false ∷ true ∷ []
 
--- A directory for examples: a header that states `count` files, a code file at block 7 with the kind word 18, and a text
--- at block 9.
+-- A directory for examples: a header that states `count` files, a code file at block 7 with the kind word 18, and a
+-- text at block 9.
 abbrev pub two_files : ℕ → List ℕ
 two_files count =
     replicate 16 0 ++ (count ∷ 0 ∷ replicate 8 0 ++ (7 ∷ 0 ∷ 9 ∷ 0 ∷ 18 ∷ 0 ∷ replicate 20 0
@@ -163,12 +169,16 @@ two_files count =
 -- - the code files of a directory with two files, and the number of files that are read at most
 pub record WorkedBig : Type 0 where
   pub directory : filter (λ p. is_directory_word p) (range_with_len 0 82)
-      ≡ range_with_len 0 6 ++ (range_with_len 14 8 ++ (range_with_len 26 6 ++ (range_with_len 48 10 ++ range_with_len 74 8)))
+      ≡ range_with_len 0 6 ++ (range_with_len 14 8 ++ (range_with_len 26 6 ++ (range_with_len 48 10
+      ++ range_with_len 74 8)))
   pub directory_end : filter (λ p. is_directory_word p) (range_with_len 2008 40) ≡ 2024 ∷ 2025 ∷ 2026 ∷ 2027 ∷ []
-  pub dictionary : filter (λ p. is_dictionary_word p) (0 ∷ 63 ∷ 64 ∷ 191 ∷ 192 ∷ 287 ∷ 288 ∷ 511 ∷ []) ≡ 0 ∷ 63 ∷ 192 ∷ 287 ∷ []
-  pub places : map (big_place false (7 ∷ []) 5120) (1023 ∷ 1024 ∷ 1025 ∷ 1030 ∷ 3072 ∷ 3583 ∷ 3584 ∷ 3585 ∷ 3648 ∷ 4096 ∷ [])
+  pub dictionary : filter (λ p. is_dictionary_word p) (0 ∷ 63 ∷ 64 ∷ 191 ∷ 192 ∷ 287 ∷ 288 ∷ 511 ∷ [])
+      ≡ 0 ∷ 63 ∷ 192 ∷ 287 ∷ []
+  pub places : map (big_place false (7 ∷ []) 5120) (1023 ∷ 1024 ∷ 1025 ∷ 1030 ∷ 3072 ∷ 3583 ∷ 3584 ∷ 3585 ∷ 3648
+      ∷ 4096 ∷ [])
       ≡ 1023 ∷ 1025 ∷ 1024 ∷ 1030 ∷ 3072 ∷ 3583 ∷ 3585 ∷ 3584 ∷ 3648 ∷ 4096 ∷ []
-  pub second : map (big_place true [] 5120) (1024 ∷ 3072 ∷ 3073 ∷ 3078 ∷ 3584 ∷ 3594 ∷ []) ≡ 1025 ∷ 3073 ∷ 3072 ∷ 3078 ∷ 3584 ∷ 3595 ∷ []
+  pub second : map (big_place true [] 5120) (1024 ∷ 3072 ∷ 3073 ∷ 3078 ∷ 3584 ∷ 3594 ∷ [])
+      ≡ 1025 ∷ 3073 ∷ 3072 ∷ 3078 ∷ 3584 ∷ 3595 ∷ []
   pub part : map (big_place false (7 ∷ []) 4095) (3584 ∷ 3585 ∷ []) ≡ 3584 ∷ 3585 ∷ []
   pub last : map (big_place true [] 3073) (3072 ∷ []) ≡ 3072 ∷ []
   pub exchanged : exchanged_with false [] (replicate 1024 5 ++ (1 ∷ 2 ∷ 3 ∷ [])) ≡ replicate 1024 5 ++ (2 ∷ 1 ∷ 3 ∷ [])
@@ -184,7 +194,8 @@ pub record WorkedBig : Type 0 where
 -- An image opens in a format if it has blocks in this format, and these have no fault. An empty image opens in no
 -- format.
 pub record WorkedOpens : Type 0 where
-  pub opened : (format : Format) (image blocks : List ℕ) → blocks_in format image ≡ Some blocks → image_fault blocks ≡ None
+  pub opened : (format : Format) (image blocks : List ℕ) → blocks_in format image ≡ Some blocks
+      → image_fault blocks ≡ None
       → opens image format ≡ true
   pub faulty : (format : Format) (image blocks : List ℕ) (fault : VolumeFault) → blocks_in format image ≡ Some blocks
       → image_fault blocks ≡ Some fault → opens image format ≡ false
@@ -203,12 +214,15 @@ pub record WorkedForeigners : Type 0 where
   pub other_kind : recognized (replicate 1028 0 ++ (224 ∷ [])) ≡ None
   pub dos33 : (image : List ℕ) → slice_index image 0 ≡ 1 → slice_index image 1024 ≡ 1 → volume_size image ≡ 143360
       → slice_index image 69633 ≡ 17 → slice_index image 69635 ≡ 3 → recognized image ≡ Some foreigners.Dos33
-  pub nib : (image : List ℕ) → slice_index image 0 ≡ 255 → volume_size image ≡ 232960 → recognized image ≡ Some foreigners.Nib
-  pub sizes : map volume_size (copied 2 129 (1 ∷ 2 ∷ 9 ∷ []) ∷ example 1 7 66 3 (1 ∷ 2 ∷ 3 ∷ 4 ∷ 5 ∷ []) ∷ (1 ∷ []) ∷ []) ≡ 2 ∷ 3 ∷ 1 ∷ []
+  pub nib : (image : List ℕ) → slice_index image 0 ≡ 255 → volume_size image ≡ 232960 → recognized image
+      ≡ Some foreigners.Nib
+  pub sizes : map volume_size (copied 2 129 (1 ∷ 2 ∷ 9 ∷ []) ∷ example 1 7 66 3 (1 ∷ 2 ∷ 3 ∷ 4 ∷ 5 ∷ []) ∷ (1 ∷ [])
+      ∷ []) ≡ 2 ∷ 3 ∷ 1 ∷ []
   pub compressed : foreign_text foreigners.Gzip ≡ codes "it is compressed; decompress it with gunzip"
   pub bits : foreign_text foreigners.Woz
       ≡ codes "it looks like .woz, the bits of a disk; convert it to sectors with another tool"
   pub nibbles : foreign_text foreigners.Nib
       ≡ codes "it has the length of .nib, the nibbles of a disk; convert it to sectors with another tool"
   pub disks : map foreign_text (foreigners.Hfs ∷ foreigners.ProDos ∷ foreigners.Dos33 ∷ [])
-      ≡ codes "it looks like a Macintosh disk (HFS)" ∷ codes "it looks like a ProDOS disk" ∷ codes "it looks like a DOS 3.3 disk" ∷ []
+      ≡ codes "it looks like a Macintosh disk (HFS)" ∷ codes "it looks like a ProDOS disk"
+      ∷ codes "it looks like a DOS 3.3 disk" ∷ []

@@ -13,8 +13,8 @@ use std::alloc::{AllocError, Global};
 
 /// Returns the volume in `image`, which has this format, with its blocks in order.
 ///
-/// Returns `None` if `image` has no such cover, or if a volume of this length cannot be in this order. In a bare image of
-/// 143,488 bytes the last 128 are not part of the volume.
+/// Returns `None` if `image` has no such cover, or if a volume of this length cannot be in this order. In a bare image
+/// of 143,488 bytes the last 128 are not part of the volume.
 ///
 /// # Errors
 ///

@@ -1,44 +1,12 @@
 //! What is reported about the formats of an image.
 ghost use Rattle.std.specs.Prelude.{◌≡◌, ◌++◌, IfOk, OnOk, option_map, string_bytes};
 ghost use Rattle.pm_convert.specs.Jobs as jobs;
-ghost use Rattle.pm_filer.specs.Listing.{printable_name, shown_byte, space_line};
 
 use crate::format::Format;
 use crate::found::{blocks_in, formats_of};
-use pm_volume::{Space, Volume};
+use pm_filer::{push_name, push_space};
+use pm_volume::Volume;
 use std::alloc::{AllocError, Global};
-
-/// Returns `byte`, or a question mark if it is below 32 or above 126.
-fn shown_byte(byte: u8) -> u8
-    ensures value { result ≡ shown_byte byte }
-{
-    if 32 <= byte && byte <= 126 {
-        byte
-    } else {
-        b'?'
-    }
-}
-
-/// Appends the printable form of `name` to `text`.
-fn push_name(text: &mut String, name: &[u8]) -> Result<(), AllocError>
-    ensures text { OnOk result (string_bytes text.new ≡ string_bytes text.old ++ printable_name name.now) }
-{
-    for byte in name {
-        text.push(char::from(shown_byte(*byte)))?;
-    }
-    Ok(())
-}
-
-/// Appends the number of files of `volume`, of its free blocks, and of the blocks of its largest gap.
-#[tactic(auto, unfolding(pm_filer::specs::Listing::space_line))]
-fn push_space(text: &mut String, volume: &Volume) -> Result<(), AllocError>
-    ensures text { OnOk result (string_bytes text.new ≡ string_bytes text.old ++ space_line volume.now) }
-{
-    let files = volume.entries().count();
-    let Space { free, largest } = volume.space();
-    writeln!(text, "files {files} free {free} largest {largest}")?;
-    Ok(())
-}
 
 /// Appends the line of a format in which a volume opens.
 fn push_format(text: &mut String, format: Format, volume: &Volume) -> Result<(), AllocError>

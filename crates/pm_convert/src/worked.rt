@@ -1,5 +1,6 @@
 //! Laws and worked examples of conversions. The functions do nothing; their clauses state the laws.
-ghost use Rattle.pm_convert.specs.Worked.{WorkedBig, WorkedCovers, WorkedForeigners, WorkedImages, WorkedNames, WorkedOpens, WorkedTurns};
+ghost use Rattle.pm_convert.specs.Worked.{WorkedBig, WorkedCovers, WorkedForeigners, WorkedImages, WorkedNames};
+ghost use Rattle.pm_convert.specs.Worked.{WorkedOpens, WorkedTurns};
 
 /// States that a volume comes back if it is converted to an order and back, and that conversions keep the length.
 #[tactic(auto, using(crate::proofs::TurnLaws::worked_turns))]

@@ -3,7 +3,7 @@ ghost use Rattle.std.specs.Prelude.{◌≡◌, ◌++◌, ◌<◌, Some, IfOk, On
 ghost use Rattle.std.specs.Option.{option_map};
 ghost use Rattle.pm_filer.specs.Listing.{at_right, date_text, entry_details, file_line, fitting_list_text};
 ghost use Rattle.pm_filer.specs.Listing.{full_details, full_line, full_lines, full_list_text, gap_line, kind_text};
-ghost use Rattle.pm_filer.specs.Listing.{kind_word, list_text, shown_byte, printable_name, some_space_line};
+ghost use Rattle.pm_filer.specs.Listing.{kind_word, list_text, some_space_line};
 ghost use Rattle.pm_filer.specs.Listing.{space_line, spaces};
 ghost use Rattle.pm_filer.specs.Fitting.{fitting_files};
 ghost use Rattle.pm_volume.specs.Directory.{block_count, directory_of, files_begin};
@@ -11,6 +11,7 @@ ghost use Rattle.pm_volume.specs.Files.{files_of};
 ghost use Rattle.std.specs.List.{flat_map};
 
 use crate::fitting::is_fitting;
+use crate::printed::push_name;
 use pm_volume::fields::LONGEST_NAME;
 use pm_volume::{Copies, Date, Entry, Space, Volume, kinds};
 use std::alloc::{AllocError, Global};
@@ -109,27 +110,6 @@ impl fmt::Display for Two {
     }
 }
 
-/// Returns the byte that is printed for the byte `byte` of a name: `?` if `byte` is not printable.
-fn shown_byte(byte: u8) -> u8
-    ensures value { result ≡ shown_byte byte }
-{
-    if 32 <= byte && byte <= 126 {
-        byte
-    } else {
-        b'?'
-    }
-}
-
-/// Appends the printable form of `name` to `text`.
-fn push_name(text: &mut String, name: &[u8]) -> Result<(), AllocError>
-    ensures text { OnOk result (string_bytes text.new ≡ string_bytes text.old ++ printable_name name.now) }
-{
-    for byte in name {
-        text.push(char::from(shown_byte(*byte)))?;
-    }
-    Ok(())
-}
-
 /// Appends `count` spaces.
 fn push_spaces(text: &mut String, count: usize) -> Result<(), AllocError>
     ensures text { OnOk result (string_bytes text.new ≡ string_bytes text.old ++ spaces count) }
@@ -184,16 +164,29 @@ fn push_files(text: &mut String, volume: &Volume) -> Result<(), AllocError>
     Ok(())
 }
 
-/// Appends the last line of the list of `volume`: the number of files, of free blocks, and of blocks of the largest
-/// gap.
-#[tactic(auto, unfolding(crate::specs::Listing::space_line))]
-fn push_space(text: &mut String, volume: &Volume) -> Result<(), AllocError>
-    ensures text { OnOk result (string_bytes text.new ≡ string_bytes text.old ++ space_line volume.now) }
+/// Appends the last line of a list of `files` files of `volume`: this number, and the numbers of free blocks and of
+/// blocks of the largest gap.
+#[tactic(auto, unfolding(crate::specs::Listing::some_space_line))]
+fn push_some_space(text: &mut String, volume: &Volume, files: usize) -> Result<(), AllocError>
+    ensures text { OnOk result (string_bytes text.new ≡ string_bytes text.old ++ some_space_line volume.now files) }
 {
-    let files = volume.entries().count();
     let Space { free, largest } = volume.space();
     writeln!(text, "files {files} free {free} largest {largest}")?;
     Ok(())
+}
+
+/// Appends the last line of the list of `volume`: the number of files, of free blocks, and of blocks of the largest
+/// gap.
+///
+/// # Errors
+///
+/// `AllocError`: memory was refused.
+#[tactic(auto, unfolding(crate::specs::Listing::space_line, crate::specs::Listing::some_space_line))]
+pub fn push_space(text: &mut String, volume: &Volume) -> Result<(), AllocError>
+    ensures text { OnOk result (string_bytes text.new ≡ string_bytes text.old ++ space_line volume.now) }
+{
+    let files = volume.entries().count();
+    push_some_space(text, volume, files)
 }
 
 /// Returns the list of files of `volume`. It has a line with the volume's name and a colon, a line for each file, and a
@@ -315,7 +308,7 @@ fn push_fitting(text: &mut String, volume: &Volume, pattern: &str) -> Result<usi
 
 /// Returns the list of only those files of `volume` whose names match `pattern`. The last line has the free blocks of
 /// the whole volume.
-#[tactic(auto, unfolding(crate::specs::Listing::fitting_list_text, crate::specs::Listing::some_space_line))]
+#[tactic(auto, unfolding(crate::specs::Listing::fitting_list_text))]
 pub(crate) fn fitting_list_text(
     alloc: Global,
     volume: &Volume,
@@ -327,7 +320,6 @@ pub(crate) fn fitting_list_text(
     push_name(&mut text, volume.name())?;
     writeln!(text, ":")?;
     let files = push_fitting(&mut text, volume, pattern)?;
-    let Space { free, largest } = volume.space();
-    writeln!(text, "files {files} free {free} largest {largest}")?;
+    push_some_space(&mut text, volume, files)?;
     Ok(text)
 }

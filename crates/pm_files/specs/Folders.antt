@@ -11,10 +11,11 @@ abbrev pub IsEmptyFolder : Files → Type 0
 IsEmptyFolder None = ⊤
 IsEmptyFolder (Some files) = (name : List ℕ) → files name ≡ None
 
--- The file `name`, which did not exist, was created with the contents `bytes`. All other files are unchanged. Nothing
--- is stated if the old contents are not known.
+-- The file `name`, which did not exist, was created with the contents `bytes`. All other files are unchanged. If the
+-- old contents are not known, then only one thing is stated: the new contents are not known either.
 abbrev pub AddsFile : Files → Files → List ℕ → List ℕ → Type 0
-AddsFile None new name bytes = ⊤
+AddsFile None None name bytes = ⊤
+AddsFile None (Some after) name bytes = ⊥
 AddsFile (Some files) None name bytes = ⊥
 AddsFile (Some files) (Some after) name bytes = (files name ≡ None) × (after name ≡ Some bytes)
     × ((other : List ℕ) → other ≢ name → after other ≡ files other)

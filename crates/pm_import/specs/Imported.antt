@@ -62,6 +62,12 @@ TakesLines folder ends [] image last earlier left = (last ≡ image) × (left �
 TakesLines folder ends (line ∷ lines) image last earlier left = (next : List ℕ) × (more : List NotAdded)
     × TakesLine folder ends line image next earlier more × TakesLines folder ends lines next last more left
 
+-- The lines from the first line that is not empty.
+abbrev pub from_filled : List (List ℕ) → List (List ℕ)
+from_filled [] = []
+from_filled ([] ∷ lines) = from_filled lines
+from_filled ((c ∷ line) ∷ lines) = (c ∷ line) ∷ lines
+
 -- The volume gets this last date. A date that is 0 or not valid has no effect.
 abbrev pub with_date : List ℕ → Option ℕ → List ℕ
 with_date image None = image

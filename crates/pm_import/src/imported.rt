@@ -1,9 +1,10 @@
 //! The files of a folder, read and added to a volume.
-ghost use Rattle.std.specs.Prelude.{◌≡◌, [], IfOk, None, Some, OnErr, OnOk, map, option_map, string_bytes, vec_items};
+ghost use Rattle.std.specs.Prelude.{◌≡◌, ◌≤◌, [], IfOk, None, Some, OnErr, OnOk, length, map, option_map};
+ghost use Rattle.std.specs.Prelude.{string_bytes, vec_items};
 ghost use Rattle.pm_files.specs.Folders.{IsAt};
 ghost use Rattle.pm_import.specs.Imported.{Imports, ImportsListed, ImportsPlain, Reads, Takes, TakesFilled, TakesLine};
 ghost use Rattle.pm_import.specs.Imported.{TakesLines, TakesList, TakesListed, TakesNamed, TakesNames, TakesPlain};
-ghost use Rattle.pm_import.specs.Imported.{left_seen, seen, with_date, with_left};
+ghost use Rattle.pm_import.specs.Imported.{from_filled, left_seen, seen, with_date, with_left};
 ghost use Rattle.pm_import.specs.Listed as listed;
 ghost use Rattle.pm_import.specs.Placed as placed;
 ghost use Rattle.pm_volume.specs.Directory.{IsVolume};
@@ -165,7 +166,21 @@ fn take_line<F: Folder>(
     }
 }
 
+/// Returns `lines` from the first line that is not empty.
+fn from_filled<'s, 'a>(lines: &'s [&'a [u8]]) -> &'s [&'a [u8]]
+    ensures filled { map (λ line. line.now) result.now ≡ from_filled (map (λ line. line.now) lines.now) }
+    ensures shorter { length result.now ≤ length lines.now }
+{
+    let mut rest = lines;
+    while let [[], more @ ..] = rest {
+        rest = more;
+    }
+    rest
+}
+
 /// Adds the files of lines of `LIST` to a volume, and appends those that cannot be added to `left`.
+///
+/// Empty lines are skipped by a loop: `LIST` may have 65,536 of them, and a call for each could exhaust the stack.
 fn take_lines<F: Folder>(
     alloc: Global,
     folder: &mut F,
@@ -180,7 +195,7 @@ fn take_lines<F: Folder>(
     ensures at { F.at folder.new ≡ F.at folder.old }
     ensures volume { IsVolume volume.old → IsVolume volume.new }
 {
-    match lines {
+    match from_filled(lines) {
         [] => Ok(()),
         [line, more @ ..] => {
             take_line(alloc, folder, volume, line, ends, left)?;

@@ -1,5 +1,5 @@
 -- The laws and the worked examples of searches, computed.
-use Rattle.std.proofs.Common.{◌≡◌, ◌==◌, ◌<◌, ◌≤◌, ℕ, true, false, List, [], Some, length, nat_lt, refl, ap, arith, inl, inr}
+use Rattle.std.proofs.Common.{◌≡◌, ◌==◌, ◌<◌, ◌≤◌, ℕ, true, false, List, [], None, Some, length, nat_lt, refl, ap, arith, inl, inr}
 use Rattle.std.proofs.lemmas.Bool.{cases_Bool, ltb-true, ne_eqb}
 use Rattle.std.proofs.lemmas.Bool.Decides.{Decides-ltb}
 use Rattle.std.specs.List.{flat_map}
@@ -42,6 +42,12 @@ text_there blocks bytes e kind there size =
     let high = not_below (length bytes) 1024 size in
     rw (is, there, high) refl
 
+no_bytes : (path blocks needle : List ℕ) (e : Entry) → file_bytes blocks e ≡ None → file_text path needle blocks e ≡ []
+no_bytes path blocks needle e none = elim (cases_Bool (e.kind == TEXT)) [
+  | inl is ↦ rw (is, none) refl
+  | inr not ↦ rw not refl
+]
+
 no_header : (path blocks needle bytes : List ℕ) (e : Entry) → file_bytes blocks e ≡ Some bytes
     → length bytes < 1024 → file_text path needle blocks e ≡ []
 no_header path blocks needle bytes e there size =
@@ -66,6 +72,7 @@ worked_lines = record {
   files = files_split;
   text = text_there;
   no_header = no_header;
+  no_bytes = no_bytes;
   other_kind = λ path blocks needle e other. let not = ne_eqb e.kind TEXT other in rw not refl;
   as_gettext = as_gettext;
 }

@@ -1,5 +1,6 @@
 -- Laws of searches, and worked examples.
-use Rattle.std.specs.Prelude.{◌≡◌, ◌≢◌, ◌⊎◌, ◌↔◌, ◌+◌, ◌-◌, ◌<◌, ◌≤◌, ℕ, true, false, List, [], ◌∷◌, ◌++◌, length, replicate, codes}
+use Rattle.std.specs.Prelude.{◌≡◌, ◌≢◌, ◌⊎◌, ◌↔◌, ◌+◌, ◌-◌, ◌<◌, ◌≤◌, ℕ, true, false, List, [], ◌∷◌, ◌++◌, length}
+use Rattle.std.specs.Prelude.{replicate, codes}
 use Rattle.std.specs.Prelude.{None, Some}
 use Rattle.std.specs.Fmt.{decimal}
 use Rattle.std.specs.List.{filter, flat_map}
@@ -18,7 +19,8 @@ use Rattle.pm_volume.specs.declared.entry.Entry.{Entry}
 use Rattle.pm_volume.specs.declared.kinds.TheConstants.{TEXT}
 use Rattle.pm_search.specs.Lines.{info_line, match_line, name_line, names_text, no_volume_line, several_line}
 use Rattle.pm_search.specs.Searching.{ended, no_volume, searched, several, text_for}
-use Rattle.pm_search.specs.Texts.{contains, decoded, file_text, lines_text, matches_from, text_in, text_matches, text_returned}
+use Rattle.pm_search.specs.Texts.{contains, decoded, file_text, lines_text, matches_from, text_in, text_matches}
+use Rattle.pm_search.specs.Texts.{text_returned}
 use Rattle.pm_search.specs.declared.query.SearchEnding.TheVariants as endings
 use Rattle.pm_search.specs.declared.query.Query.{Query}
 use Rattle.pm_search.specs.declared.query.Query.TheVariants as queries
@@ -61,6 +63,8 @@ pub record WorkedLines : Type 0 where
       → 1024 ≤ length bytes → text_in blocks e ≡ Some (text_of_file bytes)
   pub no_header : (path blocks needle bytes : List ℕ) (e : Entry) → file_bytes blocks e ≡ Some bytes
       → length bytes < 1024 → file_text path needle blocks e ≡ []
+  pub no_bytes : (path blocks needle : List ℕ) (e : Entry) → file_bytes blocks e ≡ None
+      → file_text path needle blocks e ≡ []
   pub other_kind : (path blocks needle : List ℕ) (e : Entry) → e.kind ≢ TEXT
       → file_text path needle blocks e ≡ []
   pub as_gettext : (blocks : List ℕ) (slot : ℕ) (e : Entry) → e.kind ≡ TEXT → file_in_slot blocks slot ≡ Some e

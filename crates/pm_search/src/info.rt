@@ -2,8 +2,9 @@
 ghost use Rattle.std.specs.Prelude.{◌≡◌, IfOk, string_bytes};
 ghost use Rattle.pm_search.specs.Lines.{info_line, numbers_text};
 
-use crate::lines::{front_of, push_shown};
+use crate::lines::front_of;
 use pm_convert::Format;
+use pm_filer::push_shown;
 use pm_volume::{Space, Volume};
 use std::alloc::{AllocError, Global};
 

@@ -24,7 +24,6 @@ const ITEMS_FOR_A_BYTE: usize = 4;
 
 /// An attribute table, the sizes of its procedure, and how many words its returns leave. The procedure is included only
 /// if the limit of cached items allowed it.
-/// space to cache it.
 #[derive(Drop)]
 pub struct SizedTable {
     /// The attribute table.

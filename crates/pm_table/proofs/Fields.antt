@@ -14,7 +14,7 @@ use Rattle.pm_folder.specs.Names.{listed_name}
 use Rattle.pm_folder.specs.declared.names.TheConstants.{LISTED}
 use Rattle.pm_volume.specs.Dates.{date_of}
 use Rattle.pm_volume.specs.Names.{characters_of}
-use Rattle.pm_table.specs.Rows.{bytes_of}
+use Rattle.pm_volume.specs.Files.{bytes_of}
 use Rattle.pm_table.specs.Tabs.{line_of}
 use Rattle.pm_table.specs.Worked.{IsInRange, fields_of}
 use Rattle.pm_table.specs.declared.rows.TableRow.{TableRow}

@@ -9,7 +9,8 @@ use Rattle.pm_volume.specs.Directory.{block_count, directory_of}
 use Rattle.pm_volume.specs.Names.{characters_of}
 use Rattle.pm_volume.specs.Space.{free_blocks, largest_gap, volume_name}
 use Rattle.pm_volume.specs.declared.entry.Entry.{Entry}
-use Rattle.pm_table.specs.Rows.{bytes_of, rows_of}
+use Rattle.pm_volume.specs.Files.{bytes_of}
+use Rattle.pm_table.specs.Rows.{rows_of}
 use Rattle.pm_table.specs.declared.rows.TableRow.{TableRow}
 
 -- ---- strings

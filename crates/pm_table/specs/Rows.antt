@@ -1,14 +1,9 @@
 -- The listed files of a volume, with their slots.
 use Rattle.std.specs.Prelude.{ℕ, ◌+◌, Bool, true, List, [], ◌∷◌, ◌++◌, Option, None, Some, if◌then◌else◌}
-use Rattle.std.specs.Option.{unwrap_or}
 use Rattle.pm_filer.specs.Fitting.{is_fitting}
-use Rattle.pm_volume.specs.Files.{file_bytes, files_of}
+use Rattle.pm_volume.specs.Files.{files_of}
 use Rattle.pm_volume.specs.declared.entry.Entry.{Entry}
 use Rattle.pm_table.specs.declared.rows.TableRow.{TableRow}
-
--- The bytes of the file of the entry `e` of the volume `image`, as `files get` returns them.
-abbrev pub bytes_of : List ℕ → Entry → List ℕ
-bytes_of image e = unwrap_or (file_bytes image e) []
 
 -- Is true if the file of the entry `e` is listed: its name matches `pattern`, or no pattern is given.
 abbrev pub is_listed : Option (List ℕ) → Entry → Bool

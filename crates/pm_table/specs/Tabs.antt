@@ -6,7 +6,8 @@ use Rattle.pm_filer.specs.Listing.{date_text}
 use Rattle.pm_folder.specs.Folder.{kind_text}
 use Rattle.pm_folder.specs.Names.{listed_name}
 use Rattle.pm_volume.specs.Names.{characters_of}
-use Rattle.pm_table.specs.Rows.{bytes_of, rows_of}
+use Rattle.pm_volume.specs.Files.{bytes_of}
+use Rattle.pm_table.specs.Rows.{rows_of}
 use Rattle.pm_table.specs.declared.rows.TableRow.{TableRow}
 
 -- The first three fields: the slot, the name as in the file LIST of an export, and the word or the number of the kind.

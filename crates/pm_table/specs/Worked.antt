@@ -9,12 +9,12 @@ use Rattle.pm_filer.specs.Listing.{date_text}
 use Rattle.pm_folder.specs.Folder.{kind_text}
 use Rattle.pm_folder.specs.Names.{listed_name}
 use Rattle.pm_volume.specs.Directory.{block_count, directory_of}
-use Rattle.pm_volume.specs.Files.{files_of}
+use Rattle.pm_volume.specs.Files.{bytes_of, files_of}
 use Rattle.pm_volume.specs.Names.{characters_of}
 use Rattle.pm_volume.specs.Space.{free_blocks, largest_gap, volume_name}
 use Rattle.pm_volume.specs.declared.entry.Entry.{Entry}
 use Rattle.pm_table.specs.Json as json
-use Rattle.pm_table.specs.Rows.{bytes_of, is_listed, rows_from, rows_of}
+use Rattle.pm_table.specs.Rows.{is_listed, rows_from, rows_of}
 use Rattle.pm_table.specs.Tabs as tabs
 use Rattle.pm_table.specs.declared.rows.TableRow.{TableRow}
 

@@ -1,6 +1,7 @@
 //! The listed files of a volume, with their slots.
 ghost use Rattle.std.specs.Prelude.{◌≡◌, ◌++◌, IfOk, OnOk, option_map, string_bytes};
 ghost use Rattle.pm_table.specs.Rows as listing;
+ghost use Rattle.pm_volume.specs.Files.{bytes_of};
 
 use pm_filer::fits;
 use pm_volume::{Entry, Volume};
@@ -15,7 +16,7 @@ pub(crate) struct TableRow {
 
 /// Returns the bytes of the file of `entry` on `volume`, as `files get` returns them.
 pub(crate) fn bytes_of<'a>(volume: &'a Volume, entry: &Entry) -> &'a [u8]
-    ensures bytes { result.now ≡ listing.bytes_of volume.now entry.now }
+    ensures bytes { result.now ≡ bytes_of volume.now entry.now }
 {
     volume.file(entry).unwrap_or(&[])
 }

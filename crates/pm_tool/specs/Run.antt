@@ -103,7 +103,7 @@ pub record ComesToEnd (old new : Streams) (held_back : List ℕ) (show : Show) (
   pub drained : ending ≡ endings.Waiting → IsAtEnd new.source.remaining
 
 -- A fault stopped the run. The bytes written are a prefix of the run's output for any further input. If a read failed,
--- they are the whole output up to this read: a program never waits for input before its output is written.
+-- they are the whole output for the bytes that were read before.
 pub record StopsShort (old new : Streams) (show : Show) (limit : ℕ) (began : State) (fault : Fault) : Type 0 where
   pub read : List ℕ
   pub front : List ℕ

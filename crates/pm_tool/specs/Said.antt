@@ -213,9 +213,8 @@ pub record WritesFirst (old new : Streams) (shown : List ℕ → List ℕ) : Typ
 abbrev pub WritesInTime : Streams → Streams → (List ℕ → List ℕ) → Type 0
 WritesInTime old new shown = new.source.failed ≡ true → WritesFirst old new shown
 
--- If a read failed, all output that did not need more input was written. A program of a disk does not wait for input
--- before its output is written. A debugger answers each line before it reads the next line. For the other jobs nothing
--- is stated: they write only after they have read all their input.
+-- If a read failed in a session with a program of a disk or with the debugger, all output for the bytes that were read
+-- before was written. For the other jobs nothing is stated: they write only after they have read all their input.
 abbrev pub IsPromptWork : Work → Streams → Streams → Type 0
 IsPromptWork (works.Raw limit selection) old new = Unit {0}
 IsPromptWork (works.Talk start talk) old new = WritesInTime old new (shown_talk talk (machine_at start))

@@ -2,6 +2,7 @@
 use Rattle.std.specs.Prelude.{Bool, nat_le, ℕ, ◌+◌, ◌-◌, ◌*◌, List, [], length, slice_range, Option, Some, None}
 use Rattle.std.specs.Prelude.{if◌then◌else◌}
 use Rattle.std.specs.List.{find}
+use Rattle.std.specs.Option.{unwrap_or}
 use Rattle.pm_volume.specs.Directory.{directory_of, files_in}
 use Rattle.pm_volume.specs.Names.{characters_of, is_same_name}
 use Rattle.pm_volume.specs.declared.entry.Entry.{Entry}
@@ -26,3 +27,7 @@ file_bytes image e =
     let end = BLOCK * (e.end - 1) + e.last_bytes in
     if nat_le e.end e.first then Some []
     else (if nat_le end (length image) then Some (slice_range image (BLOCK * e.first) end) else None)
+
+-- The bytes of the file of the entry `e` of the volume `image`. An entry of a valid volume always has its bytes.
+abbrev pub bytes_of : List ℕ → Entry → List ℕ
+bytes_of image e = unwrap_or (file_bytes image e) []

@@ -1,6 +1,6 @@
 use Rattle.std.proofs.Common.{sym, ◌∙◌, ap, append-nil, arith, ◌++◌}
 use Rattle.pm_filer.proofs.Columns.{name-more, name-done}
-use Rattle.pm_search.proofs.lines.push_shown.Goals as goal
+use Rattle.pm_filer.proofs.printed.push_shown.Goals as goal
 
 pub loop-byte-preserved : goal.loop-byte-preserved
 loop-byte-preserved c =

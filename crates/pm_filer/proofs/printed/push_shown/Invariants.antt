@@ -1,6 +1,6 @@
 use Rattle.std.proofs.Common.{◌≡◌, ◌++◌, drop}
 use Rattle.pm_filer.specs.Listing.{printable_name}
-use Rattle.pm_search.proofs.lines.push_shown.Given as goal
+use Rattle.pm_filer.proofs.printed.push_shown.Given as goal
 
 -- The text so far and the remaining bytes are together the complete text.
 abbrev pub invariant-loop-byte : goal.invariant-loop-byte

@@ -1,6 +1,6 @@
 use Rattle.std.proofs.Common.{sym, ◌∙◌, ap, append-nil, arith, ◌++◌, string_bytes}
 use Rattle.pm_filer.proofs.Columns.{name-more, name-done, shown_ascii}
-use Rattle.pm_filer.proofs.listing.push_name.Goals as goal
+use Rattle.pm_filer.proofs.printed.push_name.Goals as goal
 
 pub loop-byte-preserved : goal.loop-byte-preserved
 loop-byte-preserved c =

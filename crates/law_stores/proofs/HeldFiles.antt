@@ -9,12 +9,13 @@ use Rattle.pm_machine.specs.State.{State}
 use Rattle.pm_tool.specs.Said.{IsCutShort, IsSoundExit, job_said}
 use Rattle.pm_tool.specs.declared.outcome.Job.TheVariants as jobs
 use Rattle.pm_tool.specs.declared.outcome.Outcome.{Outcome}
-use Rattle.pm_program.specs.Saved.{SavesEach, SavesRun, SavesRunSaid, SavesSaid, SavesTold, PrintsIf, Reads, ReadsEach}
-use Rattle.pm_program.specs.Saved.{first_image, has_run, saved_paths, next_images}
+use Rattle.pm_runs.specs.Saved.{SavesEach, SavesRun, SavesRunSaid, SavesTold, PrintsIf, Reads, ReadsEach}
+use Rattle.pm_runs.specs.Saved.{first_image, has_run, saved_paths, next_images}
+use Rattle.pm_verbs.specs.Verbs.{SavesSaid}
 use Rattle.pm_jobs.specs.declared.saving.Saving.{Saving}
 use Rattle.pm_jobs.specs.declared.saving.Saving.TheVariants as savings
 use Rattle.pm_plan.specs.Asked.{paths_in}
-use Rattle.pm_program.specs.declared.saved.Printing.TheVariants as printings
+use Rattle.pm_runs.specs.declared.saved.Printing.TheVariants as printings
 use Rattle.pm_plan.specs.declared.file_words.Verb.{Verb}
 use Rattle.pm_plan.specs.declared.file_words.Verb.TheVariants as verbs
 use Rattle.pm_tool.specs.Disks.{booted, images_of}

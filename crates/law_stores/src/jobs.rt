@@ -8,8 +8,9 @@ use crate::stores::OneFile;
 use pm_files::{DiskFault, Store};
 use pm_jobs::{Reader, Saving, Writer};
 use pm_plan::{Program, Verb};
-use pm_program::{Printing, SavedOfRun, do_files, do_run};
+use pm_runs::{Printing, SavedOfRun, do_run};
 use pm_tool::Outcome;
+use pm_verbs::do_files;
 use std::alloc::Global;
 
 /// The result of a command on a file.

@@ -1,4 +1,2 @@
 pub mod Found
-pub mod InFormLaws
 pub mod Computed
-pub mod AutoLaws

@@ -44,8 +44,8 @@ use Rattle.pm_plan.specs.declared.text_words.TextFiles.{TextFiles}
 use Rattle.pm_plan.specs.declared.text_words.TextInput.{TextInput}
 use Rattle.pm_plan.specs.declared.text_words.TextInput.TheVariants as inputs
 use Rattle.pm_plan.specs.SearchWords.{AsksSearch}
-use Rattle.pm_plan.specs.Forms.{AsksForm}
-use Rattle.pm_plan.specs.declared.form.FormChoice.{FormChoice}
+use Rattle.pm_plan.specs.FormWords.{AsksForm}
+use Rattle.pm_forms.specs.declared.form.FormChoice.{FormChoice}
 use Rattle.pm_plan.specs.declared.words.Asked.{Asked}
 use Rattle.pm_plan.specs.declared.words.Plan.{Plan}
 use Rattle.pm_plan.specs.declared.words.Plan.TheVariants as plans

@@ -25,8 +25,8 @@ IsGoodText text None = ⊤
 IsGoodText false (Some word) = ⊥
 IsGoodText true (Some word) = ends_named word ≢ None
 
--- Is true if `e` is the line ends that the value of `--ends` of `gettext` or `puttext` names, or `None` if the option is
--- not given.
+-- Is true if `e` is the line ends that the value of `--ends` of `gettext` or `puttext` names, or `None` if the option
+-- is not given.
 abbrev pub AreEndsGiven : Option (List ℕ) → Option Ends → Type 0
 AreEndsGiven None e = e ≡ None
 AreEndsGiven (Some word) e = (e ≡ ends_named word) × (ends_named word ≢ None)

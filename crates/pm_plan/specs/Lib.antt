@@ -1,9 +1,7 @@
 pub mod Asked
 pub mod FolderWords
-pub mod Forms
-pub mod InForm
+pub mod FormWords
 pub mod Needed
 pub mod Worked
 pub mod ConvertWords
 pub mod SearchWords
-pub mod AutoForm

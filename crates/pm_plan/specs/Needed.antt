@@ -12,7 +12,7 @@ use Rattle.pm_plan.specs.Asked.{word_below, word_found, words_of}
 use Rattle.pm_plan.specs.ConvertWords.{HasNew, IsGoodFormat, IsGoodTarget}
 use Rattle.pm_plan.specs.FolderWords.{AreGoodEnds, IsGoodText}
 use Rattle.pm_plan.specs.SearchWords.{IsGoodSearch}
-use Rattle.pm_plan.specs.Forms.{IsFormWord}
+use Rattle.pm_plan.specs.FormWords.{IsFormWord}
 use Rattle.pm_plan.specs.declared.words.WordsError.{WordsError}
 use Rattle.pm_plan.specs.declared.words.WordsError.TheVariants as errors
 

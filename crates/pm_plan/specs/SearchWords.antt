@@ -1,5 +1,6 @@
 -- The arguments of `find`, `grep` and `info`.
-use Rattle.std.specs.Prelude.{◌≡◌, ◌≢◌, ◌⊎◌, ⊤, ℕ, List, [], ◌∷◌, Option, None, Some, Vec, String, map, string_bytes, codes}
+use Rattle.std.specs.Prelude.{◌≡◌, ◌≢◌, ◌⊎◌, ⊤, ℕ, List, [], ◌∷◌, Option, None, Some, Vec, String, map, string_bytes}
+use Rattle.std.specs.Prelude.{codes}
 use Rattle.std.specs.declared.alloc.Global.{Global}
 use Rattle.clap.specs.Words.{Row, all_of, first_of, found_of, rows_of}
 use Rattle.clap.specs.declared.parser.matches.ArgMatches.{ArgMatches}
@@ -11,8 +12,8 @@ use Rattle.pm_plan.specs.declared.search_words.Sought.TheVariants as sought
 abbrev pub AsksImages : List Row → Vec (String Global) Global → Type 0
 AsksImages rows images = all_of (codes "IMAGE") rows ≡ Some (map string_bytes images.items)
 
--- Is true if `what` is what the command `command` with the arguments `rows` searches: the pattern of `find`, the text of
--- `grep`, or a description for `info`.
+-- Is true if `what` is what the command `command` with the arguments `rows` searches: the pattern of `find`, the text
+-- of `grep`, or a description for `info`.
 abbrev pub IsSought : List ℕ → List Row → Sought → Type 0
 IsSought command rows (sought.Names pattern) =
     (command ≡ codes "find") × (first_of (codes "PATTERN") rows ≡ Some (string_bytes pattern))

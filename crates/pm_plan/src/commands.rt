@@ -297,7 +297,7 @@ const VERBS: &[CommandRow] = &[
             (
                 "dry-run",
                 Form::Flag,
-                "Report the files that cannot be added, and do not write the image; without LIST, print its lines",
+                "Report the files that cannot be added, and do not write the image; if the folder has no LIST, print the lines that LIST would have",
             ),
         ],
     ),

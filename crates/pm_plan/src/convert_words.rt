@@ -1,5 +1,6 @@
 //! The arguments of `convert`.
-ghost use Rattle.std.specs.Prelude.{◌≡◌, ◌↔◌, IfErr, IfOk, IsOk, IsOkUnless, OnOk, Some, codes, option_map, string_bytes};
+ghost use Rattle.std.specs.Prelude.{◌≡◌, ◌↔◌, IfErr, IfOk, IsOk, IsOkUnless, OnOk, Some, codes, option_map};
+ghost use Rattle.std.specs.Prelude.{string_bytes};
 ghost use Rattle.pm_plan.specs.Asked.{AsksConvert, word_found, words_of};
 ghost use Rattle.pm_plan.specs.ConvertWords.{HasNew, IsFormat, IsGoodFormat, IsGoodTarget, IsTarget};
 ghost use Rattle.pm_plan.specs.Needed.{IsGoodConvert, IsOptional, IsWrong, has_options};

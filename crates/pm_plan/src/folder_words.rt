@@ -53,8 +53,8 @@ fn ends_named(word: &str) -> Option<Ends>
     }
 }
 
-/// Returns the line ends that the value of `--ends` of `gettext` or `puttext` names. Returns `None` if the option is not
-/// given, and `Wrong` if its value names no line ends.
+/// Returns the line ends that the value of `--ends` of `gettext` or `puttext` names. Returns `None` if the option is
+/// not given, and `Wrong` if its value names no line ends.
 pub(crate) fn ends_given(matches: &ArgMatches<'_>) -> Result<Option<Ends>, WordsError>
     ensures value { IfOk result (AreEndsGiven (word_found (words_of matches.now) (codes "ends"))) }
     ensures good { IsOk result ↔ AreGoodEnds (word_found (words_of matches.now) (codes "ends")) }

@@ -1,14 +1,12 @@
 //! The arguments of the command line, and the job that they specify.
 #![tactic(auto)]
 
-mod auto_form;
 mod commands;
 mod compare_words;
 mod convert_words;
 mod file_words;
 mod folder_words;
-mod form;
-mod in_form;
+mod form_words;
 mod run_words;
 mod search_words;
 mod shorthand;
@@ -19,13 +17,10 @@ mod trace_words;
 mod words;
 pub mod worked;
 
-pub use auto_form::{Detected, detect};
 pub use compare_words::ComparePlan;
 pub use convert_words::{ConvertPlan, Target};
 pub use file_words::{FilesPlan, SalvagePlan, Verb};
 pub use folder_words::{ExportPlan, ImportPlan};
-pub use form::{Form, FormChoice};
-pub use in_form::{InForm, PathForm};
 pub use pm_check::Order;
 pub use run_words::{Others, Program, RunChoices};
 pub use search_words::{SearchPlan, Sought};

@@ -65,6 +65,20 @@ fn is_disk(word: &str) -> bool {
     }
 }
 
+/// Returns whether `word` is an option for a disk on a unit that has no disk. The option may have a value, as in
+/// `--d6=IMAGE`.
+fn is_other_disk(word: &str) -> bool {
+    let option = match word.split_once('=') {
+        Some((option, _)) => option,
+        None => word,
+    };
+    is_disk(option)
+        && !matches!(
+            option,
+            "--d4" | "--d5" | "--d9" | "--d10" | "--d11" | "--d12"
+        )
+}
+
 /// Returns whether `word` is a number with the sign `-`.
 fn is_negative(word: &str) -> bool {
     match word.strip_prefix('-') {
@@ -84,14 +98,7 @@ pub fn tip_for_option(words: &[String]) -> Told {
         return Told::Unchanged;
     };
     let is_run = matches!(command.as_str(), "run" | "trace" | "debug");
-    let is_other = |word: &String| {
-        is_disk(word.as_str())
-            && !matches!(
-                word.as_str(),
-                "--d4" | "--d5" | "--d9" | "--d10" | "--d11" | "--d12"
-            )
-    };
-    if is_run && words.iter().any(is_other) {
+    if is_run && words.iter().any(|word| is_other_disk(word.as_str())) {
         return Told::Instead(UNITS);
     }
     let is_counted = is_run || command.as_str() == "raw";
@@ -119,52 +126,60 @@ pub fn tip_for_option(words: &[String]) -> Told {
     }
 }
 
+/// Returns the tip for `word`, a common name of what a verb of `files` does that changes no volume. Returns `None` for
+/// any other word.
+fn tip_for_reading(word: &str) -> Option<&'static str> {
+    match word {
+        "cat" | "type" | "print" | "show" | "view" | "more" | "less" => Some(
+            "to print a text file: pmach files --image IMAGE gettext NAME",
+        ),
+        "ls" | "dir" | "catalog" | "directory" => Some(
+            "to list the files: pmach files --image IMAGE list",
+        ),
+        "cp" | "extract" | "read" | "fetch" => Some(
+            "to copy a file out of the image: pmach files --image IMAGE get NAME -o FILE",
+        ),
+        "unpack" | "unzip" | "extract-all" | "dump" => Some(
+            "to copy all files out of the image: pmach files --image IMAGE export FOLDER",
+        ),
+        "compare" | "cmp" => Some(
+            "to compare the files of two volumes: pmach files --image IMAGE diff OTHERIMAGE",
+        ),
+        "undelete" | "unremove" => Some(
+            "a removed file may remain in a free area; 'list --all' shows the free areas",
+        ),
+        "recover" | "rescue" => Some(
+            "to save the files of a damaged volume: pmach files --image IMAGE salvage NEWIMAGE",
+        ),
+        "fsck" | "verify" | "test" => Some("to check a volume: pmach files --image IMAGE check"),
+        _ => None,
+    }
+}
+
 /// Returns the tip for `word`, a common name of what a verb of `files` does. Returns `None` for any other word.
 fn tip_for_name(word: &str) -> Option<&'static str> {
-    let tip = match word {
-        "rename" | "ren" | "mv" | "move" => {
-            "to rename a file: pmach files --image IMAGE change OLD NEW"
-        }
-        "rm" | "del" | "delete" | "erase" | "unlink" => {
-            "to remove a file: pmach files --image IMAGE remove NAME"
-        }
-        "cat" | "type" | "print" | "show" | "view" | "more" | "less" => {
-            "to print a text file: pmach files --image IMAGE gettext NAME"
-        }
-        "ls" | "dir" | "catalog" | "directory" => {
-            "to list the files: pmach files --image IMAGE list"
-        }
-        "cp" | "extract" | "read" | "fetch" => {
-            "to copy a file out of the image: pmach files --image IMAGE get NAME -o FILE"
-        }
-        "unpack" | "unzip" | "extract-all" | "dump" => {
-            "to copy all files out of the image: pmach files --image IMAGE export FOLDER"
-        }
-        "add" | "write" | "insert" | "store" => {
-            "to add a file: pmach files --image IMAGE put NAME KIND <FILE; a text: puttext NAME <FILE"
-        }
-        "compare" | "cmp" => {
-            "to compare the files of two volumes: pmach files --image IMAGE diff OTHERIMAGE"
-        }
-        "resize" | "grow" | "enlarge" | "expand" => {
-            "to enlarge a volume, make a longer copy of the image with truncate, and then: pmach files --image COPY salvage LARGER"
-        }
-        "undelete" | "unremove" => {
-            "a removed file may remain in a free area; 'list --all' shows the free areas"
-        }
-        "recover" | "rescue" => {
-            "to save the files of a damaged volume: pmach files --image IMAGE salvage NEWIMAGE"
-        }
-        "fsck" | "verify" | "test" => "to check a volume: pmach files --image IMAGE check",
-        "crunch" | "defrag" | "pack" | "squeeze" => {
-            "to move the files together: pmach files --image IMAGE krunch"
-        }
-        "format" | "mkfs" | "init" => {
-            "to make an empty volume in a new file: pmach files --image NEWIMAGE new NAME BLOCKS"
-        }
-        _ => return None,
-    };
-    Some(tip)
+    match word {
+        "rename" | "ren" | "mv" | "move" => Some(
+            "to rename a file: pmach files --image IMAGE change OLD NEW",
+        ),
+        "rm" | "del" | "delete" | "erase" | "unlink" => Some(
+            "to remove a file: pmach files --image IMAGE remove NAME",
+        ),
+        "add" | "write" | "insert" | "store" => Some(
+            "to add a file: pmach files --image IMAGE put NAME KIND <FILE; a text: puttext NAME <FILE",
+        ),
+        "resize" | "grow" | "enlarge" | "expand" => Some(
+            "to enlarge a volume, make a longer copy of the image with truncate, and then: pmach files --image COPY \
+             salvage LARGER",
+        ),
+        "crunch" | "defrag" | "pack" | "squeeze" => Some(
+            "to move the files together: pmach files --image IMAGE krunch",
+        ),
+        "format" | "mkfs" | "init" => Some(
+            "to make an empty volume in a new file: pmach files --image NEWIMAGE new NAME BLOCKS",
+        ),
+        _ => tip_for_reading(word),
+    }
 }
 
 /// Returns the tip for the unknown command `word`. Returns `None` if no tip applies.

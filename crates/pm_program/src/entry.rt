@@ -1,12 +1,11 @@
 //! The whole program, which runs on any host system.
 ghost use Rattle.std.specs.Prelude.{◌≡◌};
 
-use crate::end::End;
-use crate::folded::Folded;
 use crate::follow::follow;
-use crate::say::{Manner, PlainLines, say};
 use pm_files::{DiskFault, Host, Stream};
+use pm_messages::{End, Manner, PlainLines, say};
 use pm_plan::{WordsError, plan_of};
+use pm_terminal::Folded;
 use pm_tool::Exit;
 use std::env::Env;
 use std::io::{ErrorKind, Input};

@@ -1,0 +1,2 @@
+pub mod InFormLaws
+pub mod AutoLaws

@@ -1,0 +1,4 @@
+pub mod Forms
+pub mod InForm
+pub mod AutoForm
+pub mod Worked

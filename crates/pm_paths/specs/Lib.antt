@@ -1,0 +1,2 @@
+pub mod Conflicts
+pub mod Locks

@@ -1,3 +1,0 @@
-mod FolderLaws
-mod SavedLaws
-mod TextLaws

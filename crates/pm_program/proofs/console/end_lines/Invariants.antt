@@ -1,7 +1,0 @@
-use Rattle.std.proofs.Common.{◌≡◌, ◌++◌, map, take, drop}
-use Rattle.pm_program.specs.Console.{shown_byte}
-use Rattle.pm_program.proofs.console.end_lines.Given as goal
-
--- The bytes before the index are replaced, and the other bytes are unchanged.
-abbrev pub invariant-loop-byte : goal.invariant-loop-byte
-invariant-loop-byte l = l.bytes ≡ map shown_byte (take l.byte-index l.initial.bytes) ++ drop l.byte-index l.initial.bytes

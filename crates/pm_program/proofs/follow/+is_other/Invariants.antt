@@ -1,5 +1,0 @@
-use Rattle.std.specs.Prelude.{length}
-use Rattle.pm_program.proofs.follow.+is_other.Given as goal
-
-abbrev pub decreases-is_other : goal.decreases-is_other
-decreases-is_other g l = length l.images.now

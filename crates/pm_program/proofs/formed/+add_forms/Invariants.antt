@@ -1,5 +1,0 @@
-use Rattle.std.specs.Prelude.{length}
-use Rattle.pm_program.proofs.formed.+add_forms.Given as goal
-
-abbrev pub decreases-add_forms : goal.decreases-add_forms
-decreases-add_forms g l = length l.paths.now

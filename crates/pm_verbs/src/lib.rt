@@ -1,0 +1,19 @@
+//! The verbs of `files`, and `salvage`, with the files that they read and save.
+#![tactic(auto)]
+
+mod compared;
+mod ended;
+mod got;
+mod opened;
+mod plans;
+mod replaced;
+mod tabled;
+mod verbs;
+
+pub use compared::{Comparison, do_compare};
+pub use ended::{do_gettext, do_puttext};
+pub use got::do_get;
+pub use plans::act_on_files;
+pub use replaced::do_replace;
+pub use tabled::do_table;
+pub use verbs::{do_files, do_salvage};

@@ -5,7 +5,7 @@
 #   nops     one procedure of NOPs; from 60,000 bytes on it is too long
 #   listing  the same, its listing
 #   labels   one procedure of labels alone
-#   tables   NOPs, and XJPs with tables of 2,000 labels, one label, which stands at the end
+#   tables   NOPs, and XJPs with tables of 2,000 labels, one label, which is at the end
 #   jumps    one procedure of short jumps, each to a label of its own behind it
 #   cases    one procedure of XJPs with tables of 50 labels, at its first and its last item
 #   short    procedures of one item
@@ -34,7 +34,7 @@ tables() {
         printf 'z: NOP\nNOP\n'
     } | procedure z
 }
-# three bytes for each label: a short jump to it, and the NOP that it stands at
+# three bytes for each label: a short jump to it, and the NOP at the label
 jumps() { seq "$1" | awk '{ printf "  UJP L%d\nL%d: NOP\n", $1, $1 }' | procedure; }
 # 110 bytes each: opcode and padding, bounds, a jump over the table of 100 bytes, the table, two NOPs
 cases() {

@@ -258,7 +258,7 @@ if has "refusals of the system" strace; then
     done
 fi
 
-# A file of the command that stands where the new file for another is made.
+# A file of the command at the path of the new file for another.
 message="error: one file is the temporary file (PATH.pmach-new) of another, and would be deleted; rename it"
 cp base a
 cp base a.pmach-new

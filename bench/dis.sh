@@ -37,7 +37,7 @@ jumps() {
     for ((k = 0; k < 60; k++)); do printf "\\xa1\\x$(printf %02x $((246 - 2 * k)))"; done
 }
 
-# table SIZE PROCEDURES: what stands behind code of a size: a table with exit code at 0, and its dictionary
+# table SIZE PROCEDURES: the bytes after code of a size: a table with exit code at 0, and its dictionary
 table() {
     local jtab=$(($1 + 8)) p
     word 0

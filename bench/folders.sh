@@ -127,17 +127,26 @@ check "the others are there, with names in digits" [ "$(files l list | cut -c1-1
 check "quiet" ends 4 files l import --quiet fl
 check "is quiet" [ ! -s err ]
 check "no folder" ends 4 files l import none
-check "no LIST" ends 4 files l import fl/SUB
+check "no LIST, and no file" ends 0 files l import fl/SUB
 check "no image for it" ends 4 files none import fa
 check "two folders" ends 1 files l import fa fb
 check "the same in another order" ends 0 eval 'files x.dos --form dos new X 280 && files x.dos --form dos import fa'
 check "has the files" cmp <(files x.dos --form dos list | cut -c1-18,30- | sed '1d;$d') <(files a list | cut -c1-18,30- | sed '1d;$d')
 ln -s fa fa.link
 cp l l.before
-for path in fa.link fa.link/ l.before; do
+for path in fa.link fa.link/ l.before l; do
     check "$path, which is no folder" ends 4 files l import $path
     check "$path is a read fault" [ "$(head -n 1 err)" = "read fault" ]
 done
+# The rows of test_trials have the same cases: a path that leads through a file, and a folder that does not exist.
+check "an image below a file" ends 4 files l.before/x list
+check "it is a read fault" [ "$(head -n 1 err)" = "read fault" ]
+for path in l.before/new none/new; do
+    check "$path cannot be created" ends 4 files l export $path
+    check "$path is a write fault" [ "$(head -n 1 err)" = "write fault" ]
+    check "$path, a volume, cannot be created either" ends 4 files $path new X 40
+done
+check "nothing is created" [ ! -e none ]
 # LIST has at most 65,536 bytes, and of a line at most 120 characters are quoted.
 { head -n 1 l.out2/LIST && head -c 65536 /dev/zero | tr '\0' '\n'; } | head -c 65536 >fl/LIST
 check "the longest LIST" ends 0 files l import fl
@@ -465,7 +474,7 @@ done
 check "other ends" ends 1 files ends.img export --text --ends vax none
 check "ends of bytes" ends 1 files ends.img export --ends crlf none
 check "line ends that differ, of a text that is there" ends 2 files ends.cr.img import ends.crlf.out
-check "which is refused as a text" grep -q '^pmach: ends.crlf.out/A.TEXT: .*--ends crlf or --ends cr' err
+check "which is refused as a text" grep -q '^pmach: ends.crlf.out/A.TEXT: .*--ends crlf; .* --ends cr$' err
 check "other ends in" ends 1 files ends.img import --ends vax ends.cr.out
 
 # a hurt volume opens in no form: the one that is named is made all the same

@@ -49,7 +49,7 @@ def sentences():
 
     told.append(("hex 1", own(r"Refusal::Hex => ")))
     boot = faults("crates/pm_machine/src/state.rt")
-    about = read("crates/pm_program/src/about.rt") # the program names the image and the file in these two
+    about = read("crates/pm_messages/src/about.rt") # the program names the image and the file in these two
     for name, number in ("NoFile", 1), ("NotCode", 2):
         boot[0][name] = re.search(r"\(%d, _\) => [^\"]*" % number + STRING, about).group(1)
     boot[0]["Exec"] = own(r"Refusal::Boot\(BootFault::Exec\(error\)\) => ").replace("{error}", "{0}")
@@ -78,7 +78,7 @@ def sentences():
 
 def wrong_words():
     """The texts of words and paths that do not go together."""
-    texts = re.findall(STRING, read("crates/pm_program/src/end.rt"))
+    texts = re.findall(STRING, read("crates/pm_paths/src/conflicts.rt"))
     for path in sorted(glob.glob(os.path.join(TOP, "crates/pm_plan/src/*.rt"))):
         text = read(path)
         texts += ["error: " + said for said in re.findall(r"WordsError::Wrong\(\s*" + STRING, text)]

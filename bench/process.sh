@@ -39,9 +39,8 @@ usage() {
     result "$name" $?
 }
 
-# asked NAME WORD..: to the program help is wrong words; the front shows it on standard output, with status 0
+# asked NAME WORD..: status 0, help on standard output, nothing on standard error
 asked() {
-    [ "$(head -c 2 "$pmach")" = '#!' ] || { usage "$@" && return; }
     local name=$1
     shift
     "$pmach" "$@" >"$scratch/out" 2>"$scratch/err" <"$addition"

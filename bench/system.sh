@@ -312,7 +312,7 @@ word 255
 word 1
 line 'CXP 0, 24'
 show_s
-case_is 'insert in front of 254' "[b$(times 254 A)]"
+case_is 'insert before 254' "[b$(times 254 A)]"
 run_group
 
 # 25, COPY: of what, from where, how many, the result
@@ -881,7 +881,7 @@ list_is() { # NAME LINE..: the files of the disk but the cases: name, kind, firs
     [ $status = 0 ] || cat "$scratch/got"
 }
 written_are() { # NAME BLOCK..: what the last group changed: these blocks alone, and behind the entries of the
-    # directory nothing stands. A block is a number, or first-last
+    # directory there is nothing. A block is a number, or first-last
     cmp -l "$scratch/before" "$image" | awk '{ n = int(($1 - 1) / 512); if (!seen[n]++) print n }' >"$scratch/got"
     local range
     for range in "${@:2}"; do seq "${range%-*}" "${range#*-}"; done | sort -nu | cmp -s - "$scratch/got"
@@ -1280,7 +1280,7 @@ call 18
 line "LAO $f"
 call 21
 show_s
-case_is 'spaces in front of a line are characters' '[  THREE]'
+case_is 'spaces before a line are characters' '[  THREE]'
 line "LAO $f" 'LAO 259'
 call 12
 show_i
@@ -1334,7 +1334,7 @@ get $f
 show_top "LAO $((f + 300))" 'SLDC 0' LDB
 case_is 'SEEK in a text does nothing' 000"$(printf %d "'N")"
 close $f 0
-# An INTERACTIVE file: a line, GET and READ within the spaces in front of one, and the end
+# An INTERACTIVE file: a line, GET and READ within the spaces before a line, and the end
 printf 'ONE\n    AB\n' | files puttext TWO.TEXT
 read_f() {
     line "LAO $f" 'LAO 260'

@@ -35,8 +35,7 @@ mkdir "$room" || exit
 [ ! -d "$crate/data" ] || cp -R "$crate/data/." "$room/" || exit
 given=/dev/null
 [ ! -f "$crate/stdin" ] || given=$crate/stdin
-# (a part is a script on standard input, so the other scripts are not read)
-[ -z "$part" ] || { given=$scratch/trials/$part && rm -f "$room"/*.trial; }
+[ -z "$part" ] || given=$scratch/trials/$part
 [ -z "$nobody" ] || chown -R 65534:65534 "$room"
 began=$(date +%s)
 (cd "$room" && umask 022 && exec timeout 600 $nobody "$scratch/bin/tests" "$name" <"$given" >"$scratch/$label.out" 2>"$scratch/$label.err")

@@ -38,7 +38,7 @@ is_wanted() {
 
 # Splits the scripts of test_trials, which take longest, into parts of $scratch/trials that can run at the same time. A part
 # begins at a line `disk`, which removes all files: in large.trial, where a few lines take up to 17 s, at each of them. It
-# repeats the setting `terminal`, which is not a file.
+# repeats the setting `terminal`, which is not a file. The scripts are `stdin` and, after it, those that its last lines name.
 split_trials() {
     mkdir "$scratch/trials" && (cd "$here/crates/test_trials" && awk -v folder="$scratch/trials" '
         BEGIN { terminal = "terminal off" }
@@ -48,8 +48,9 @@ split_trials() {
             size = 0
             print terminal >file
         }
+        $1 == "script" { ARGV[ARGC++] = "data/" $2; next }
         $1 == "terminal" { terminal = $0 }
-        { print >file; size += length($0) + ($1 == "include" ? 5000 : 0) }' stdin data/*.trial)
+        { print >file; size += length($0) + ($1 == "include" ? 5000 : 0) }' stdin)
 }
 
 # What the parts of test_trials wrote, as one process would have written it: the counts at their ends are added.

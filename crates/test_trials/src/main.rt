@@ -1,26 +1,31 @@
-//! Tests of whole command lines with a runtime in memory. Standard input is a script with the command lines and their
-//! expected results. The scripts `large.trial` and `system.trial` are executed next, if these files exist. The first
-//! has large texts, files and volumes, and the second has the procedures of the system segment.
+//! Tests of whole command lines with a computer in memory. Standard input is a script with the command lines and their
+//! expected results. Its lines `script FILE` execute other scripts, which are files in the current folder.
 #![tactic(auto)]
 
 mod command;
-mod disk;
 mod meanwhile;
-mod pieces;
-mod runtime;
 mod script;
-mod streams;
 mod sweep;
 
 use script::Trials;
 use std::{fs, io};
 
-/// The scripts in the current folder of the program.
-const SCRIPTS: [&str; 2] = ["large.trial", "system.trial"];
+/// Returns the text of the file that `line` names.
+///
+/// # Errors
+///
+/// The error of reading the file. It ends the program, after `line` was printed with the reason.
+fn text_of(rt: &HostRuntime, line: &str, path: &str) -> io::Result<String> {
+    let text = fs::read_to_string(rt, path);
+    if text.is_err() {
+        println!(rt; "not so: {line}\nthe file cannot be read in the current folder")?;
+    }
+    text
+}
 
 /// Appends the lines of the text file at `path` to the standard input of the next command line.
-fn include(rt: &HostRuntime, trials: &mut Trials, path: &str) -> io::Result<()> {
-    let text = fs::read_to_string(rt, path)?;
+fn include(rt: &HostRuntime, trials: &mut Trials, line: &str, path: &str) -> io::Result<()> {
+    let text = text_of(rt, line, path)?;
     for line in text.lines() {
         let line = format!(in rt.alloc(); "< {line}")?;
         trials.line(line.as_str())?;
@@ -32,7 +37,7 @@ fn include(rt: &HostRuntime, trials: &mut Trials, path: &str) -> io::Result<()> 
 /// produced.
 fn take(rt: &HostRuntime, trials: &mut Trials, line: &str) -> io::Result<()> {
     if let Some(path) = line.strip_prefix("include ") {
-        return include(rt, trials, path);
+        return include(rt, trials, line, path);
     }
     if !trials.line(line)? {
         println!(rt; "not so: {line}\n{trials}")?;
@@ -40,17 +45,22 @@ fn take(rt: &HostRuntime, trials: &mut Trials, line: &str) -> io::Result<()> {
     print!(rt; "{}", trials.take_told())
 }
 
+/// Executes the lines of the script at `path`, which `line` names.
+fn take_script(rt: &HostRuntime, trials: &mut Trials, line: &str, path: &str) -> io::Result<()> {
+    let text = text_of(rt, line, path)?;
+    for line in text.lines() {
+        take(rt, trials, line)?;
+    }
+    Ok(())
+}
+
 fn main(rt: HostRuntime) -> io::Result<()> {
     let mut trials = Trials::new(rt.alloc());
     for line in rt.lines(rt.alloc()) {
         let line = line?;
-        take(&rt, &mut trials, line.as_str())?;
-    }
-    for script in SCRIPTS {
-        if let Ok(lines) = fs::read_to_string(&rt, script) {
-            for line in lines.lines() {
-                take(&rt, &mut trials, line)?;
-            }
+        match line.strip_prefix("script ") {
+            Some(path) => take_script(&rt, &mut trials, line.as_str(), path)?,
+            None => take(&rt, &mut trials, line.as_str())?,
         }
     }
     println!(rt; "command lines: {}", trials.count())

@@ -1,26 +1,16 @@
 //! The lines of a script.
-use crate::command::{Came, CommandLine, come};
-use crate::disk::{Disk, Inode};
-use crate::meanwhile::{Deed, deed_of, meanwhile};
-use crate::pieces::add_pieces;
+use crate::command::{CommandLine, come};
+use crate::meanwhile::meanwhile;
 use crate::sweep::sweep;
 use std::alloc::Global;
-use std::io::ErrorKind;
 use std::{fmt, io};
+use test_host::{Came, Deed, Disk, Scene, add, deed_of};
 
-/// The state of a script: the files of the disk, and the result of the last command line.
+/// The state of a script.
 #[derive(Drop)]
 pub struct Trials {
-    alloc: Global,
-    /// The result of the last command line. The next one uses its disk.
-    came: Came,
-    /// Standard input of the next command line.
-    typed: Vec<u8>,
-    /// The expected contents of standard output and of standard error.
-    out: Vec<u8>,
-    err: Vec<u8>,
-    /// Whether the standard streams are a terminal.
-    on_terminal: bool,
+    /// The files of the disk, and the result of the last command line.
+    scene: Scene,
     /// What another program does during the next command line of `$~`.
     deed: Option<Deed>,
     /// The lines before and after each text of `takes` and `refuses`.
@@ -31,69 +21,11 @@ pub struct Trials {
     count: u32,
 }
 
-fn add(bytes: &mut Vec<u8>, text: &str, ends: bool) -> io::Result<()> {
-    bytes.extend_from_slice(text.as_bytes())?;
-    if ends {
-        bytes.extend_from_slice(b"\n")?;
-    }
-    Ok(())
-}
-
-/// Returns the number that a word spells, or the greatest number if it spells none.
-fn number(word: &str) -> usize {
-    word.parse().unwrap_or(usize::MAX)
-}
-
-/// Returns the number that a word spells in octal digits, or the greatest number if it spells none.
-fn mode(word: &str) -> u32 {
-    u32::from_str_radix(word, 8).unwrap_or(u32::MAX)
-}
-
-/// Returns the number of a user that a word spells, or the greatest number if it spells none.
-fn user(word: &str) -> u32 {
-    word.parse().unwrap_or(u32::MAX)
-}
-
-/// Returns the kind of error that a word names.
-fn kind_of(word: &str) -> ErrorKind {
-    match word {
-        "memory" => ErrorKind::OutOfMemory,
-        "denied" => ErrorKind::PermissionDenied,
-        "full" => ErrorKind::StorageFull,
-        "large" => ErrorKind::FileTooLarge,
-        "folder" => ErrorKind::IsADirectory,
-        "no-folder" => ErrorKind::NotADirectory,
-        "device" => ErrorKind::ReadOnlyFilesystem,
-        "mounted" => ErrorKind::CrossesDevices,
-        _ => ErrorKind::Other,
-    }
-}
-
-/// Gives a file the property that a word names.
-fn mark(inode: &mut Inode, word: &str) {
-    match word {
-        "hold" => inode.locked = true,
-        "private" => inode.is_private = true,
-        "read-only" => inode.is_read_only = true,
-        "folder" => inode.is_folder = true,
-        "busy" => inode.is_busy = true,
-        _ => inode.is_foreign = true,
-    }
-}
-
 impl Trials {
     /// Returns the state without files and without command lines.
     pub fn new(alloc: Global) -> Trials {
         Trials {
-            alloc,
-            came: Came {
-                status: 0,
-                disk: Disk::new(alloc),
-            },
-            typed: Vec::new(alloc),
-            out: Vec::new(alloc),
-            err: Vec::new(alloc),
-            on_terminal: false,
+            scene: Scene::new(alloc),
             deed: None,
             before: Vec::new(alloc),
             behind: Vec::new(alloc),
@@ -109,15 +41,12 @@ impl Trials {
 
     /// Returns the text to be printed, and clears it.
     pub fn take_told(&mut self) -> String {
-        std::mem::replace(&mut self.told, String::new(self.alloc))
+        std::mem::replace(&mut self.told, String::new(self.scene.alloc))
     }
 
-    /// Stores the result of a command line, and clears standard input and the expected contents.
+    /// Stores and counts the result of a command line.
     fn keep(&mut self, came: Came) {
-        self.came = came;
-        self.typed.clear();
-        self.out.clear();
-        self.err.clear();
+        self.scene.keep(came);
         self.count = self.count.wrapping_add(1);
     }
 
@@ -125,12 +54,12 @@ impl Trials {
     fn run(&mut self, words: &str) -> io::Result<bool> {
         let command = CommandLine {
             words,
-            typed: self.typed.as_slice(),
-            on_terminal: self.on_terminal,
+            typed: self.scene.typed.as_slice(),
+            on_terminal: self.scene.on_terminal,
         };
-        let mut disk = std::mem::replace(&mut self.came.disk, Disk::new(self.alloc));
+        let mut disk = std::mem::replace(&mut self.scene.came.disk, Disk::new(self.scene.alloc));
         disk.rewind();
-        let came = come(self.alloc, disk, command, None);
+        let came = come(self.scene.alloc, disk, command, None);
         self.keep(came);
         Ok(true)
     }
@@ -140,10 +69,10 @@ impl Trials {
     fn run_each(&mut self, words: &str, paths: &str) -> io::Result<bool> {
         let command = CommandLine {
             words,
-            typed: self.typed.as_slice(),
-            on_terminal: self.on_terminal,
+            typed: self.scene.typed.as_slice(),
+            on_terminal: self.scene.on_terminal,
         };
-        let (holds, came) = sweep(self.alloc, &self.came.disk, command, paths)?;
+        let (holds, came) = sweep(self.scene.alloc, &self.scene.came.disk, command, paths)?;
         self.keep(came);
         Ok(holds)
     }
@@ -153,17 +82,23 @@ impl Trials {
     fn run_beside(&mut self, words: &str, paths: &str) -> io::Result<bool> {
         let command = CommandLine {
             words,
-            typed: self.typed.as_slice(),
-            on_terminal: self.on_terminal,
+            typed: self.scene.typed.as_slice(),
+            on_terminal: self.scene.on_terminal,
         };
         let Some(deed) = self.deed.take() else {
             return Ok(false);
         };
-        let told = meanwhile(self.alloc, &self.came.disk, command, &deed, paths)?;
+        let told = meanwhile(
+            self.scene.alloc,
+            &self.scene.came.disk,
+            command,
+            &deed,
+            paths,
+        )?;
         self.told.push_str(words)?;
         self.told.push_str("\n")?;
         self.told.push_str(told.as_str())?;
-        self.typed.clear();
+        self.scene.typed.clear();
         self.count = self.count.wrapping_add(1);
         Ok(true)
     }
@@ -171,7 +106,7 @@ impl Trials {
     /// Reads from a line what another program will do.
     fn begin_deed(&mut self, rest: &str) -> io::Result<bool> {
         let (word, path) = rest.split_once(' ').unwrap_or((rest, ""));
-        self.deed = deed_of(self.alloc, &self.came.disk, word, path)?;
+        self.deed = deed_of(self.scene.alloc, &self.scene.came.disk, word, path)?;
         self.told.push_str(rest)?;
         self.told.push_str(": ")?;
         Ok(self.deed.is_some())
@@ -181,175 +116,8 @@ impl Trials {
     /// error.
     fn run_wrong(&mut self, words: &str) -> io::Result<bool> {
         self.run(words)?;
-        let disk = &self.came.disk;
-        Ok(self.came.status == 1 && !disk.err.is_empty() && disk.log.as_str() == "E")
-    }
-
-    /// Whether the last command line has this status, and its streams have exactly the expected contents.
-    fn is(&self, status: &str) -> bool {
-        let disk = &self.came.disk;
-        usize::from(self.came.status) == number(status)
-            && disk.out.as_slice() == self.out.as_slice()
-            && disk.err.as_bytes() == self.err.as_slice()
-    }
-
-    /// Returns the word with index `place` in line `line` of standard output. Both count from 0.
-    fn field(&self, line: &str, place: &str) -> Option<&str> {
-        let text = std::str::from_utf8(self.came.disk.out.as_slice()).ok()?;
-        text.lines()
-            .nth(number(line))?
-            .split(' ')
-            .nth(number(place))
-    }
-
-    /// Executes a line that sets the state of the files and streams for the next command line.
-    fn set(&mut self, word: &str, rest: &str) -> io::Result<bool> {
-        let disk = &mut self.came.disk;
-        match word {
-            "disk" => *disk = Disk::new(self.alloc),
-            "closed" => disk.is_closed = true,
-            "sticky" => disk.is_sticky = true,
-            "blind" => disk.is_blind = true,
-            "plain" => disk.is_plain = true,
-            "user" => disk.user = user(rest),
-            "terminal" => self.on_terminal = rest == "on",
-            "<" => add(&mut self.typed, rest, true)?,
-            "key" => self.typed.push(rest.parse().unwrap_or(0))?,
-            "<<" => {
-                self.typed = std::mem::replace(&mut disk.out, Vec::new(self.alloc));
-            }
-            "hold" | "private" | "read-only" | "folder" | "busy" | "foreign" if !rest.is_empty() =>
-                {
-                    match disk.named(rest) {
-                        Some(inode) => mark(inode, word),
-                        None => return Ok(false),
-                    }
-                }
-            "hold" | "private" | "read-only" | "folder" => {
-                for inode in disk.inodes.iter_mut() {
-                    inode.locked = word == "hold";
-                    inode.is_private = word == "private";
-                    inode.is_read_only = word == "read-only";
-                    inode.is_folder = word == "folder";
-                }
-            }
-            _ => return Ok(false),
-        }
-        Ok(true)
-    }
-
-    /// Executes a line that creates or changes a file.
-    fn change(&mut self, word: &str, path: &str, rest: &str) -> io::Result<bool> {
-        match word {
-            "copy" => self.copy(path, rest),
-            "poke" => Ok(self.poke(path, rest)),
-            "store" => {
-                let out = std::mem::replace(&mut self.came.disk.out, Vec::new(self.alloc));
-                self.came.disk.put(path, out.as_slice())?;
-                self.came.disk.out = out;
-                Ok(true)
-            }
-            "link" => {
-                self.came.disk.link(path, rest)?;
-                Ok(true)
-            }
-            "symlink" => {
-                self.came.disk.symlink(path, rest)?;
-                Ok(true)
-            }
-            "mode" | "owner" => Ok(self.dress(word, path, rest)),
-            "fail" => {
-                let letter = path.chars().next().unwrap_or(' ');
-                self.came.disk.fails_of = Some((letter, kind_of(rest)));
-                Ok(true)
-            }
-            "zeros" => {
-                let mut zeros = Vec::new(self.alloc);
-                zeros.resize(number(rest), 0)?;
-                self.came.disk.put(path, zeros.as_slice())?;
-                Ok(true)
-            }
-            _ => Ok(false),
-        }
-    }
-
-    /// Sets the mode of a file, or its owner and group.
-    fn dress(&mut self, word: &str, path: &str, rest: &str) -> bool {
-        let (first, second) = rest.split_once(' ').unwrap_or((rest, rest));
-        let Some(inode) = self.came.disk.named(path) else {
-            return false;
-        };
-        if word == "mode" {
-            inode.mode = mode(first);
-        } else {
-            inode.owner = user(first);
-            inode.group = user(second);
-        }
-        true
-    }
-
-    /// Copies the bytes of a file to another path.
-    fn copy(&mut self, from: &str, to: &str) -> io::Result<bool> {
-        let mut bytes = Vec::new(self.alloc);
-        let Some(old) = self.came.disk.bytes(from) else {
-            return Ok(false);
-        };
-        bytes.extend_from_slice(old)?;
-        self.came.disk.put(to, bytes.as_slice())?;
-        Ok(true)
-    }
-
-    /// Overwrites bytes of a file with a text, from an offset on.
-    fn poke(&mut self, path: &str, rest: &str) -> bool {
-        match rest.split_once(' ') {
-            Some((place, text)) => {
-                self.came
-                    .disk
-                    .write_at(path, number(place), text.as_bytes())
-            }
-            None => false,
-        }
-    }
-
-    /// Whether a statement about one file is true.
-    fn is_so(&self, word: &str, path: &str, rest: &str) -> bool {
-        let disk = &self.came.disk;
-        let number = disk.find(path).unwrap_or(usize::MAX);
-        let (Some(inode), Some(node)) = (disk.inodes.get(number), disk.node_of(number)) else {
-            return word == "none";
-        };
-        let (owner, group) = rest.split_once(' ').unwrap_or((rest, rest));
-        match word {
-            "own" => !inode.is_foreign,
-            "has-mode" => node.mode == mode(rest),
-            "has-owner" => node.owner == user(owner) && node.group == user(group),
-            "leads" => inode
-                .link
-                .as_ref()
-                .is_some_and(|link| link.as_str() == rest),
-            _ => false,
-        }
-    }
-
-    /// Whether a statement about the last command line and the files is true.
-    fn holds(&self, word: &str, first: &str, second: &str) -> bool {
-        let disk = &self.came.disk;
-        match word {
-            "=" => self.is(first),
-            "status" => usize::from(self.came.status) == number(first),
-            "same" => disk.bytes(first).is_some() && disk.bytes(first) == disk.bytes(second),
-            "text" => disk.bytes(first) == Some(second.as_bytes()),
-            "size" => disk.bytes(first).map(|bytes| bytes.len()) == Some(number(second)),
-            "names" => disk.names.len() == number(first),
-            "widest" => disk.widest == mode(first),
-            "took" => disk.out.len() == number(first),
-            "none" | "own" | "has-mode" | "has-owner" | "leads" => self.is_so(word, first, second),
-            "field" => match second.split_once(' ') {
-                Some((place, text)) => self.field(first, place) == Some(text),
-                None => self.field(first, second).is_none(),
-            },
-            _ => false,
-        }
+        let disk = &self.scene.came.disk;
+        Ok(self.scene.came.status == 1 && !disk.err.is_empty() && disk.log.as_str() == "E")
     }
 
     /// Executes a line of the script. Returns whether the line is valid, and true if it is a statement. `#` begins a
@@ -414,99 +182,16 @@ impl Trials {
             "$~" => self.run_beside(second, first),
             "~" => self.begin_deed(rest),
             "usage" => self.run_wrong(rest),
-            ">" => add(&mut self.out, rest, true).map(|_| true),
-            "]" => add(&mut self.out, rest, false).map(|_| true),
-            "!" => add(&mut self.err, rest, true).map(|_| true),
-            "?" => add(&mut self.err, rest, false).map(|_| true),
-            "disk"
-            | "closed"
-            | "terminal"
-            | "<"
-            | "key"
-            | "<<"
-            | "hold"
-            | "private"
-            | "read-only"
-            | "folder"
-            | "busy"
-            | "foreign"
-            | "sticky"
-            | "blind"
-            | "plain"
-            | "user" => { self.set(word, rest) }
-            "copy" | "poke" | "link" | "symlink" | "store" | "zeros" | "mode" | "owner" | "fail" =>
-                { self.change(word, first, second) }
-            _ => self.more(word, rest),
-        }
-    }
-
-    /// Executes a line of bytes or of texts of the assembler, or returns whether a statement is true.
-    fn more(&mut self, word: &str, rest: &str) -> io::Result<bool> {
-        let (first, second) = rest.split_once(' ').unwrap_or((rest, ""));
-        match word {
-            "[" => add(&mut self.typed, rest, false).map(|_| true),
-            "hex" => add_pieces(&mut self.typed, rest),
-            "times" => self.repeat(first, second),
-            "file" => self.keep_typed(rest),
-            "set" => self.overwrite(first, second),
-            "cut" => self.cut(first, second),
             "before" | "behind" => Ok(self.surround(word)),
             "takes" => self.assembles(rest),
             "refuses" => self.refuses(first, second),
-            "bytes" => self.has_bytes(first, second),
-            "ends" => Ok(self.ends(first)),
-            "says" => Ok(self.says(first)),
-            _ => Ok(self.holds(word, first, second)),
+            _ => self.scene.line(word, rest),
         }
-    }
-
-    /// Appends a line to standard input `count` times.
-    fn repeat(&mut self, count: &str, line: &str) -> io::Result<bool> {
-        for _ in 0..count.parse().unwrap_or(0_usize) {
-            add(&mut self.typed, line, true)?;
-        }
-        Ok(true)
-    }
-
-    /// Moves the collected standard input to a file.
-    fn keep_typed(&mut self, path: &str) -> io::Result<bool> {
-        self.came.disk.put(path, self.typed.as_slice())?;
-        self.typed.clear();
-        Ok(true)
-    }
-
-    /// Overwrites bytes of a file, from an offset on.
-    fn overwrite(&mut self, path: &str, rest: &str) -> io::Result<bool> {
-        let (place, pieces) = rest.split_once(' ').unwrap_or((rest, ""));
-        let mut bytes = Vec::new(self.alloc);
-        let is_spelled = add_pieces(&mut bytes, pieces)?;
-        Ok(
-            is_spelled
-                && self
-                    .came
-                    .disk
-                    .write_at(path, number(place), bytes.as_slice()),
-        )
-    }
-
-    /// Copies a part of a file to another file.
-    fn cut(&mut self, path: &str, rest: &str) -> io::Result<bool> {
-        let (place, rest) = rest.split_once(' ').unwrap_or((rest, ""));
-        let (count, to) = rest.split_once(' ').unwrap_or((rest, ""));
-        let (from, count) = (number(place), number(count));
-        let bytes = self.came.disk.bytes(path);
-        let Some(part) = bytes.and_then(|bytes| bytes.get(from..from.saturating_add(count))) else {
-            return Ok(false);
-        };
-        let mut copy = Vec::new(self.alloc);
-        copy.extend_from_slice(part)?;
-        self.came.disk.put(to, copy.as_slice())?;
-        Ok(true)
     }
 
     /// Moves the collected standard input to the lines before or after each text.
     fn surround(&mut self, word: &str) -> bool {
-        let typed = std::mem::replace(&mut self.typed, Vec::new(self.alloc));
+        let typed = std::mem::replace(&mut self.scene.typed, Vec::new(self.scene.alloc));
         if word == "before" {
             self.before = typed;
         } else {
@@ -517,63 +202,33 @@ impl Trials {
 
     /// Assembles a text that ends with this line and the lines of `behind`. Returns whether it has no fault.
     fn assembles(&mut self, line: &str) -> io::Result<bool> {
-        let mut text = Vec::new(self.alloc);
+        let mut text = Vec::new(self.scene.alloc);
         text.extend_from_slice(self.before.as_slice())?;
-        text.extend_from_slice(self.typed.as_slice())?;
+        text.extend_from_slice(self.scene.typed.as_slice())?;
         add(&mut text, line, true)?;
         text.extend_from_slice(self.behind.as_slice())?;
-        self.typed = text;
+        self.scene.typed = text;
         self.run("pmach asm")?;
-        Ok(self.came.status == 0 && self.came.disk.err.is_empty())
+        Ok(self.scene.came.status == 0 && self.scene.came.disk.err.is_empty())
     }
 
     /// Assembles a text. Returns whether it is refused with this fault in the line whose number is first in `rest`.
     fn refuses(&mut self, fault: &str, rest: &str) -> io::Result<bool> {
         let (at, line) = rest.split_once(' ').unwrap_or((rest, ""));
         self.assembles(line)?;
-        let message = format!(in self.alloc; "refused asm {fault} {at}\n")?;
-        let disk = &self.came.disk;
-        Ok(self.came.status == 2 && disk.out.is_empty() && disk.err.as_str() == message.as_str())
-    }
-
-    /// Whether a file has these bytes.
-    fn has_bytes(&self, path: &str, pieces: &str) -> io::Result<bool> {
-        let mut bytes = Vec::new(self.alloc);
-        let is_spelled = add_pieces(&mut bytes, pieces)?;
-        Ok(is_spelled && self.came.disk.bytes(path) == Some(bytes.as_slice()))
-    }
-
-    /// Whether the last command line has this status, standard output ends with the expected text, and standard error
-    /// is the expected text.
-    fn ends(&self, status: &str) -> bool {
-        let disk = &self.came.disk;
-        usize::from(self.came.status) == number(status)
-            && disk.out.as_slice().ends_with(self.out.as_slice())
-            && disk.err.as_bytes() == self.err.as_slice()
-    }
-
-    /// Whether the last command line has this status, standard error ends with the expected text, and standard output
-    /// is the expected text.
-    fn says(&self, status: &str) -> bool {
-        let disk = &self.came.disk;
-        usize::from(self.came.status) == number(status)
-            && disk.out.as_slice() == self.out.as_slice()
-            && disk.err.as_bytes().ends_with(self.err.as_slice())
+        let message = format!(in self.scene.alloc; "refused asm {fault} {at}\n")?;
+        let disk = &self.scene.came.disk;
+        Ok(
+            self.scene.came.status == 2
+                && disk.out.is_empty()
+                && disk.err.as_str() == message.as_str(),
+        )
     }
 }
 
 /// Prints the result of the last command line, for a test that failed.
 impl fmt::Display for Trials {
     fn fmt<W: fmt::Write>(&self, f: &mut fmt::Formatter<W>) -> fmt::Result {
-        let disk = &self.came.disk;
-        let out = std::str::from_utf8(disk.out.as_slice()).unwrap_or("");
-        write!(
-            f,
-            "status {}, files {}, calls {}\n{out}{}",
-            self.came.status,
-            disk.names.len(),
-            disk.log,
-            disk.err
-        )
+        self.scene.fmt(f)
     }
 }

@@ -1,8 +1,8 @@
 //! Tests in which each call of a command line fails in turn.
-use crate::command::{Came, CommandLine, come, copy};
-use crate::disk::Disk;
+use crate::command::{CommandLine, come};
 use std::alloc::Global;
 use std::io;
+use test_host::{Came, Disk, copy};
 
 /// The letters of the calls whose failure must be reported: reading, writing, truncating, syncing and renaming a file,
 /// and reading and writing a standard stream.

@@ -205,6 +205,7 @@ impl<'a> Files for FakeRuntime<'a> {
         if how.asks_create() || how.asks_create_new() || how.asks_truncate() {
             return Err(io::Error::from(ErrorKind::Unsupported));
         }
+        disk.check_way(path)?;
         let whole = disk.through(path)?;
         let path = whole.as_str();
         let inode = match disk.led_to(path)? {
@@ -288,6 +289,7 @@ impl<'a> Files for FakeRuntime<'a> {
             return Err(in_use());
         };
         disk.tick('D')?;
+        disk.check_folder_of(path)?;
         if disk.find(path).is_some() {
             return Err(io::Error::from(ErrorKind::AlreadyExists));
         }
@@ -385,6 +387,7 @@ impl<'a> Host for FakeRuntime<'a> {
         if path == "." {
             return Ok(Some(disk.folder(disk.folder_now())));
         }
+        disk.check_way(path)?;
         let whole = disk.through(path)?;
         let path = whole.as_str();
         let found = if follows {
@@ -413,6 +416,7 @@ impl<'a> Host for FakeRuntime<'a> {
         disk.tick('x')?;
         let whole = disk.through(path)?;
         let path = whole.as_str();
+        disk.check_folder_of(path)?;
         if disk.find(path).is_some() {
             return Err(io::Error::from(ErrorKind::AlreadyExists));
         }

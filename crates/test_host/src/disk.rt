@@ -148,6 +148,10 @@ pub(crate) fn missing() -> io::Error {
     io::Error::from(ErrorKind::NotFound)
 }
 
+pub(crate) fn no_folder() -> io::Error {
+    io::Error::from(ErrorKind::NotADirectory)
+}
+
 impl Disk {
     /// Returns an empty disk, on which no call fails.
     pub fn new(alloc: Global) -> Disk {
@@ -249,12 +253,60 @@ impl Disk {
         Ok(String::from_str(self.alloc, path)?)
     }
 
+    /// Returns whether the inode with this number is a folder.
+    fn is_folder(&self, number: usize) -> bool {
+        number == FOLDER
+            || number == OTHER_FOLDER
+            || self.inodes.get(number).is_some_and(|inode| inode.is_folder)
+    }
+
+    /// Checks that `path` does not lead through a file: what its part before the last `/` names is a folder, or does
+    /// not exist.
+    ///
+    /// # Errors
+    ///
+    /// - `NotADirectory`: this part names a file.
+    /// - `FilesystemLoop`: 40 or more links must be followed.
+    pub(crate) fn check_way(&self, path: &str) -> io::Result<()> {
+        let Some((folder, _)) = path.rsplit_once('/') else {
+            return Ok(());
+        };
+        match self.find(self.behind(folder)?) {
+            Some(number) if !self.is_folder(number) => Err(no_folder()),
+            _ => Ok(()),
+        }
+    }
+
+    /// Checks that a name can be added at `path`: the folder of this name exists. A `/` at the end of `path` has no
+    /// effect.
+    ///
+    /// # Errors
+    ///
+    /// Those of `check_way`, and `NotFound`: the folder does not exist.
+    pub(crate) fn check_folder_of(&self, path: &str) -> io::Result<()> {
+        let path = path.trim_end_matches('/');
+        self.check_way(path)?;
+        match path.rsplit_once('/') {
+            Some((folder, _)) if folder != "." && self.led_to(folder)?.is_none() => Err(missing()),
+            _ => Ok(()),
+        }
+    }
+
     /// Returns the names in the folder at `path`, the latest first. The path can be that of an open folder.
+    ///
+    /// # Errors
+    ///
+    /// - `NotFound`: `path` names nothing.
+    /// - `NotADirectory`: `path` names a file.
+    /// - `Unsupported`: `path` names the folder of the files itself, which no test lists.
     pub(crate) fn names_in(&self, alloc: Global, path: &str) -> io::Result<Vec<String>> {
-        let opened = self
-            .open_at(path)
-            .and_then(|number| self.folder_name(number));
-        let folder = opened.unwrap_or(path).trim_end_matches('/');
+        let number = self.led_to(path)?.ok_or(missing())?;
+        if !self.is_folder(number) {
+            return Err(no_folder());
+        }
+        let Some(folder) = self.folder_name(number) else {
+            return Err(io::Error::from(ErrorKind::Unsupported));
+        };
         let mut names = Vec::new(alloc);
         for name in self.names.iter().rev() {
             let rest = name.path.strip_prefix(folder);
@@ -435,7 +487,12 @@ impl Disk {
     }
 
     /// Returns the inode number of what a path names. Symbolic links are followed.
+    ///
+    /// # Errors
+    ///
+    /// Those of `check_way`.
     pub(crate) fn led_to(&self, path: &str) -> io::Result<Option<usize>> {
+        self.check_way(path)?;
         Ok(self.find(self.behind(path)?))
     }
 

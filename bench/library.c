@@ -19,9 +19,10 @@ static uint8_t code[ROOM], segment[ROOM];
 static size_t segment_len;
 static struct pmach h;
 static const uint8_t system_text[] = ".SEG 0 SYS\n.PROC 1 0 0 0\n.EXIT\nRNP 0\n.END\n";
-static const uint8_t name[] = "HANOI", other[] = "OTHER", typed[] = "go 20\nframes\nquit\n", bare[] = {2, 3, 130, 215, 0, 0};
+static const uint8_t path[] = "own.img", name[] = "HANOI", other[] = "OTHER", typed[] = "go 20\nframes\nquit\n", bare[] = {2, 3, 130, 215, 0, 0};
 
 #define NAME name, 5
+#define PATH path, 7
 #define OUT out, ROOM, &needed
 static uint32_t assemble(void) { return pmach_assemble(text, text_len, true, OUT); }
 static uint32_t disassemble(void) { return pmach_disassemble(code, code_len, OUT); }
@@ -48,6 +49,11 @@ static uint32_t with_system(void) { return pmach_with_system(image, image_len, N
 static uint32_t formats(void) { return pmach_formats(image, image_len, OUT); }
 static uint32_t convert(void) { return pmach_convert(image, image_len, name, 0, (const uint8_t *)"dc42-dos", 8, OUT); }
 static uint32_t convert_back(void) { return pmach_convert_back(image, image_len, name, 0, image, image_len, OUT); }
+static uint32_t form(void) { return pmach_form(image, image_len, OUT); }
+static uint32_t find(void) { return pmach_find(PATH, image, image_len, (const uint8_t *)"=", 1, OUT); }
+static uint32_t grep(void) { return pmach_grep(PATH, image, image_len, (const uint8_t *)".SEG", 4, OUT); }
+static uint32_t info(void) { return pmach_info(PATH, image, image_len, OUT); }
+static uint32_t compare(void) { return pmach_compare(image, image_len, image, image_len, OUT); }
 static uint32_t start(void) { return pmach_new(&h, bare, sizeof bare); }
 static uint32_t boot(void) { return pmach_boot(&h, image, image_len, NAME, 0); }
 static uint32_t step(void) { return pmach_step(&h); }
@@ -112,7 +118,8 @@ static const struct job { const char *name; uint32_t (*call)(void); int has_mach
     {"place", place, 1, 0, 0}, {"disassemble_blocks", blocks, 0, 0, 0}, {"salvage_report", report, 0, 0, 0},
     {"with_system", with_system, 0, 0, 0}, {"formats", formats, 0, 0, 0}, {"convert", convert, 0, 0, 0},
     {"convert_back", convert_back, 0, 0, 0}, {"on", on, 1, 1, 0}, {"variable", variable, 1, 0, 0},
-    {"procedures", procedures, 0, 0, 0},
+    {"procedures", procedures, 0, 0, 0}, {"form", form, 0, 0, 0}, {"find", find, 0, 0, 0}, {"grep", grep, 0, 0, 0},
+    {"info", info, 0, 0, 0}, {"compare", compare, 0, 0, 0},
 };
 
 /* what the machine of a handle shows: registers, memory, both outputs; nothing of an empty one */
@@ -177,9 +184,11 @@ static void answers(void) {
     uint8_t unit = 5;
 #define EXPECT(number, call) do { uint32_t got = (call); \
     if (got != (number)) { printf("WRONG %s is answered by %lu\n", #call, (unsigned long)got); wrong++; } } while (0)
+#define SAYS(number, call, words) do { EXPECT(number, call); \
+    if (needed != strlen(words) || memcmp(out, words, strlen(words))) { printf("WRONG %s says %.*s\n", #call, (int)needed, (char *)out); wrong++; } } while (0)
     pmach_free(&h);
     EXPECT(PMACH_VERSION, pmach_version());
-    for (uint32_t n = PMACH_DONE; n <= PMACH_NO_FORMAT; n++)
+    for (uint32_t n = PMACH_DONE; n <= PMACH_DIFFERENT; n++)
         if (pmach_sentence(n, OUT) || needed == 0) { printf("WRONG %lu has no sentence\n", (unsigned long)n); wrong++; }
     uint32_t (*const on_empty[])(void) = {step, run, key, mount, eject, line, instruction, command, set_break, watch, go, console,
         printer, ejected, poke, place, on, variable};
@@ -197,6 +206,29 @@ static void answers(void) {
     EXPECT(PMACH_NO_KIND, pmach_kind_slot(image, image_len, 1, 255, OUT));
     EXPECT(PMACH_NO_FORMAT, pmach_convert(image, image_len, NAME, name, 0, OUT));
     EXPECT(PMACH_NO_FORMAT, pmach_convert_back(image, image_len, odd_name, 1, image, image_len, OUT));
+    /* the lines of `find`, `grep`, `info`, `files diff` and `--form auto`, worked out by hand: HANOI has two blocks, and the
+       text OTHER a header of two blocks and two pages of two */
+    SAYS(PMACH_DONE, find(), "own.img: HANOI\nown.img: OTHER\n");
+    SAYS(PMACH_DONE, grep(), "own.img: OTHER: 2: .SEG 1 HANOI\n");
+    SAYS(PMACH_DONE, info(), "own.img: blocks OWN: files 2, free 266, largest 266\n");
+    SAYS(PMACH_NOTHING, pmach_find(PATH, image, image_len, (const uint8_t *)"H=X", 3, OUT), "");
+    SAYS(PMACH_NOTHING, pmach_grep(PATH, image, image_len, (const uint8_t *)".seg", 4, OUT), "");
+    SAYS(PMACH_REFUSED, pmach_info(PATH, odd_name, 1, OUT), "own.img: no volume\n");
+    SAYS(PMACH_NO_TEXT, pmach_find(PATH, image, image_len, odd_name, 1, OUT), "");
+    SAYS(PMACH_NO_TEXT, pmach_grep(odd_name, 1, image, image_len, bare, 1, OUT), "");
+    SAYS(PMACH_NO_TEXT, pmach_info(odd_name, 1, image, image_len, OUT), "");
+    SAYS(PMACH_DONE, compare(), "same: HANOI\nsame: OTHER\n");
+    SAYS(PMACH_REFUSED, pmach_compare(image, image_len, odd_name, 1, OUT), "refused volume 1");
+    EXPECT(PMACH_DONE, take());
+    memcpy(before, out, image_len);
+    SAYS(PMACH_DIFFERENT, pmach_compare(image, image_len, before, image_len, OUT), "only here: HANOI\nsame: OTHER\n");
+    SAYS(PMACH_DIFFERENT, pmach_compare(before, image_len, image, image_len, OUT), "same: OTHER\nonly there: HANOI\n");
+    SAYS(PMACH_DONE, form(), "blocks");
+    EXPECT(PMACH_DONE, volume()); /* a header of 280 blocks in block 2, and where the order of DOS has this block */
+    memcpy(before, out, image_len);
+    memcpy(before + 11 * 256, before + 1024, 26);
+    SAYS(PMACH_REFUSED, pmach_form(before, image_len, OUT), "refused form 1");
+    SAYS(PMACH_REFUSED, pmach_info(PATH, before, image_len, OUT), "own.img: several formats: blocks, dos\n");
     EXPECT(PMACH_REFUSED, pmach_assemble(odd_name, 1, false, OUT));
     EXPECT(PMACH_STOPPED, pmach_raw(hex, 11, 1, OUT));
     EXPECT(PMACH_FAILED, pmach_raw(error, 2, 9, OUT));

@@ -43,7 +43,9 @@ enum {
     PMACH_NO_KIND = 14,    /* the kind is above 15 */
     PMACH_AT_BREAK = 15,   /* the run has reached a breakpoint */
     PMACH_CHANGED = 16,    /* a watched word has changed */
-    PMACH_NO_FORMAT = 17   /* a name is not the name of a format of images */
+    PMACH_NO_FORMAT = 17,  /* a name is not the name of a format of images */
+    PMACH_NOTHING = 18,    /* a search found nothing; its answer is empty */
+    PMACH_DIFFERENT = 19   /* of two volumes: a file differs, or is on one volume only; the answer has all lines */
     /* 100 + N: execution error N. 200 + N: `refused boot N`. 300 + N: 301 not a disk unit, 302 the unit has a disk.
        400 + N: `refused volume N`. 500 + N: 501 too many breakpoints or watched words, 502 not set, 503 odd address,
        505 too many static links, 506 there is no run to continue. */
@@ -51,8 +53,8 @@ enum {
 
 /* Writes the text for a result; an empty text if it is not a result. Returns 0; 7. For the message of a job the number is
    400 + N for `refused volume N` and `refused filer 1 N`, 200 + N for `refused boot N`, 600 + N for `refused asm N`,
-   700 + N for `refused code N`, 800 + N for `refused filer 2 N`, 900 + N for `refused convert N`, and 1000 + N for
-   `refused system N`. */
+   700 + N for `refused code N`, 800 + N for `refused filer 2 N`, 900 + N for `refused convert N`, 1000 + N for
+   `refused system N`, and 1101 for `refused form 1`. */
 uint32_t pmach_sentence(uint32_t status, uint8_t *out, size_t out_len, size_t *needed);
 /* Returns the version of the library: 100 times its first number plus its second. Compare it with PMACH_VERSION. */
 uint32_t pmach_version(void);
@@ -163,6 +165,32 @@ uint32_t pmach_convert(const uint8_t *image, size_t image_len, const uint8_t *fr
    2 `refused convert N`; 17 */
 uint32_t pmach_convert_back(const uint8_t *image, size_t image_len, const uint8_t *from, size_t from_len,
     const uint8_t *blocks, size_t blocks_len, uint8_t *out, size_t out_len, size_t *needed);
+
+/* the form that `--form auto` finds: `blocks`, `dos`, `swapped` or `2mg`, the only one of these in which the image opens as
+   a volume. If it opens in none of them, the first other format that pmach_check reports, or `blocks` if it reports none.
+   2 `refused form 1` if it opens in several; pmach_formats lists them */
+uint32_t pmach_form(const uint8_t *image, size_t image_len, uint8_t *out, size_t out_len, size_t *needed);
+
+/* Searches in an image of any format, as docs/COMMANDS.md, "Searches", describes them. The path is only printed, before a
+   colon and a space in each line. They return 0 if something was found; 18; 12 if the path, or the pattern, is not UTF-8; or
+   2 if the image opens in no format, or in several: then the answer is the line `PATH: no volume`, or
+   `PATH: several formats: FORMAT, FORMAT ..`. Each line, also of 2, ends with a line feed. */
+/* a line `PATH: NAME` for each file whose name matches the pattern: `=` matches any characters, and case is ignored */
+uint32_t pmach_find(const uint8_t *path, size_t path_len, const uint8_t *image, size_t image_len,
+    const uint8_t *pattern, size_t pattern_len, uint8_t *out, size_t out_len, size_t *needed);
+/* a line `PATH: NAME: N: LINE` for each line of a text file that contains the bytes of the text; N is from 1. Case matters,
+   and each line contains the empty text */
+uint32_t pmach_grep(const uint8_t *path, size_t path_len, const uint8_t *image, size_t image_len,
+    const uint8_t *text, size_t text_len, uint8_t *out, size_t out_len, size_t *needed);
+/* the line `PATH: FORMAT VOLUME: files F, free B, largest L`. Never 18 */
+uint32_t pmach_info(const uint8_t *path, size_t path_len, const uint8_t *image, size_t image_len,
+    uint8_t *out, size_t out_len, size_t *needed);
+
+/* the lines of `files diff` for the volumes in two images: `same: NAME`, `differ: NAME: byte N`, `differ: NAME: kind`,
+   `only here: NAME` for a file of the first image, `only there: NAME` for a file of the other. 0 if all lines are `same`, or
+   there are none; 19; 2 `refused volume N` if one image is no volume; the first image is opened first */
+uint32_t pmach_compare(const uint8_t *image, size_t image_len, const uint8_t *other, size_t other_len,
+    uint8_t *out, size_t out_len, size_t *needed);
 
 /* ---- a machine, used through a handle */
 

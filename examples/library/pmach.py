@@ -18,7 +18,7 @@ import tempfile
 
 NUMBERS = {"bool": ctypes.c_bool, "size_t": ctypes.c_size_t, "uint8_t": ctypes.c_uint8, "uint16_t": ctypes.c_uint16,
            "uint32_t": ctypes.c_uint32, "uint64_t": ctypes.c_uint64}
-DONE, TOO_SHORT = 0, 7
+DONE, TOO_SHORT, NOTHING, DIFFERENT = 0, 7, 18, 19
 
 
 class Handle(ctypes.Structure):
@@ -105,9 +105,9 @@ def sentence(status):
 
 
 def job(call, *given):
-    """Returns the answer of a job; raises Refused if its status is 2 or it has no answer."""
+    """Returns the answer of a job; raises Refused if its status is 2 or it has no answer. `told` also returns the status."""
     status, answer = told(call, *given)
-    if status not in (0, 3, 6):
+    if status not in (0, 3, 6, NOTHING, DIFFERENT):
         raise Refused(call, status, answer)
     return answer
 

@@ -120,4 +120,7 @@ answers_are_told = record {
   conversions = conversion_told;
   systems = system_told;
   no_format = refl;
+  nothing = refl;
+  different = refl;
+  several = refl;
 }

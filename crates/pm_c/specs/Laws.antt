@@ -33,7 +33,7 @@ use Rattle.pm_c.specs.Sentences.{sentence}
 use Rattle.pm_c.specs.Sessions.{after_more, breaks_after, go_code, line_answer, watches_after}
 use Rattle.pm_c.specs.Changes.{fill_code, filled}
 use Rattle.pm_c.specs.Codes.{boot_code, image_code, on_unit_4, program_code, stop_code}
-use Rattle.pm_c.specs.declared.status.TheConstants.{DONE, NO_FORMAT, NO_MACHINE, NO_MEMORY, TOO_SHORT}
+use Rattle.pm_c.specs.declared.status.TheConstants.{DIFFERENT, DONE, NOTHING, NO_FORMAT, NO_MACHINE, NO_MEMORY, TOO_SHORT}
 
 -- If a buffer is too short, it is unchanged. A buffer `room` of the needed length then gets exactly the bytes.
 abbrev pub WantedLengthIsEnough : Type 0
@@ -63,7 +63,8 @@ abbrev pub IsTold : ℕ → Type 0
 IsTold status = is_some (sentence status) ≡ true
 
 -- The library has a sentence for each end of a step and of a run of the debugger. It also has a sentence for each fault
--- of a start, a unit, a volume, a breakpoint, a conversion and the system segment, and for a name of no format.
+-- of a start, a unit, a volume, a breakpoint, a conversion and the system segment. The other sentences are for a name of
+-- no format, a search that found nothing, volumes with different files, and the message `refused form 1`.
 pub record AnswersAreTold : Type 0 where
   pub stops : (stop : Stop) → IsTold (stop_code stop)
   pub runs : (reason : BreakReason) → IsTold (go_code reason)
@@ -78,6 +79,9 @@ pub record AnswersAreTold : Type 0 where
   pub conversions : (fault : ConvertFault) → IsTold (900 + convert_number fault)
   pub systems : (fault : SystemFault) → fault ≢ system.NoMemory → IsTold (1000 + system_number fault)
   pub no_format : IsTold NO_FORMAT
+  pub nothing : IsTold NOTHING
+  pub different : IsTold DIFFERENT
+  pub several : IsTold 1101
 
 -- The answers to a list of lines are the answer to the first line, followed by the answers to the other lines in the
 -- session after the first line. After `quit` no more lines are answered. The answer to a line that is no command is

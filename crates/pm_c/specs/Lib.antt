@@ -5,6 +5,7 @@ pub mod Images
 pub mod Laws
 pub mod Owned
 pub mod Procedures
+pub mod Searches
 pub mod Sentences
 pub mod Sessions
 pub mod Worked

@@ -80,10 +80,12 @@ file_sentences =
     (804, codes "the byte is not allowed in a text file") ∷
     []
 
--- The numbers and sentences for formats of images and for the system segment.
+-- The numbers and sentences for formats of images, searches, comparisons and the system segment.
 unfoldable pub image_sentences : List (ℕ × List ℕ)
 image_sentences =
     (17, codes "no format has this name") ∷
+    (18, codes "nothing was found") ∷
+    (19, codes "a file differs, or is on one volume only") ∷
     (901, codes "the image is no volume in any supported format") ∷
     (902, codes "more than one format fits") ∷
     (903, codes "the image has no volume in this format") ∷
@@ -93,6 +95,7 @@ image_sentences =
     (1003, codes "the program is not a code file") ∷
     (1004, codes "the program already has a segment in slot 0") ∷
     (1005, codes "cannot add the system segment to the program") ∷
+    (1101, codes "the image opens in several formats") ∷
     []
 
 unfoldable pub image_sentence : ℕ → Option (List ℕ)

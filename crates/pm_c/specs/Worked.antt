@@ -21,6 +21,7 @@ use Rattle.pm_c.specs.Codes.{mount_code, poke_code, start_code, status_code, sto
 use Rattle.pm_c.specs.declared.status.TheConstants.{DONE, TOO_LONG, NO_MEMORY, TOO_SHORT, NO_MACHINE, HAS_MACHINE}
 use Rattle.pm_c.specs.declared.status.TheConstants.{ODD_ADDRESS, NO_DISK, NO_TEXT, NO_PLACE, NO_KIND, AT_BREAK, CHANGED}
 use Rattle.pm_c.specs.declared.status.TheConstants.{WAITING, ENDED, REFUSED, FAILED, STOPPED, NO_FORMAT, VERSION}
+use Rattle.pm_c.specs.declared.status.TheConstants.{NOTHING, DIFFERENT}
 
 -- The statuses of calls.
 pub record WorkedAnswers : Type 0 where
@@ -38,6 +39,8 @@ pub record WorkedAnswers : Type 0 where
   pub at_break : AT_BREAK ≡ 15
   pub changed : CHANGED ≡ 16
   pub no_format : NO_FORMAT ≡ 17
+  pub nothing : NOTHING ≡ 18
+  pub different : DIFFERENT ≡ 19
   pub waiting : WAITING ≡ 1
   pub ended : ENDED ≡ 2
   pub refused : REFUSED ≡ 2

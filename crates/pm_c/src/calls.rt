@@ -5,6 +5,7 @@ mod jobs;
 mod machines;
 mod procedures;
 mod refusals;
+mod searches;
 mod sessions;
 mod volumes;
 

@@ -6,6 +6,7 @@ mod answers;
 mod buffer;
 #[cfg(test)]
 mod calls;
+pub mod comparisons;
 pub mod conversions;
 pub mod debugger;
 pub mod disks;
@@ -19,6 +20,7 @@ pub mod laws;
 pub mod lines;
 mod loose;
 pub mod procedures;
+pub mod searches;
 pub mod sentences;
 pub mod session;
 pub mod shows;

@@ -7,13 +7,16 @@ ghost use Rattle.pm_c.specs.declared.status.TheConstants.{VERSION};
 use crate::buffer::give;
 use crate::status::VERSION;
 
-/// Returns the sentence for `status`, if it is the number of a fault of a format of images or of the system segment.
+/// Returns the sentence for `status`, if it is 17, 18 or 19, or a known number from 901 on: the number of a fault of a
+/// format of images or of the system segment.
 #[tactic(auto, unfolding(crate::specs::Sentences::image_sentence, crate::specs::Sentences::image_sentences))]
 fn image_sentence(status: u32) -> Option<&'static str>
     ensures sentence { option_map (λ text. text.now) result ≡ image_sentence status }
 {
     match status {
         17 => Some("no format has this name"),
+        18 => Some("nothing was found"),
+        19 => Some("a file differs, or is on one volume only"),
         901 => Some("the image is no volume in any supported format"),
         902 => Some("more than one format fits"),
         903 => Some("the image has no volume in this format"),
@@ -25,11 +28,12 @@ fn image_sentence(status: u32) -> Option<&'static str>
         1003 => Some("the program is not a code file"),
         1004 => Some("the program already has a segment in slot 0"),
         1005 => Some("cannot add the system segment to the program"),
+        1101 => Some("the image opens in several formats"),
         _ => None,
     }
 }
 
-/// Returns the sentence for `status`, if it is 17 or a known number from 401 on.
+/// Returns the sentence for `status`, if it is 17, 18 or 19, or a known number from 401 on.
 #[tactic(auto, unfolding(crate::specs::Sentences::file_sentence, crate::specs::Sentences::file_sentences))]
 fn file_sentence(status: u32) -> Option<&'static str>
     ensures sentence { option_map (λ text. text.now) result ≡ file_sentence status }

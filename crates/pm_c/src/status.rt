@@ -66,6 +66,12 @@ pub const CHANGED: u32 = 16;
 /// A name is not the name of a format.
 pub const NO_FORMAT: u32 = 17;
 
+/// A search found nothing.
+pub const NOTHING: u32 = 18;
+
+/// Two volumes do not have the same files.
+pub const DIFFERENT: u32 = 19;
+
 /// Returns the status of a step that ended with `stop`.
 pub(crate) fn stop_code(stop: Stop) -> u32
     ensures value { result ≡ stop_code stop }

@@ -25,13 +25,13 @@ fn formats_are_listed(rt: HostRuntime) {
 }
 
 // The header of the directory of a volume WORK with 280 blocks and without files.
-const WORK: [u8; 18] = [
+pub(super) const WORK: [u8; 18] = [
     0, 0, 6, 0, 0, 0, 4, b'W', b'O', b'R', b'K', 0, 0, 0, 24, 1, 0, 0,
 ];
 
 /// Returns an image of 280 blocks with this header in block 2, and in the sector that is read as the first half of
 /// block 2 in DOS order: sector 11 of track 0.
-fn in_two_orders(rt: &impl Abort, alloc: Global) -> Vec<u8> {
+pub(super) fn in_two_orders(rt: &impl Abort, alloc: Global) -> Vec<u8> {
     let mut image = Vec::new(alloc);
     image.resize(1024, 0).expect(rt, "memory");
     image.extend_from_slice(&WORK).expect(rt, "memory");

@@ -137,7 +137,7 @@ fn a_short_buffer_stays(rt: HostRuntime) {
 fn numbers_have_sentences(rt: HostRuntime) {
     let alloc = rt.alloc();
     assert_eq!(rt; pmach_version(), 1);
-    for status in 0..18 {
+    for status in 0..20 {
         let mut bytes = crate::calls::room(&rt, alloc);
         let mut needed = 0;
         assert_eq!(rt; pmach_sentence(status, &mut bytes, &mut needed), 0);

@@ -23,7 +23,7 @@ use Rattle.pm_volume.proofs.NameLaws.{length-name_field, length-new_name}
 use Rattle.pm_volume.proofs.PlaceLaws.{IsPlaced, IsPlaced-from_ok, IsRoomFor-placed, gap_in}
 use Rattle.pm_volume.proofs.SecondLaws.{Changed-added, bytes-added_second}
 use Rattle.pm_check.specs.Naming.{free_name}
-use Rattle.pm_check.specs.Saving.{bytes_of, saved_one}
+use Rattle.pm_check.specs.Saving.{saved_one}
 use Rattle.law_disks.proofs.GivenLaws.{added-ok, not_there}
 use Rattle.law_disks.proofs.SameNames.{characters-field, same-from_upper, upper, upper-from_same, upper-upper}
 use Rattle.law_disks.proofs.SavedNames.{IsLowestNumber, lowest_number, own_free, upper-good, upper-numbered}
@@ -250,7 +250,7 @@ module _ (image volume : List ℕ) (done : List Entry) (k : SavedSoFar image vol
 
 pub one_saved : (image volume new : List ℕ) (done : List Entry) (e : Entry) → SavedSoFar image volume done → IsGood image e → saved_one image volume e ≡ Ok new
     → SavedSoFar image new (e ∷ done)
-unfolding saved_one added bytes_of
+unfolding saved_one added
 one_saved image volume new done e k good h =
     let name : List ℕ = free_name volume (characters_of e.name) in
     let bytes : unwrap_or (file_bytes image e) [] ≡ good.contents = ap (λ o. unwrap_or o []) good.had in

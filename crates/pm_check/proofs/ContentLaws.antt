@@ -13,14 +13,13 @@ use Rattle.std.proofs.lemmas.List.Sorted.{IsPermutation-insert, IsPermutation-ap
 use Rattle.pm_check.specs.declared.finding.SlotFinding.{SlotFinding}
 use Rattle.pm_volume.specs.Directory.{entries_from, entry_in}
 use Rattle.pm_volume.specs.Entries.{is_sound_entry}
-use Rattle.pm_volume.specs.Files.{file_bytes, files_of}
+use Rattle.pm_volume.specs.Files.{bytes_of, file_bytes, files_of}
 use Rattle.pm_volume.specs.Changes.{AddsFile}
 use Rattle.pm_volume.specs.declared.fault.VolumeFault.{VolumeFault}
 use Rattle.pm_volume.specs.Stays.{FileStays, FilesStay}
 use Rattle.pm_volume.specs.declared.entry.Entry.{Entry}
 use Rattle.pm_check.specs.declared.believing.Taken.{Taken}
 use Rattle.pm_check.specs.Believing.{placed, taken_from, taken_with, why_left}
-use Rattle.pm_check.specs.Saving.{bytes_of}
 use Rattle.pm_check.specs.declared.saving.Salvaged.{Salvaged}
 use Rattle.pm_check.specs.Contents.{HasFilesOf, Content, believed, content_in, contents_of, contents_taken, could_stand, entries_taken, entry_taken}
 
@@ -151,7 +150,6 @@ content_saved image new e file bytes kind date there is = rw (there, is, kind, d
 pub content_added : (image old new name : List ℕ) (e : Entry) (bytes : List ℕ) (file : Entry) → AddsFile old new name e.kind bytes e.date file
     → ((k : ℕ) × (files_of new ≡ insert (files_of old) k file)) → file_bytes new file ≡ Some bytes → FilesStay old new
     → bytes ≡ bytes_of image e → IsPermutation (content_in image e ∷ contents_of old) (contents_of new)
-unfolding bytes_of
 content_added image old new name e bytes file added files there stay is =
     let same = content_saved image new e file bytes (ap (λ (x : Entry). x.kind) added.entry) (ap (λ (x : Entry). x.date) added.entry) there is in
     let more = contents_more old new files.0 file files.1 stay in

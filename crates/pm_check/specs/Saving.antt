@@ -1,11 +1,11 @@
 -- Salvage: a new volume with the files of a damaged image.
 use Rattle.std.specs.Prelude.{◌≡◌, ℕ, ◌+◌, ◌/◌, Bool, nat_lt, List, [], ◌∷◌, ◌++◌, length, max, min, Option, None, Some}
-use Rattle.std.specs.Prelude.{Result, Ok, Err, if◌then◌else◌, unwrap_or}
+use Rattle.std.specs.Prelude.{Result, Ok, Err, if◌then◌else◌}
 use Rattle.std.specs.List.{flat_map}
 use Rattle.pm_bytes.specs.declared.blocks.TheConstants.{BLOCK}
 use Rattle.pm_check.specs.Notes.{header_name}
 use Rattle.pm_volume.specs.Directory.{directory_of, file_count, second_of}
-use Rattle.pm_volume.specs.Files.{file_bytes}
+use Rattle.pm_volume.specs.Files.{bytes_of}
 use Rattle.pm_volume.specs.Headers.{blank_fault, blank_image}
 use Rattle.pm_volume.specs.Made.{added}
 use Rattle.pm_volume.specs.Names.{characters_of}
@@ -20,10 +20,6 @@ use Rattle.pm_check.specs.declared.believing.Left.{Left}
 use Rattle.pm_check.specs.declared.believing.Taken.{Taken}
 
 -- ---- the files
-
--- The bytes of the file of the entry `e` in `image`, or no bytes if they are not all in `image`.
-unfoldable pub bytes_of : List ℕ → Entry → List ℕ
-bytes_of image e = unwrap_or (file_bytes image e) []
 
 -- The volume `volume` with the file of the entry `e` of `image` added. The new file has the kind, bytes and date of the
 -- old one, and a name that no file of `volume` has.

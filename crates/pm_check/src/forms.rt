@@ -114,9 +114,11 @@ fn is_in_sectors(image: &[u8], begin: usize, size: usize) -> bool
     size == SECTORS && has_heading(image, begin + SECTORS_HEADING, 280, false)
 }
 
-/// Returns the number in the four bytes of `image` at offset `place`, low byte first.
+/// Returns the number in the four bytes of `image` at offset `place`, the low byte first.
+///
+/// The four bytes must be in `image`.
 #[tactic(auto, unfolding(crate::specs::Forms::long_in))]
-pub(crate) fn long(image: &[u8], place: usize) -> usize
+pub fn long(image: &[u8], place: usize) -> usize
     requires room { place + 4 ≤ length image.now }
     ensures long { result ≡ long_in image.now place }
     ensures most { result < 4294967296 }
@@ -124,9 +126,12 @@ pub(crate) fn long(image: &[u8], place: usize) -> usize
     usize::from(word(image, place)) + 65536 * usize::from(word(image, place + 2))
 }
 
-/// Returns the number of bytes of the blocks in a .2mg file, as the header of the file states it.
+/// Returns the number of bytes of the blocks in a .2mg file, as the header of the file states it. The header states it at
+/// offset 28, or states the number of blocks at offset 20 if the number at offset 28 is 0.
+///
+/// `image` must have at least 32 bytes.
 #[tactic(auto, unfolding(crate::specs::Forms::front_size))]
-pub(crate) fn front_size(image: &[u8]) -> usize
+pub fn front_size(image: &[u8]) -> usize
     requires room { 32 ≤ length image.now }
     ensures size { result ≡ front_size image.now }
     ensures most { result < 2199023255552 }
@@ -139,11 +144,13 @@ pub(crate) fn front_size(image: &[u8]) -> usize
     }
 }
 
-// Is true if `image` begins with the header of a .2mg file, and the blocks that this header describes are in `image`.
+/// Is true if `image` begins with a valid header of a .2mg file: it has at least 64 bytes, begins with 2IMG, and the
+/// blocks that the header describes are after byte 51 and in `image`.
 #[tactic(auto, unfolding(crate::specs::Forms::has_front))]
-fn has_front(image: &[u8]) -> bool
+pub fn has_front(image: &[u8]) -> bool
     ensures value { result ≡ has_front image.now }
     ensures room { OnTrue result (64 ≤ length image.now) }
+    ensures inside { OnTrue result (long_in image.now 24 + front_size image.now ≤ length image.now) }
 {
     if image.len() < 64 {
         return false;

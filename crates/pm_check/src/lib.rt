@@ -19,7 +19,7 @@ mod saving;
 pub mod worked;
 
 pub use checked::check;
-pub use forms::form_seen;
+pub use forms::{form_seen, front_size, has_front, long};
 pub use headed::{Span, filed, volume_in};
 pub use note::Form;
 pub use order::Order;

@@ -9,7 +9,8 @@ ghost use Rattle.pm_check.specs.Contents.{HasFilesOf, believed, believed_of, con
 ghost use Rattle.pm_check.specs.Contents.{entries_taken};
 ghost use Rattle.pm_check.specs.Naming.{free_name};
 ghost use Rattle.pm_check.specs.Report.{taken_line};
-ghost use Rattle.pm_check.specs.Saving.{IsSaved, bytes_of, image_blocks, room_for, salvaged, saved, saved_by};
+ghost use Rattle.pm_volume.specs.Files.{bytes_of};
+ghost use Rattle.pm_check.specs.Saving.{IsSaved, image_blocks, room_for, salvaged, saved, saved_by};
 ghost use Rattle.pm_check.specs.Saving.{saved_from, saved_one};
 
 use crate::believing::{Left, Taken, sharing, taken_and_left};
@@ -33,7 +34,7 @@ pub struct Salvaged {
 }
 
 // Returns the bytes of the file of `entry` in `image`. Returns no bytes if they are not all in `image`.
-#[tactic(auto, unfolding(crate::specs::Saving::bytes_of, pm_volume::specs::Files::file_bytes))]
+#[tactic(auto, unfolding(pm_volume::specs::Files::file_bytes))]
 fn bytes_of<'a>(image: &'a [u8], entry: &Entry) -> &'a [u8]
     ensures bytes { result.now ≡ bytes_of image.now entry.now }
 {

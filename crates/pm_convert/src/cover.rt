@@ -1,13 +1,12 @@
 //! What comes before the volume in an image: the headers of .2mg and of DiskCopy 4.2.
 ghost use Rattle.std.specs.Prelude.{◌≡◌, ◌+◌, ◌≤◌, ◌<◌, IfSome, length};
 ghost use Rattle.std.specs.Bool.{OnTrue};
-ghost use Rattle.pm_check.specs.Forms.{front_size, has_front, long_in};
 ghost use Rattle.pm_convert.specs.Sums.{high_long};
 ghost use Rattle.pm_convert.specs.Covers.{Lies, bare_size, cover_of, has_disk_copy, part_in};
 
 use crate::disk_copy::{DISK_COPY_HEADER, high_long};
 use crate::format::Cover;
-use pm_bytes::{BLOCK, word};
+use pm_check::{front_size, has_front, long};
 
 /// The position of the volume in an image.
 #[derive(Clone, Copy)]
@@ -16,47 +15,6 @@ pub struct Part {
     pub begin: usize,
     /// The length of the volume in bytes.
     pub size: usize,
-}
-
-/// Returns the number in the four bytes of `image` at offset `place`, low byte first.
-#[tactic(auto, unfolding(pm_check::specs::Forms::long_in))]
-fn low_long(image: &[u8], place: usize) -> usize
-    requires room { place + 4 ≤ length image.now }
-    ensures long { result ≡ long_in image.now place }
-    ensures most { result < 4294967296 }
-{
-    usize::from(word(image, place)) + 65536 * usize::from(word(image, place + 2))
-}
-
-/// Returns the length of the volume that the header of a .2mg file states.
-#[tactic(auto, unfolding(pm_check::specs::Forms::front_size))]
-fn front_size(image: &[u8]) -> usize
-    requires room { 32 ≤ length image.now }
-    ensures size { result ≡ front_size image.now }
-    ensures most { result < 2199023255552 }
-{
-    let size = low_long(image, 28);
-    if size == 0 {
-        BLOCK * low_long(image, 20)
-    } else {
-        size
-    }
-}
-
-/// Is true if `image` begins with a valid header of a .2mg file: it has at least 64 bytes, begins with 2IMG, and the
-/// volume that the header describes is after byte 51 and in `image`.
-#[tactic(auto, unfolding(pm_check::specs::Forms::has_front))]
-fn has_front(image: &[u8]) -> bool
-    ensures value { result ≡ has_front image.now }
-    ensures room { OnTrue result (64 ≤ length image.now) }
-    ensures inside { OnTrue result (long_in image.now 24 + front_size image.now ≤ length image.now) }
-{
-    if image.len() < 64 {
-        return false;
-    }
-    let begin = low_long(image, 24);
-    let size = front_size(image);
-    &image[..4] == b"2IMG".as_slice() && 52 <= begin && 0 < size && begin + size <= image.len()
 }
 
 /// Is true if `image` begins with a valid header of DiskCopy 4.2: it has at least 84 bytes, of which the last two are 1
@@ -95,7 +53,7 @@ pub(crate) fn part_in(image: &[u8], cover: Cover) -> Option<Part>
             size: bare_size(image.len()),
         }),
         Cover::TwoImg if has_front(image) => Some(Part {
-            begin: low_long(image, 24),
+            begin: long(image, 24),
             size: front_size(image),
         }),
         Cover::DiskCopy if has_disk_copy(image) => Some(Part {

@@ -58,7 +58,7 @@ fn push_kind(text: &mut String, kind: u8) -> Result<(), AllocError>
 }
 
 /// Returns the word of `LIST` for the form in which a file is written.
-fn how_text(how: How) -> &'static str
+pub fn how_text(how: How) -> &'static str
     ensures text { result.now ≡ how_text how }
 {
     match how {

@@ -8,6 +8,6 @@ mod names;
 mod worked;
 
 pub use contents::{Ends, How, with_ends};
-pub use folder::{FolderFile, Wanted, first_line, folder_of};
+pub use folder::{FolderFile, Wanted, first_line, folder_of, how_text};
 pub use names::{HOSTED, LISTED};
 pub use worked::worked_folders;

@@ -3,6 +3,7 @@ use Rattle.std.specs.Prelude.{ℕ, ◌+◌, ◌-◌, ◌==◌, ◌&&◌, nat_le,
 use Rattle.std.specs.Prelude.{length, map}
 use Rattle.std.specs.Prelude.{take, is_none, if◌then◌else◌}
 use Rattle.std.specs.Str.{bytes_eq}
+use Rattle.pm_folder.specs.Folder.{how_text}
 use Rattle.pm_folder.specs.Names.{listed_name}
 use Rattle.pm_folder.specs.declared.contents.How.{How}
 use Rattle.pm_folder.specs.declared.contents.How.TheVariants as how
@@ -58,11 +59,6 @@ plain_listed host contents = listed_as host (escaped_name host) contents
 -- The word of LIST for one of the three kinds.
 abbrev pub kind_text : ℕ → List ℕ
 kind_text kind = if kind == 3 then codes "text" else if kind == 2 then codes "code" else codes "data"
-
--- The word of LIST for the form in which a file is written.
-abbrev pub how_text : How → List ℕ
-how_text how.Text = codes "text"
-how_text how.Bytes = codes "bytes"
 
 -- A line of LIST, with its line feed: the two names, the kind, no date, and the form, with tabs between them.
 abbrev pub line_of : List ℕ → List ℕ → ℕ → How → List ℕ

@@ -6,7 +6,7 @@ ghost use Rattle.pm_import.specs.Plain as plain;
 
 use crate::listed::{Listed, cut};
 use percent_encoding::percent_encode;
-use pm_folder::{How, LISTED};
+use pm_folder::{How, LISTED, how_text};
 use pm_volume::kinds;
 use std::alloc::{AllocError, Global};
 
@@ -118,16 +118,6 @@ fn kind_text(kind: u8) -> &'static str
         kinds::TEXT => "text",
         kinds::CODE => "code",
         _ => "data",
-    }
-}
-
-/// Returns the word of `LIST` for the form in which a file is written.
-fn how_text(how: How) -> &'static str
-    ensures text { result.now ≡ plain.how_text how }
-{
-    match how {
-        How::Text => "text",
-        How::Bytes => "bytes",
     }
 }
 

@@ -28,6 +28,7 @@ file_bytes image e =
     if nat_le e.end e.first then Some []
     else (if nat_le end (length image) then Some (slice_range image (BLOCK * e.first) end) else None)
 
--- The bytes of the file of the entry `e` of the volume `image`. An entry of a valid volume always has its bytes.
+-- The bytes of the file of the entry `e` in `image`, or no bytes if they are not all in `image`. If `image` is a volume
+-- and `e` is the entry of one of its files, they are all in `image`.
 abbrev pub bytes_of : List ℕ → Entry → List ℕ
 bytes_of image e = unwrap_or (file_bytes image e) []

@@ -11,7 +11,7 @@ use Rattle.pm_tool.specs.declared.outcome.Job.TheVariants as jobs
 use Rattle.pm_tool.specs.declared.outcome.Outcome.{Outcome}
 use Rattle.pm_runs.specs.Saved.{SavesEach, SavesRun, SavesRunSaid, SavesTold, PrintsIf, Reads, ReadsEach}
 use Rattle.pm_runs.specs.Saved.{first_image, has_run, saved_paths, next_images}
-use Rattle.pm_verbs.specs.Verbs.{SavesSaid}
+use Rattle.pm_verbs.specs.Verbs.{SavesSaid, said_verb}
 use Rattle.pm_jobs.specs.declared.saving.Saving.{Saving}
 use Rattle.pm_jobs.specs.declared.saving.Saving.TheVariants as savings
 use Rattle.pm_plan.specs.Asked.{paths_in}
@@ -19,7 +19,7 @@ use Rattle.pm_runs.specs.declared.saved.Printing.TheVariants as printings
 use Rattle.pm_plan.specs.declared.file_words.Verb.{Verb}
 use Rattle.pm_plan.specs.declared.file_words.Verb.TheVariants as verbs
 use Rattle.pm_tool.specs.Disks.{booted, images_of}
-use Rattle.law_stores.specs.Jobs.{SavesDisk, LeavesRun, StaysWhereCut, fourth_saved, left_in, said_verb}
+use Rattle.law_stores.specs.Jobs.{SavesDisk, LeavesRun, StaysWhereCut, fourth_saved, left_in}
 
 abbrev bytes_in : Option (List ℕ) → List ℕ
 bytes_in None = []
@@ -65,7 +65,7 @@ verb_said old new path image file (verbs.Command command) input has saves had = 
     (subst (λ bytes. Saves (Some old) (Some new) path (said_verb bytes (verbs.Command command) input).image)
     (same image saves.0 (sym had ∙ saves.1)) saves.2) had
 verb_said old new path image file (verbs.New name blocks) input has saves had =
-    left old new path image file _ has saves had
+    left old new path image file _ has saves.2 had
 verb_said old new path image file verbs.Repair input has saves had = left old new path image file _ has
     (subst (λ bytes. Saves (Some old) (Some new) path (said_verb bytes verbs.Repair input).image)
     (same image saves.0 (sym had ∙ saves.1)) saves.2) had

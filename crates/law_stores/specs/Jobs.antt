@@ -1,29 +1,14 @@
 -- The contents of files after a job of the program. A record of type `Said` has the results that the specification of a
 -- job states.
 use Rattle.std.specs.Prelude.{◌≡◌, ℕ, List, [], ◌∷◌, Option, None, Some, String, Vec}
-use Rattle.std.specs.Prelude.{option_map, string_bytes, vec_items}
+use Rattle.std.specs.Prelude.{option_map, vec_items}
 use Rattle.std.specs.declared.alloc.Global.{Global}
-use Rattle.pm_volume.specs.Headers.{blank_fault}
-use Rattle.pm_filer.specs.Filed.{order_of}
-use Rattle.pm_tool.specs.Batches.{said_check, said_files, said_new, said_repair}
 use Rattle.pm_tool.specs.Disks.{images_of}
-use Rattle.pm_tool.specs.Outcomes.{Said}
 use Rattle.pm_tool.specs.Said.{IsCutShort, job_said}
 use Rattle.pm_tool.specs.declared.outcome.Job.TheVariants as jobs
 use Rattle.pm_tool.specs.declared.outcome.Outcome.{Outcome}
 use Rattle.pm_jobs.specs.declared.saving.Saving.{Saving}
 use Rattle.pm_jobs.specs.declared.saving.Saving.TheVariants as savings
-use Rattle.pm_plan.specs.declared.file_words.Verb.{Verb}
-use Rattle.pm_plan.specs.declared.file_words.Verb.TheVariants as verbs
-
--- Returns the results that the specification of the verb states for its file `image` and `input`. The results for a new
--- volume depend only on `input`.
-abbrev pub said_verb : List ℕ → Verb → List ℕ → Said
-said_verb image (verbs.Command command) input = said_files image (order_of command) input
-said_verb image (verbs.New name blocks) input =
-    said_new (blank_fault (string_bytes name) blocks) (string_bytes name) blocks input
-said_verb image verbs.Repair input = said_repair image input
-said_verb image verbs.Check input = said_check image input
 
 -- Returns the new bytes of a file if they are given, and its old bytes otherwise.
 abbrev pub left_in : List ℕ → Option (List ℕ) → List ℕ

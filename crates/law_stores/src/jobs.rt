@@ -2,7 +2,8 @@
 
 ghost use Rattle.std.specs.Prelude.{◌≡◌, IfOk, OnErr};
 ghost use Rattle.pm_tool.specs.Said.{IsSoundExit};
-ghost use Rattle.law_stores.specs.Jobs.{SavesDisk, SavesIn, LeavesRun, StaysWhereCut, left_in, said_verb};
+ghost use Rattle.law_stores.specs.Jobs.{SavesDisk, SavesIn, LeavesRun, StaysWhereCut, left_in};
+ghost use Rattle.pm_verbs.specs.Verbs.{said_verb};
 
 use crate::stores::OneFile;
 use pm_files::{DiskFault, Store};

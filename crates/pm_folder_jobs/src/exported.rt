@@ -1,13 +1,14 @@
 //! Jobs that write the files of a volume to a new folder: `export`, and `salvage` to a folder.
 ghost use Rattle.std.specs.Prelude.{◌≡◌, IfOk, IfSome, OnErr, option_map, vec_items};
 ghost use Rattle.pm_jobs.specs.Streams.{AreWell, both};
-ghost use Rattle.pm_folder_jobs.specs.Exported.{BreaksOffExport, Exports, FillsFrom, IsFilled, SavesFolder};
+ghost use Rattle.pm_folder_jobs.specs.Exported.{BreaksOffExport, BreaksOffFill, BreaksOffSalvage, Exports, FillsFrom};
+ghost use Rattle.pm_folder_jobs.specs.Exported.{IsFilled, SavesFolder};
 ghost use Rattle.pm_tool.specs.Said.{IsSoundExit};
 
 use pm_export::{Unwritten, export};
-use pm_filer::FileCommand;
 use pm_files::{DiskFault, Folder, Store};
 use pm_folder::Wanted;
+use pm_images::open_at;
 use pm_jobs::{Sink, Source};
 use pm_plan::{ExportPlan, SalvagePlan};
 use pm_tool::{Job, Outcome};
@@ -17,7 +18,7 @@ use std::alloc::Global;
 /// The result of an export.
 #[derive(Drop)]
 pub enum Exported {
-    /// The image is not a volume. No folder was created.
+    /// The image is not a volume. The outcome is that of `files list` for it. No folder was created.
     Refused(Outcome),
     /// The folder was created. It has the list and all requested files, except these files, which could not be written.
     Written(Vec<Unwritten>),
@@ -31,7 +32,9 @@ fn fill_from<F: Folder>(
     image: Vec<u8>,
     path: &str,
 ) -> Result<Option<Vec<Unwritten>>, DiskFault>
-    ensures filled { IfOk result (IsFilled (F.files folder.old) (F.files folder.new) image.items) }
+    ensures filled { IfOk result
+        (IsFilled (F.files folder.old) (F.files folder.new) (F.at folder.new) path.now image.items) }
+    ensures broken { OnErr result (BreaksOffFill (F.files folder.old) (F.files folder.new) image.items) }
 {
     match Volume::open(image) {
         Ok(volume) => Ok(Some(export(alloc, folder, &volume, path, None, &Wanted::All)?)),
@@ -48,7 +51,8 @@ fn fill_with<F: Folder>(
     path: &str,
 ) -> Result<Option<Vec<Unwritten>>, DiskFault>
     ensures filled { IfOk result
-        (FillsFrom (F.files folder.old) (F.files folder.new) (option_map vec_items volume)) }
+        (FillsFrom (F.files folder.old) (F.files folder.new) (F.at folder.new) path.now (option_map vec_items volume)) }
+    ensures broken { OnErr result (BreaksOffSalvage (F.files folder.old) (F.files folder.new)) }
 {
     match volume {
         Some(volume) => fill_from(alloc, folder, volume, path),
@@ -56,43 +60,32 @@ fn fill_with<F: Folder>(
     }
 }
 
-/// Writes the files of a volume, and a list of them, to a new folder. No file of `store` is changed or locked. `source`
-/// and `sink` must not have failed.
+/// Writes the files of a volume, and a list of them, to a new folder. No file of `store` is changed or locked.
 ///
 /// # Errors
 ///
 /// - The image could not be read, or the folder could not be created: the fault. No folder was created.
 /// - Out of memory: `NoMemory`. If the folder was created, it has only some of the files, and each of them is complete.
-pub fn do_export<S: Store, I: Source, O: Sink, F: Folder>(
+pub fn do_export<S: Store, F: Folder>(
     alloc: Global,
     store: &mut S,
-    source: &mut I,
-    sink: &mut O,
     folder: &mut F,
     plan: &ExportPlan,
 ) -> Result<Exported, DiskFault>
-    requires well { AreWell (both (I.seen source.old) (O.seen sink.old)) }
-    ensures exports { IfOk result (λ exported.
-        Exports (S.files store.old) plan.now (F.files folder.old) (F.files folder.new) exported) }
+    ensures exports { IfOk result (λ exported. Exports (S.files store.old) plan.now (F.files folder.old)
+        (F.files folder.new) (F.at folder.new) exported) }
     ensures stays { S.files store.new ≡ S.files store.old }
     ensures held { S.held store.new ≡ S.held store.old }
     ensures broken { OnErr result
         (BreaksOffExport (S.files store.old) plan.now (F.files folder.old) (F.files folder.new)) }
 {
-    let image = store.read(alloc, plan.path.as_str())?;
-    match Volume::open(image) {
+    match open_at(alloc, store, plan.path.as_str())? {
         Ok(volume) => {
             let path = plan.folder.as_str();
             let unwritten = export(alloc, folder, &volume, path, plan.text, &plan.wanted)?;
             Ok(Exported::Written(unwritten))
         }
-        Err((_, image)) => {
-            let job = Job::Files {
-                image,
-                command: FileCommand::List,
-            };
-            Ok(Exported::Refused(pm_tool::run(alloc, source, sink, job)))
-        }
+        Err(outcome) => Ok(Exported::Refused(outcome)),
     }
 }
 
@@ -111,7 +104,9 @@ pub struct SavedFolder {
 ///
 /// # Errors
 ///
-/// The same as those of `do_export`.
+/// - The image could not be read, or the folder could not be created: the fault. No folder was created.
+/// - Out of memory: `NoMemory`. If the folder was created, it has only some of the files of the new volume, and each of
+///   them is complete.
 pub fn do_salvage_folder<S: Store, I: Source, O: Sink, F: Folder>(
     alloc: Global,
     store: &mut S,
@@ -122,9 +117,11 @@ pub fn do_salvage_folder<S: Store, I: Source, O: Sink, F: Folder>(
 ) -> Result<SavedFolder, DiskFault>
     requires well { AreWell (both (I.seen source.old) (O.seen sink.old)) }
     ensures saves { IfOk result (λ saved. IsSoundExit saved.outcome.exit → IfSome (I.seen source.old).remaining
-        (λ input. SavesFolder (S.files store.old) plan.now (F.files folder.old) (F.files folder.new) saved input)) }
+        (λ input. SavesFolder (S.files store.old) plan.now (F.files folder.old) (F.files folder.new) (F.at folder.new)
+        saved input)) }
     ensures stays { S.files store.new ≡ S.files store.old }
     ensures held { S.held store.new ≡ S.held store.old }
+    ensures broken { OnErr result (BreaksOffSalvage (F.files folder.old) (F.files folder.new)) }
 {
     let image = store.read(alloc, plan.path.as_str())?;
     let job = Job::Salvage {

@@ -1,23 +1,21 @@
 //! The files of a folder, added to a volume.
 ghost use Rattle.std.specs.Prelude.{◌≡◌, IfOk, OnErr, OnOk, false, not, string_bytes};
-ghost use Rattle.pm_jobs.specs.Streams.{AreWell, both};
 ghost use Rattle.pm_folder_jobs.specs.Imported.{ImportsInto, ShowsList, WritesImage};
 ghost use Rattle.pm_paths.specs.Locks.{held_by};
 
-use pm_filer::FileCommand;
 use pm_files::{DiskFault, Folder, Store};
+use pm_images::open_at;
 use pm_import::{ImportReport, Left, import};
-use pm_jobs::{Sink, Source, write_all};
+use pm_jobs::{Sink, write_all};
 use pm_plan::ImportPlan;
-use pm_tool::{Job, Outcome};
-use pm_volume::Volume;
+use pm_tool::Outcome;
 use std::alloc::Global;
 use std::io::ErrorKind;
 
 /// How an import ended.
 #[derive(Drop)]
 pub enum Imported {
-    /// The image is not a volume. No file changed.
+    /// The image is not a volume. The outcome is that of `files list` for it. No file changed, and nothing was written.
     Refused(Outcome),
     /// The volume has all files of the folder, except these.
     Done(Vec<Left>),
@@ -67,7 +65,7 @@ fn show<O: Sink>(sink: &mut O, plan: &ImportPlan, list: &[u8]) -> Result<(), Dis
 
 /// Adds the files of a folder to the volume of an image, and writes the image. The image is written once, after all
 /// files were added. If the import is a trial, the lines that `LIST` would have for a folder without `LIST` are written
-/// to `sink` instead. Neither stream may have failed before.
+/// to `sink` instead, which must not have failed before.
 ///
 /// # Errors
 ///
@@ -76,15 +74,14 @@ fn show<O: Sink>(sink: &mut O, plan: &ImportPlan, list: &[u8]) -> Result<(), Dis
 /// - The fault of locking or reading the image.
 /// - The fault of opening or reading the folder. `NoMemory`.
 /// - The fault of writing the image, or of writing to `sink`.
-pub fn do_import<S: Store, I: Source, O: Sink, F: Folder>(
+pub fn do_import<S: Store, O: Sink, F: Folder>(
     alloc: Global,
     store: &mut S,
-    source: &mut I,
     sink: &mut O,
     folder: &mut F,
     plan: &ImportPlan,
 ) -> Result<Imported, DiskFault>
-    requires well { AreWell (both (I.seen source.old) (O.seen sink.old)) }
+    requires well { (O.seen sink.old).failed ≡ false }
     ensures imports { IfOk result (λ imported. ImportsInto (S.files store.old) (S.files store.new) plan.now
         (F.files folder.new) (F.at folder.new) (O.seen sink.old).contents (O.seen sink.new).contents imported) }
     ensures held { OnOk result (S.held store.new
@@ -92,8 +89,7 @@ pub fn do_import<S: Store, I: Source, O: Sink, F: Folder>(
     ensures unchanged { OnErr result (S.files store.new ≡ S.files store.old) }
 {
     hold(store, plan)?;
-    let image = store.read(alloc, plan.path.as_str())?;
-    match Volume::open(image) {
+    match open_at(alloc, store, plan.path.as_str())? {
         Ok(mut volume) => {
             let folder_path = plan.folder.as_str();
             let ImportReport { left, list } = import(
@@ -107,12 +103,6 @@ pub fn do_import<S: Store, I: Source, O: Sink, F: Folder>(
             put(store, plan, &volume.into_bytes())?;
             Ok(Imported::Done(left))
         }
-        Err((_, image)) => {
-            let job = Job::Files {
-                image,
-                command: FileCommand::List,
-            };
-            Ok(Imported::Refused(pm_tool::run(alloc, source, sink, job)))
-        }
+        Err(outcome) => Ok(Imported::Refused(outcome)),
     }
 }

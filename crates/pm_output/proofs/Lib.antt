@@ -1,1 +1,2 @@
 mod TextLaws
+pub mod FrontLaws

@@ -1,10 +1,11 @@
 -- The results of a job on an assembler text or a code file. Its input and output may be files. A record of type `Said`
 -- has the results that the specification of a job states.
-use Rattle.std.specs.Prelude.{◌≡◌, ⊤, ℕ, Bool, true, false, List, [], Option, None, Some, IfSome, string_bytes}
+use Rattle.std.specs.Prelude.{◌≡◌, ◌⊎◌, ⊤, ℕ, Bool, true, false, List, [], Option, None, Some, IfSome, string_bytes}
 use Rattle.std.specs.Io.KnownBytes.{Appends}
 use Rattle.pm_files.specs.Held.{Files, HoldsFile, Locks, Saves}
 use Rattle.pm_jobs.specs.Streams.{Incoming, Outgoing}
 use Rattle.pm_filer.specs.Filed.{Order, Get, GetText}
+use Rattle.pm_paths.specs.Locks.{held_at}
 use Rattle.pm_plan.specs.declared.text_words.TextInput.{TextInput}
 use Rattle.pm_plan.specs.declared.text_words.TextInput.TheVariants as inputs
 use Rattle.pm_output.specs.declared.texts.Got.{Got}
@@ -50,6 +51,18 @@ LeavesOutput (Some path) before after = after ≡ before
 abbrev pub LeavesFiles : Option (List ℕ) → Files → Files → Locks → Locks → Type 0
 LeavesFiles None old new before after = (new ≡ old) × (after ≡ before)
 LeavesFiles (Some path) old new before after = ⊤
+
+-- The file at the path, if there is a path, is locked after a job with this exit. If the job was refused, the lock may
+-- be missing, because the job may have been refused before the file was locked.
+abbrev pub HoldsOutput : Exit → Option (List ℕ) → Locks → Locks → Type 0
+HoldsOutput exits.Ended path old new = new ≡ held_at path old
+HoldsOutput exits.Usage path old new = new ≡ held_at path old
+HoldsOutput exits.Refused path old new = (new ≡ held_at path old) ⊎ (new ≡ old)
+HoldsOutput exits.ExecutionError path old new = new ≡ held_at path old
+HoldsOutput exits.ReadFault path old new = new ≡ held_at path old
+HoldsOutput exits.WriteFault path old new = new ≡ held_at path old
+HoldsOutput exits.NoMemory path old new = new ≡ held_at path old
+HoldsOutput exits.Stopped path old new = new ≡ held_at path old
 
 -- ---- input
 

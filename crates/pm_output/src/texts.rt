@@ -6,7 +6,8 @@ ghost use Rattle.pm_tool.specs.Said.{IsCutShort, IsSoundExit, job_said};
 ghost use Rattle.pm_paths.specs.Locks.{held_at};
 ghost use Rattle.pm_filer.specs.Filed.{order_of};
 ghost use Rattle.pm_files.specs.Held.{Saves};
-ghost use Rattle.pm_output.specs.Texts.{Comes, Delivers, DeliversOf, IsGot, LeavesInput, LeavesOutput, SavesText};
+ghost use Rattle.pm_output.specs.Texts.{Comes, Delivers, DeliversOf, HoldsOutput, IsGot, LeavesInput, LeavesOutput};
+ghost use Rattle.pm_output.specs.Texts.{SavesText};
 ghost use Rattle.pm_output.specs.Texts.{getting, reads_text, written_by};
 
 use pm_filer::FileCommand;
@@ -202,6 +203,7 @@ fn deliver_bytes<S: Store, O: Sink>(
 /// written.
 ///
 /// On an error, a file could not be read, locked or written. No file has changed, and nothing was written to `sink`.
+#[tactic(auto, using(crate::proofs::TextLaws::held_output, crate::proofs::TextLaws::refused_holds))]
 pub fn do_text<S: Store, I: Source, O: Sink>(
     alloc: Global,
     store: &mut S,
@@ -218,8 +220,8 @@ pub fn do_text<S: Store, I: Source, O: Sink>(
     ensures silent { LeavesOutput (option_map string_bytes files.output) (O.seen sink.old) (O.seen sink.new) }
     ensures unwritten { OnErr result (O.seen sink.new ≡ O.seen sink.old) }
     ensures cut { IfOk result (λ outcome. IsCutShort outcome.exit → S.files store.new ≡ S.files store.old) }
-    ensures held { IfOk result (λ outcome. outcome.exit ≡ Exit.Ended →
-        S.held store.new ≡ held_at (option_map string_bytes files.output) (S.held store.old)) }
+    ensures held { IfOk result (λ outcome.
+        HoldsOutput outcome.exit (option_map string_bytes files.output) (S.held store.old) (S.held store.new)) }
     ensures unchanged { OnErr result (S.files store.new ≡ S.files store.old) }
 {
     let TextFiles { input, output } = files;

@@ -1,1 +1,2 @@
 mod SavedLaws
+mod OutputLaws

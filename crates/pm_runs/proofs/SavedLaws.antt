@@ -146,7 +146,7 @@ each_none old new (Some path ∷ paths) (None ∷ images) none saves =
 each_none old new (path ∷ paths) (Some image ∷ images) none saves = absurd none
 
 -- If `exit` states that a program was cut short, then the program has not run.
-not_run : (exit : Exit) → IsCutShort exit → has_run exit ≡ false
+pub not_run : (exit : Exit) → IsCutShort exit → has_run exit ≡ false
 not_run exits.Ended cut = absurd (cc)
 not_run exits.Usage cut = refl
 not_run exits.Refused cut = refl

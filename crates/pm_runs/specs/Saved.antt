@@ -1,12 +1,14 @@
 -- The files after a job that saves images, a printer's output or a trace. `old` and `new` are the files before and
 -- after.
-use Rattle.std.specs.Prelude.{◌≡◌, ◌⊎◌, ⊤, ℕ, Bool, true, false, List, [], ◌∷◌, Option, None, Some, Vec, option_map}
+use Rattle.std.specs.Prelude.{◌≡◌, ◌⊎◌, ◌++◌, ⊤, ℕ, Bool, true, false, List, [], ◌∷◌, Option, None, Some, Vec, option_map}
+use Rattle.std.specs.Prelude.{if◌then◌else◌}
+use Rattle.std.specs.Io.KnownBytes.{Appends}
 use Rattle.std.specs.Prelude.{vec_items, string_bytes}
 use Rattle.std.specs.declared.alloc.Global.{Global}
 use Rattle.pm_files.specs.Held.{Files, HoldsFile, Saves, Locks, Puts}
 use Rattle.pm_tool.specs.Disks.{images_of}
-use Rattle.pm_tool.specs.Outcomes.{Said, no_others}
-use Rattle.pm_jobs.specs.Streams.{Streams}
+use Rattle.pm_tool.specs.Outcomes.{IsOutcome, Said, no_others}
+use Rattle.pm_jobs.specs.Streams.{AppendsFront, Outgoing, Streams}
 use Rattle.pm_tool.specs.Said.{Tells, job_said}
 use Rattle.pm_tool.specs.declared.outcome.Exit.{Exit}
 use Rattle.pm_tool.specs.declared.outcome.Exit.TheVariants as exits
@@ -152,6 +154,42 @@ SavesFrontSaid old new program saved input = (new ≡ old) ⊎ ((disks : List (O
     × Reads old (option_map string_bytes program.system) (option_map vec_items system)
     × SavesFront old new (saved_paths saved.saving (string_bytes program.disk) (paths_in program.others))
     (images_said (job_said (jobs.Run disks program.name program.limit saved.saving system) input)))
+
+-- The bytes that a run adds to standard output after those of the console: the printer's output, if its destination is
+-- standard output and the program has run.
+abbrev pub printed : Printing → Bool → List ℕ → List ℕ
+printed printings.Nowhere runs bytes = []
+printed printings.Output runs bytes = if runs then bytes else []
+printed (printings.File path) runs bytes = []
+
+-- The whole output of a run: the bytes of the console, and after them those of the printer.
+abbrev pub output_said : Printing → Said → List ℕ
+output_said printing told = told.written ++ printed printing (has_run told.exit) told.printer
+
+-- The results that the specification of a run states for `input`, the images `disks` and the system's code file
+-- `system`.
+abbrev pub said_of_run : Program → SavedOfRun → List (Option (Vec ℕ Global)) → Option (Vec ℕ Global) → List ℕ → Said
+said_of_run program saved disks system input =
+    job_said (jobs.Run disks program.name program.limit saved.saving system) input
+
+-- Is true if the outcome and the output are those that the specification of the run states for `input`, the images at
+-- the program's paths, and the system's code file if there is one.
+abbrev pub TellsRun : Files → Outgoing → Outgoing → Outcome → Program → SavedOfRun → List ℕ → Type 0
+TellsRun files before after outcome program saved input = (disks : List (Option (Vec ℕ Global)))
+    × (system : Option (Vec ℕ Global))
+    × ReadsEach files (paths_of (string_bytes program.disk) (paths_in program.others)) (images_of disks)
+    × Reads files (option_map string_bytes program.system) (option_map vec_items system)
+    × IsOutcome outcome (said_of_run program saved disks system input)
+    × Appends before.contents after.contents (output_said saved.printing (said_of_run program saved disks system input))
+
+-- Is true if nothing was written, or a prefix of the output that the specification of the run states.
+abbrev pub TellsPartOfRun : Files → Outgoing → Outgoing → Program → SavedOfRun → List ℕ → Type 0
+TellsPartOfRun files before after program saved input = (after ≡ before) ⊎ ((disks : List (Option (Vec ℕ Global)))
+    × (system : Option (Vec ℕ Global))
+    × ReadsEach files (paths_of (string_bytes program.disk) (paths_in program.others)) (images_of disks)
+    × Reads files (option_map string_bytes program.system) (option_map vec_items system)
+    × AppendsFront before.contents after.contents
+    (output_said saved.printing (said_of_run program saved disks system input)))
 
 -- Is true if the output, the outcome and the unread input are those that the specification of the job states for
 -- `input`. `job disks system` is the job that runs a program on the images `disks` and the system's code file `system`.

@@ -7,7 +7,9 @@ ghost use Rattle.pm_jobs.specs.Streams.{AreWell, both};
 ghost use Rattle.pm_plan.specs.Asked.{paths_in};
 ghost use Rattle.pm_runs.specs.Saved.{SavesAt, SavesEach, SavesFront, SavesFrontSaid, SavesRun, SavesSome, PrintsIf};
 ghost use Rattle.pm_runs.specs.Saved.{has_run, held_each, held_paths, saved_paths, IsTyped, Reads, ReadsEach};
-ghost use Rattle.pm_runs.specs.Saved.{SavesRunSaid, TellsDebug, TracesTo, paths_of};
+ghost use Rattle.pm_runs.specs.Saved.{SavesRunSaid, TellsDebug, TellsPartOfRun, TellsRun, TracesTo, paths_of, printed};
+ghost use Rattle.pm_jobs.specs.Streams.{AppendsFront};
+ghost use Rattle.std.specs.Io.KnownBytes.{Appends};
 ghost use Rattle.pm_paths.specs.Locks.{held_at};
 ghost use Rattle.pm_output.specs.Texts.{LeavesFiles, LeavesOutput};
 ghost use Rattle.pm_tool.specs.Disks.{images_of};
@@ -114,15 +116,21 @@ fn has_run(exit: Exit) -> bool
     matches!(exit, Exit::Ended | Exit::ExecutionError | Exit::Stopped)
 }
 
-/// Writes `bytes`, the printer's output, to `sink`. Returns `Write` if `sink` fails or has failed before.
-fn print_out<O: Sink>(sink: &mut O, bytes: &[u8]) -> Result<(), DiskFault> {
+/// Writes `bytes`, the printer's output, to `sink`. Returns `Write` if `sink` fails or has failed before. Then a prefix
+/// was written.
+fn print_out<O: Sink>(sink: &mut O, bytes: &[u8]) -> Result<(), DiskFault>
+    ensures shown { OnOk result (Appends (O.seen sink.old).contents (O.seen sink.new).contents bytes.now) }
+    ensures front { AppendsFront (O.seen sink.old).contents (O.seen sink.new).contents bytes.now }
+{
     if sink.failed() || write_all(sink, bytes).is_err() {
         return Err(DiskFault::Write(ErrorKind::Other));
     }
     Ok(())
 }
 
-/// Writes the printer's output to the destination `printing`, if the program has run. On an error, no file has changed.
+/// Writes the printer's output to the destination `printing`, if the program has run. On an error, no file has changed,
+/// and a prefix was written to `sink`.
+#[tactic(auto, using(crate::proofs::OutputLaws::appends_none, crate::proofs::OutputLaws::front_of_none))]
 fn save_printer<S: Store, O: Sink>(
     store: &mut S,
     sink: &mut O,
@@ -132,6 +140,10 @@ fn save_printer<S: Store, O: Sink>(
     ensures saved { OnOk result (
         PrintsIf (has_run outcome.now.exit) (S.files store.old) (S.files store.new) printing.now
         outcome.now.printer.items) }
+    ensures shown { OnOk result (Appends (O.seen sink.old).contents (O.seen sink.new).contents
+        (printed printing.now (has_run outcome.now.exit) outcome.now.printer.items)) }
+    ensures part { AppendsFront (O.seen sink.old).contents (O.seen sink.new).contents
+        (printed printing.now (has_run outcome.now.exit) outcome.now.printer.items) }
     ensures held { S.held store.new ≡ S.held store.old }
     ensures unchanged { OnErr result (S.files store.new ≡ S.files store.old) }
 {
@@ -335,7 +347,8 @@ fn run_inputs<S: Store>(
 }
 
 /// Saves the images that `saved` selects, and then the printer's output. On an error, the images of the first units may
-/// be saved, and no other file has changed.
+/// be saved, and no other file has changed. A prefix of the printer's output was written to `sink`.
+#[tactic(auto, using(crate::proofs::OutputLaws::front_of_none))]
 fn save_run<S: Store, O: Sink>(
     alloc: Global,
     store: &mut S,
@@ -347,6 +360,10 @@ fn save_run<S: Store, O: Sink>(
 ) -> Result<(), DiskFault>
     ensures saved { OnOk result (SavesRun (S.files store.old) (S.files store.new)
         (saved_paths saved.now.saving disk.now (paths_in others.now)) saved.now.printing outcome.now) }
+    ensures shown { OnOk result (Appends (O.seen sink.old).contents (O.seen sink.new).contents
+        (printed saved.now.printing (has_run outcome.now.exit) outcome.now.printer.items)) }
+    ensures part { AppendsFront (O.seen sink.old).contents (O.seen sink.new).contents
+        (printed saved.now.printing (has_run outcome.now.exit) outcome.now.printer.items) }
     ensures held { S.held store.new ≡ S.held store.old }
     ensures front { OnErr result (SavesFront (S.files store.old) (S.files store.new)
         (saved_paths saved.now.saving disk.now (paths_in others.now))
@@ -362,12 +379,14 @@ fn save_run<S: Store, O: Sink>(
 /// - It saves each image that `saved.saving` selects and that the outcome has.
 /// - It writes the printer's output to `saved.printing`, if the program has run.
 ///
-/// No other file changes. If the job is cut short by a stream failure or out of memory, no file changes. Otherwise, if
-/// the input is known, the saved images and the printer's output are those that the specification of the run states.
-/// They depend on the input and the images that were read.
+/// No other file changes. If the job is cut short by a stream failure or out of memory, no file changes, and, if the
+/// input is known, a prefix of the output was written. Otherwise, if the input is known, the outcome, the output, the
+/// saved images and the printer's output are those that the specification of the run states. They depend on the input
+/// and the images that were read.
 ///
 /// On an error, a file could not be read, locked or written. The images of the first units may be saved, and no other
-/// file has changed. If the input is known, these images are those that the specification states.
+/// file has changed. If the input is known, these images are those that the specification states, and a prefix of the
+/// output was written.
 pub fn do_run<S: Store, I: Source, O: Sink>(
     alloc: Global,
     store: &mut S,
@@ -385,6 +404,10 @@ pub fn do_run<S: Store, I: Source, O: Sink>(
         (held_paths saved.saving (string_bytes program.disk) (paths_in program.others)) (S.held store.old)) }
     ensures said { IfOk result (λ outcome. IsSoundExit outcome.exit → IfSome (I.seen source.old).remaining (λ input.
         SavesRunSaid (S.files store.old) (S.files store.new) program saved input)) }
+    ensures tells { IfOk result (λ outcome. IsSoundExit outcome.exit → IfSome (I.seen source.old).remaining (λ input.
+        TellsRun (S.files store.old) (O.seen sink.old) (O.seen sink.new) outcome program saved input)) }
+    ensures part { IfSome (I.seen source.old).remaining (λ input.
+        TellsPartOfRun (S.files store.old) (O.seen sink.old) (O.seen sink.new) program saved input) }
     ensures front { OnErr result (SavesSome (S.files store.old) (S.files store.new)
         (saved_paths saved.saving (string_bytes program.disk) (paths_in program.others))) }
     ensures front_said { OnErr result (IfSome (I.seen source.old).remaining (λ input.

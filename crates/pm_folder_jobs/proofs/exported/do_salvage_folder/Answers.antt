@@ -10,8 +10,9 @@ returns-clause-saves g c = λ sound. known_folder
     (both (g.I.Source.seen c.args.source.now) (g.O.Sink.seen c.args.sink.now))
     (both (g.I.Source.seen c.run-outcome.new.source) (g.O.Sink.seen c.run-outcome.new.sink))
     (g.S.Store.files c.args.store.now) (g.F.Folder.files c.args.folder.now) (g.F.Folder.files c.fill_with.new.folder)
+    (g.F.Folder.at c.fill_with.new.folder)
     c.args.plan.now c.in_ok-image.image c.run-outcome.result c.in_ok-unwritten.unwritten c.as_str.result.now
-    (search rules) (c.run-outcome.ensures.exact sound) c.in_ok-image.ensures.value
+    c.as_str-2.result.now (search rules) (search rules) (c.run-outcome.ensures.exact sound) c.in_ok-image.ensures.value
     (subst (λ image. FillsFrom (g.F.Folder.files c.args.folder.now) (g.F.Folder.files c.fill_with.new.folder)
-    (option_map vec_items image) c.in_ok-unwritten.unwritten) c.take-volume.ensures.value
+    (g.F.Folder.at c.fill_with.new.folder) c.as_str-2.result.now (option_map vec_items image) c.in_ok-unwritten.unwritten) c.take-volume.ensures.value
     c.in_ok-unwritten.ensures.filled)

@@ -9,7 +9,6 @@ returns-in_ok-put-in-Ok-clause-imports g c = (
   search rules,
   search rules,
   search rules,
-  search rules,
   c.in_ok-left-in-Ok.ensures.imports,
   refl,
   search rules,

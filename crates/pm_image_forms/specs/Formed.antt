@@ -59,6 +59,7 @@ image_paths (plans.Convert plan) = []
 image_paths (plans.Search plan) = []
 image_paths (plans.Compare plan) = string_bytes plan.path ∷ string_bytes plan.other ∷ []
 image_paths (plans.Table plan) = string_bytes plan.path ∷ []
+image_paths (plans.Undelete plan) = string_bytes plan.path ∷ []
 
 -- The path of the file that `asm` or `dis` reads, if it is not on an image.
 abbrev pub read_path : TextInput → List (List ℕ)
@@ -90,6 +91,7 @@ plain_paths (plans.Convert plan) = []
 plain_paths (plans.Search plan) = []
 plain_paths (plans.Compare plan) = []
 plain_paths (plans.Table plan) = []
+plain_paths (plans.Undelete plan) = optional_path (option_map string_bytes plan.output)
 
 -- ---- forms
 

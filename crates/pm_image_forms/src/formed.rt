@@ -177,6 +177,7 @@ fn image_paths(alloc: Global, plan: &Plan) -> Result<Vec<&str>, AllocError>
         Plan::Export(plan) => plan.path.as_str(),
         Plan::Import(plan) => plan.path.as_str(),
         Plan::Table(plan) => plan.path.as_str(),
+        Plan::Undelete(plan) => plan.path.as_str(),
         Plan::Compare(plan) => return two_images(alloc, plan),
         Plan::Asm(_, files) | Plan::Dis(_, files) => match &files.input {
             TextInput::OnImage { image, .. } => image.as_str(),
@@ -218,6 +219,16 @@ fn text_paths(alloc: Global, files: &TextFiles) -> Result<Vec<&str>, AllocError>
     Ok(paths)
 }
 
+/// Returns the path of the file that gets an output, if there is one.
+fn one_path(alloc: Global, output: &Option<String>) -> Result<Vec<&str>, AllocError>
+    ensures paths { IfOk result (λ paths. map (λ path. path.now) paths.items
+        ≡ optional_path (option_map string_bytes output.now)) }
+{
+    let mut paths = Vec::new(alloc);
+    push_optional(&mut paths, output)?;
+    Ok(paths)
+}
+
 /// Returns the paths of `plan` that name no image. `--form` does not apply to the files at these paths:
 ///
 /// - the system's code file, and for `asm` and `dis` the file that is read;
@@ -231,11 +242,8 @@ fn plain_paths(alloc: Global, plan: &Plan) -> Result<Vec<&str>, AllocError>
             two_paths(alloc, program, other)
         }
         Plan::Asm(_, files) | Plan::Dis(_, files) => text_paths(alloc, files),
-        Plan::Files(plan) => {
-            let mut paths = Vec::new(alloc);
-            push_optional(&mut paths, &plan.output)?;
-            Ok(paths)
-        }
+        Plan::Files(plan) => one_path(alloc, &plan.output),
+        Plan::Undelete(plan) => one_path(alloc, &plan.output),
         Plan::Salvage(_)
         | Plan::Export(_)
         | Plan::Import(_)

@@ -8,6 +8,7 @@ use pm_files::DiskFault;
 use pm_image_forms::Several;
 use pm_import::{Left, Why};
 use pm_paths::Conflict;
+use pm_plan::BlockRange;
 use pm_search::SearchEnding;
 use pm_searches::Hits;
 use pm_tool::{Exit, Outcome};
@@ -32,6 +33,8 @@ pub enum End {
     Search(Hits, String),
     /// Lines were written, and there is no message. The field states whether the lines report a difference of two volumes.
     Lines(bool),
+    /// The blocks are not all free, in the volume whose image is at this path. Nothing was written.
+    NotFree(String, BlockRange),
     /// The arguments are in conflict.
     Words(Conflict),
 }
@@ -78,7 +81,7 @@ impl End {
             End::Import(_, left, _) => status_of_import(left),
             End::Convert(_, converted, _) if converted.fault.is_some() => Exit::Refused.number(),
             End::Convert(..) => Exit::Ended.number(),
-            End::Form(_) => Exit::Refused.number(),
+            End::Form(_) | End::NotFree(..) => Exit::Refused.number(),
             End::Search(hits, _) => status_of_search(*hits),
             End::Lines(differ) => status_of_lines(*differ),
             End::Words(_) => Exit::Usage.number(),

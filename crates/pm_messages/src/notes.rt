@@ -26,7 +26,7 @@ pub fn note_of<W: Write>(
     has_only_feeds: bool,
 ) -> Option<&'static str> {
     let End::Outcome(outcome, _) = end else {
-        return None;
+        return note_of_lines(surprise, end, lined);
     };
     match (surprise, outcome.exit) {
         (Surprise::NoCode, Exit::Ended) if !lined.has_written() => Some(
@@ -43,6 +43,20 @@ pub fn note_of<W: Write>(
         ),
         (Surprise::NoSecond, _) if lacks_second => Some(
             "the directory states that it has no second copy, and that blocks 6 to 9 are of files; try salvage without --second",
+        ),
+        _ => None,
+    }
+}
+
+/// Returns what a terminal shows after the end of a command that writes lines and has no outcome.
+fn note_of_lines<W: Write>(
+    surprise: Surprise,
+    end: &End,
+    lined: &Lined<W>,
+) -> Option<&'static str> {
+    match (surprise, end) {
+        (Surprise::NoRemoved, End::Lines(_)) if !lined.has_written() => Some(
+            "no free block looks like the beginning of a text file or a code file; 'files list --all' shows the free areas",
         ),
         _ => None,
     }

@@ -166,6 +166,7 @@ fn message(end: &End, is_silent: bool) -> &str
         },
         End::Convert(_, _, line) | End::Search(_, line) => line.as_str(),
         End::Form(_) => "refused form 1",
+        End::NotFree(..) => "refused undelete 1",
         End::Import(_, left, _) if left.is_empty() => "",
         End::Import(_, left, line) => match first_unread(left) {
             Some(fault) => fault.fault().text(),
@@ -226,6 +227,7 @@ fn explain<R: Eprint>(rt: &R, end: &End, has_system: bool) {
         | End::Import(..)
         | End::Convert(..)
         | End::Form(_)
+        | End::NotFree(..)
         | End::Search(..)
         | End::Lines(_)
         | End::Words(_) => Ok(()),
@@ -293,7 +295,7 @@ fn note_conversion<R: Eprint>(rt: &R, end: &End) {
     let path = Plain(path.as_str());
     if converted.is_damaged {
         let _ = eprintln!(rt;
-            "pmach: {path}: the checksum in the header does not match; some bytes are damaged"
+            "pmach: {path}: the checksum in the DiskCopy header does not match; bytes are damaged, or a program changed them and left the old checksum"
         );
     }
     let _ = match (converted.fault, converted.foreign) {
@@ -336,6 +338,24 @@ fn name_forms<R: Eprint>(rt: &R, end: &End) {
     }
 }
 
+/// Prints which blocks are not all free, if `end` is that they are not.
+fn name_blocks<R: Eprint>(rt: &R, end: &End) {
+    let End::NotFree(path, range) = end else {
+        return;
+    };
+    let path = Plain(path.as_str());
+    let _ = match range.count {
+        0 => eprintln!(rt; "pmach: {path}: no block; --blocks must be at least 1"),
+        count => {
+            let first = range.first;
+            let last = u32::from(first) + u32::from(count) - 1;
+            eprintln!(rt;
+                "pmach: {path}: blocks {first} to {last} are not all free; 'files list --all' shows the free areas"
+            )
+        }
+    };
+}
+
 /// How messages are written to standard error.
 #[derive(Clone, Copy)]
 pub struct Manner {
@@ -366,6 +386,9 @@ pub fn say<R: Eprint + AllocGlobal>(rt: &R, end: &End, manner: Manner) {
     name_left(rt, end);
     note_conversion(rt, end);
     name_forms(rt, end);
+    if manner.explains {
+        name_blocks(rt, end);
+    }
     if manner.explains {
         explain(rt, end, manner.has_system);
     }

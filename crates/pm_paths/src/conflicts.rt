@@ -326,6 +326,7 @@ pub fn conflict_in<S: Store>(store: &S, plan: &Plan) -> Option<Conflict> {
         Plan::Run(program, choices) => conflict_of_run(store, program, choices),
         Plan::Asm(_, files) | Plan::Dis(_, files) => text_conflict(store, files),
         Plan::Files(plan) => output_conflict(store, plan.path.as_str(), &plan.output),
+        Plan::Undelete(plan) => output_conflict(store, plan.path.as_str(), &plan.output),
         Plan::Trace(program, _, output) => trace_conflict(store, program, output),
         Plan::Salvage(plan) if is_there(store, plan.target.as_str()) => {
             if is_folder(plan.target.as_str()) {

@@ -43,6 +43,8 @@ use Rattle.pm_plan.specs.declared.table_words.TablePlan.{TablePlan}
 use Rattle.pm_plan.specs.declared.text_words.TextFiles.{TextFiles}
 use Rattle.pm_plan.specs.declared.text_words.TextInput.{TextInput}
 use Rattle.pm_plan.specs.declared.text_words.TextInput.TheVariants as inputs
+use Rattle.pm_plan.specs.declared.undelete_words.BlockRange.{BlockRange}
+use Rattle.pm_plan.specs.declared.undelete_words.UndeletePlan.{UndeletePlan}
 use Rattle.pm_plan.specs.SearchWords.{AsksSearch}
 use Rattle.pm_plan.specs.FormWords.{AsksForm}
 use Rattle.pm_forms.specs.declared.form.FormChoice.{FormChoice}
@@ -318,6 +320,22 @@ AsksTable m plan = (rows : List Row) × (subcommand_rows_of m ≡ Some (codes "l
     × (word_found rows (codes "matching") ≡ option_map string_bytes plan.pattern)
     × (is_set (word_found rows (codes "all")) ≡ false)
 
+-- Is true if `blocks` are the blocks that the values of `--block` and `--blocks` specify: the first block and the number
+-- of blocks. Both are given, or none of them.
+abbrev pub AreBlocks : Option (List ℕ) → Option (List ℕ) → Option BlockRange → Type 0
+AreBlocks None None blocks = blocks ≡ None
+AreBlocks None (Some count) blocks = ⊥
+AreBlocks (Some first) None blocks = ⊥
+AreBlocks (Some first) (Some count) blocks = (n : ℕ) × (k : ℕ) × IsNumber first n × IsNumber count k
+    × (blocks ≡ Some (record { first = n; count = k }))
+
+-- Is true if the arguments `m` of `files undelete` specify `plan`.
+abbrev pub AsksUndelete : ArgMatches → UndeletePlan → Type 0
+AsksUndelete m plan = (rows : List Row) × (subcommand_rows_of m ≡ Some (codes "undelete", rows))
+    × IsPath (word_found (words_of m) (codes "image")) (word_found rows (codes "image")) (string_bytes plan.path)
+    × AreBlocks (word_found rows (codes "block")) (word_found rows (codes "blocks")) plan.blocks
+    × (word_found rows (codes "output") ≡ option_map string_bytes plan.output)
+
 -- ---- lines of a trace
 
 -- Is true if `first` is the number of the first step whose line is shown, given by `--from`. The default is 0.
@@ -434,6 +452,7 @@ Asks command m (plans.Import plan) = (command ≡ codes "files") × AsksImport m
 Asks command m (plans.Compare plan) = (command ≡ codes "files") × AsksCompare m plan
 Asks command m (plans.Table plan) =
     (command ≡ codes "files") × AsksTable m plan × (is_table (subcommand_rows_of m) ≡ true)
+Asks command m (plans.Undelete plan) = (command ≡ codes "files") × AsksUndelete m plan
 Asks command m (plans.Convert plan) = (command ≡ codes "convert") × AsksConvert m plan
 Asks command m (plans.Search plan) = AsksSearch command m plan
 

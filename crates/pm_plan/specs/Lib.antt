@@ -5,3 +5,4 @@ pub mod Needed
 pub mod Worked
 pub mod ConvertWords
 pub mod SearchWords
+pub mod Verbs

@@ -291,6 +291,28 @@ IsGoodCompare rows (Some after) = (after.0 ≡ codes "diff")
     × IsOnePath (word_found rows (codes "image")) (word_found after.1 (codes "image"))
     × IsThere (word_found after.1 (codes "OTHER"))
 
+-- Is true if `--block` and `--blocks` are both missing, or are both decimal numbers up to 65,535.
+abbrev pub AreGoodBlocks : Option (List ℕ) → Option (List ℕ) → Type 0
+AreGoodBlocks None None = ⊤
+AreGoodBlocks None (Some count) = ⊥
+AreGoodBlocks (Some first) None = ⊥
+AreGoodBlocks (Some first) (Some count) = IsNumberUpTo 65535 first × IsNumberUpTo 65535 count
+
+-- Is true if the last argument, the path of an output, is missing. If `--block` is given, the path may also be given,
+-- and is then not empty.
+abbrev pub IsOutputBeside : Option (List ℕ) → Option (List ℕ) → Type 0
+IsOutputBeside first None = ⊤
+IsOutputBeside None (Some output) = ⊥
+IsOutputBeside (Some first) (Some output) = output ≢ []
+
+-- Is true if the verb is `undelete`, and the arguments before and after it are valid.
+abbrev pub IsGoodUndelete : List Row → Option (List ℕ × List Row) → Type 0
+IsGoodUndelete rows None = ⊥
+IsGoodUndelete rows (Some after) = (after.0 ≡ codes "undelete")
+    × IsOnePath (word_found rows (codes "image")) (word_found after.1 (codes "image"))
+    × AreGoodBlocks (word_found after.1 (codes "block")) (word_found after.1 (codes "blocks"))
+    × IsOutputBeside (word_found after.1 (codes "block")) (word_found after.1 (codes "output"))
+
 -- Is true if the verb is `list`, and the arguments before and after it are valid for a list with `--json` or `--tabs`.
 abbrev pub IsGoodTable : List Row → Option (List ℕ × List Row) → Type 0
 IsGoodTable rows None = ⊥
@@ -305,7 +327,8 @@ AreGoodFiles rows after = MatchBool (is_verb (codes "salvage") after) (IsGoodSal
     (MatchBool (is_verb (codes "export") after) (IsGoodExport rows after)
     (MatchBool (is_verb (codes "import") after) (IsGoodImport rows after)
     (MatchBool (is_verb (codes "diff") after) (IsGoodCompare rows after)
-    (MatchBool (is_table after) (IsGoodTable rows after) (AreGoodBefore rows after)))))
+    (MatchBool (is_verb (codes "undelete") after) (IsGoodUndelete rows after)
+    (MatchBool (is_table after) (IsGoodTable rows after) (AreGoodBefore rows after))))))
 
 -- Is true if `--form`, `--as` or `--back` is given. The option `--form` has the id `format`.
 abbrev pub has_options : List Row → Bool

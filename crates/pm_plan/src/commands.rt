@@ -426,6 +426,25 @@ const MORE_VERBS: &[CommandRow] = &[
         ],
     ),
     (
+        "undelete",
+        "List the free blocks in which a removed file seems to begin, or write the bytes of free blocks",
+        &[
+            IMAGE,
+            FORM,
+            (
+                "block",
+                Form::Free("N"),
+                "Write the bytes of free blocks, from block N on, instead of the list",
+            ),
+            (
+                "blocks",
+                Form::Free("K"),
+                "Number of blocks to write; required with --block",
+            ),
+            WRITTEN,
+        ],
+    ),
+    (
         "duplicate",
         "Write a second copy of the directory to blocks 6 to 9, which must be free",
         &[IMAGE, FORM],
@@ -563,7 +582,7 @@ const NAMES: WordRow = (
 const OWN_LISTING: WordRow = (
     "list",
     Form::Flag,
-    "Print the listing, with the file's own bytes and offsets, instead of the text; cannot be used with --names",
+    "Print the listing instead of the text: each line has its offset and its bytes; cannot be used with another view",
 );
 
 const STATEMENTS: WordRow = (
@@ -588,7 +607,7 @@ const BLOCKS: WordRow = (
 const READ: WordRow = (
     "FILE",
     Form::Maybe,
-    "Read this file instead of standard input; with --image, a file on that volume",
+    "Read this file instead of standard input; with --image, it is a file on that image",
 );
 
 /// The option for the path of the image that contains the input file.
@@ -800,6 +819,12 @@ Examples:
 Examples:
   pmach files --image mine.img new MINE 280
   pmach files --image large.img new LARGE 1600"
+        }
+        "undelete" => {
+            "\
+Examples:
+  pmach files --image kept.img undelete
+  pmach files --image kept.img undelete --block 18 --blocks 4 -o old.text"
         }
         "duplicate" => {
             "\

@@ -8,6 +8,7 @@ ghost use Rattle.pm_plan.specs.Asked.{IsNumberWord, IsPath, IsSpelled};
 ghost use Rattle.pm_plan.specs.Asked.{word_found, words_of};
 ghost use Rattle.pm_plan.specs.Needed.{AreGoodBefore, IsGoodSalvage, IsKindWord, IsThere, IsWrong, MeetAll};
 ghost use Rattle.pm_plan.specs.Needed.{IsNameOrSlot, IsSlotWord, is_verb, verb_needs};
+ghost use Rattle.pm_plan.specs.Verbs.{gets, reads};
 ghost use Rattle.pm_plan.specs.declared.words.WordsError.TheVariants.{NoCommand, NoMemory};
 
 use crate::folder_words::ends_given;
@@ -62,7 +63,9 @@ pub enum Verb {
 
 impl Verb {
     /// Returns whether the verb writes the bytes of a file to its output.
-    pub fn gets(&self) -> bool {
+    pub fn gets(&self) -> bool
+        ensures value { result ≡ gets self.now }
+    {
         use pm_filer::FileCommand;
         matches!(
             self,
@@ -71,7 +74,9 @@ impl Verb {
     }
 
     /// Returns whether the verb reads standard input.
-    pub fn reads(&self) -> bool {
+    pub fn reads(&self) -> bool
+        ensures value { result ≡ reads self.now }
+    {
         use pm_filer::FileCommand;
         matches!(
             self,
@@ -97,7 +102,7 @@ fn kind(text: &str) -> Option<u8>
 }
 
 /// Returns the number that `text` spells in decimal digits. Returns `None` if `text` is no decimal number up to 65,535.
-fn short_number(text: &str) -> Option<u16>
+pub(crate) fn short_number(text: &str) -> Option<u16>
     ensures exact { SomeIff result (IsNumberUpTo 65535 text.now) (digits_value 10 text.now) }
 {
     u16::try_from(number(text)?).ok()

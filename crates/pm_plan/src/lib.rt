@@ -14,6 +14,7 @@ mod table_words;
 mod text_words;
 mod tips;
 mod trace_words;
+mod undelete_words;
 mod words;
 pub mod worked;
 
@@ -26,4 +27,5 @@ pub use run_words::{Others, Program, RunChoices};
 pub use search_words::{SearchPlan, Sought};
 pub use table_words::{TableForm, TablePlan};
 pub use text_words::{TextFiles, TextInput};
+pub use undelete_words::{BlockRange, UndeletePlan};
 pub use words::{Asked, Plan, WordsError, plan_of};

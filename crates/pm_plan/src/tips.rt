@@ -145,10 +145,14 @@ fn tip_for_reading(word: &str) -> Option<&'static str> {
         "compare" | "cmp" => Some(
             "to compare the files of two volumes: pmach files --image IMAGE diff OTHERIMAGE",
         ),
-        "undelete" | "unremove" => Some(
-            "a removed file may remain in a free area; 'list --all' shows the free areas",
+        "undel" | "unremove" | "unrm" | "unerase" | "restore" => Some(
+            "to find removed files: pmach files --image IMAGE undelete",
         ),
-        "recover" | "rescue" => Some(
+        "recover" => Some(
+            "to find removed files: pmach files --image IMAGE undelete; to save the files of a damaged volume: \
+             pmach files --image IMAGE salvage NEWIMAGE",
+        ),
+        "rescue" => Some(
             "to save the files of a damaged volume: pmach files --image IMAGE salvage NEWIMAGE",
         ),
         "fsck" | "verify" | "test" => Some("to check a volume: pmach files --image IMAGE check"),

@@ -21,6 +21,7 @@ use crate::table_words::{TablePlan, is_table, table_plan};
 use crate::text_words::{TextFiles, text_files};
 use crate::tips::{Told, tip_for_option, tip_for_verb, with_tip};
 use crate::trace_words::selection_of;
+use crate::undelete_words::{UndeletePlan, undelete_plan};
 use clap::ArgMatches;
 use clap::error::ErrorKind;
 use pm_check::Order;
@@ -66,6 +67,8 @@ pub enum Plan {
     Compare(ComparePlan),
     /// Lists the files of a volume in a form that other programs read.
     Table(TablePlan),
+    /// Lists the free blocks in which a removed file seems to begin, or writes the bytes of free blocks.
+    Undelete(UndeletePlan),
     /// Converts an image to another format, or prints its formats.
     Convert(ConvertPlan),
     /// Searches in images.
@@ -253,6 +256,8 @@ fn files_asked(alloc: Global, matches: &ArgMatches<'_>) -> Result<Plan, WordsErr
         Ok(Plan::Import(import_plan(alloc, matches)?))
     } else if is_verb(matches, "diff") {
         Ok(Plan::Compare(compare_plan(alloc, matches)?))
+    } else if is_verb(matches, "undelete") {
+        Ok(Plan::Undelete(undelete_plan(alloc, matches)?))
     } else if is_table(matches) {
         Ok(Plan::Table(table_plan(alloc, matches)?))
     } else {

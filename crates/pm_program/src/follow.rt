@@ -17,14 +17,17 @@ use pm_messages::{
 use pm_output::do_text;
 use pm_paths::{Conflict, conflict_in, is_folder};
 use pm_plan::{
-    Asked, ComparePlan, ConvertPlan, ExportPlan, ImportPlan, Plan, SalvagePlan, TablePlan, Target,
+    Asked, BlockRange, ComparePlan, ConvertPlan, ExportPlan, ImportPlan, Plan, SalvagePlan,
+    TablePlan, Target, UndeletePlan,
 };
 use pm_runs::{do_debug, do_run, do_trace, saved_of};
 use pm_searches::{Hits, do_search, with_files};
 use pm_streams::{Terminals, end_key, is_text, prompted, surprise_of};
 use pm_terminal::{Failed, Keys, Lined, Typed};
 use pm_tool::{Job, Outcome};
-use pm_verbs::{Comparison, act_on_files, do_compare, do_salvage, do_table};
+use pm_verbs::{
+    Comparison, Undeletion, act_on_files, do_compare, do_salvage, do_table, do_undelete,
+};
 use std::alloc::Global;
 use std::io;
 use std::io::Input;
@@ -62,6 +65,8 @@ enum Ended {
     Refused(String, Outcome),
     /// Lines were written. The field states whether they report a difference of two volumes.
     Lines(bool),
+    /// The blocks of the volume in the image at a path are not all free.
+    NotFree(String, BlockRange),
 }
 
 /// Compares the files of two volumes.
@@ -95,6 +100,23 @@ fn table<S: Store, O: Sink>(
     }
 }
 
+/// Lists the free blocks of a volume in which a removed file seems to begin, or writes the bytes of free blocks.
+fn undelete<S: Store, O: Sink>(
+    alloc: Global,
+    store: &mut S,
+    sink: &mut O,
+    plan: UndeletePlan,
+) -> Result<Ended, DiskFault>
+    requires well { (O.seen sink.old).failed ≡ false }
+{
+    match (do_undelete(alloc, store, sink, &plan)?, plan.blocks) {
+        (Undeletion::Refused(outcome), _) => Ok(Ended::Refused(plan.path, outcome)),
+        (Undeletion::NotFree, Some(range)) => Ok(Ended::NotFree(plan.path, range)),
+        // The list does not end with `NotFree`.
+        (Undeletion::NotFree | Undeletion::Done, _) => Ok(Ended::Lines(false)),
+    }
+}
+
 /// Converts an image.
 fn convert<S: Store, O: Sink>(
     alloc: Global,
@@ -114,34 +136,29 @@ fn convert<S: Store, O: Sink>(
 }
 
 /// Adds the files of a folder to a volume.
-fn import<S: Store, F: Folder, I: Source, O: Sink>(
+fn import<S: Store, F: Folder, O: Sink>(
     alloc: Global,
     store: &mut S,
     folder: &mut F,
-    source: &mut I,
     sink: &mut O,
     plan: ImportPlan,
 ) -> Result<Ended, DiskFault>
-    requires well { AreWell (both (I.seen source.old) (O.seen sink.old)) }
+    requires well { (O.seen sink.old).failed ≡ false }
 {
-    match do_import(alloc, store, source, sink, folder, &plan)? {
+    match do_import(alloc, store, sink, folder, &plan)? {
         Imported::Refused(outcome) => Ok(Ended::Job(outcome)),
         Imported::Done(left) => Ok(Ended::Import(plan.folder, left)),
     }
 }
 
 /// Executes `plan`, which writes the files of a volume to a new folder.
-fn export<S: Store, F: Folder, I: Source, O: Sink>(
+fn export<S: Store, F: Folder>(
     alloc: Global,
     store: &mut S,
     folder: &mut F,
-    source: &mut I,
-    sink: &mut O,
     plan: ExportPlan,
-) -> Result<Ended, DiskFault>
-    requires well { AreWell (both (I.seen source.old) (O.seen sink.old)) }
-{
-    match do_export(alloc, store, source, sink, folder, &plan)? {
+) -> Result<Ended, DiskFault> {
+    match do_export(alloc, store, folder, &plan)? {
         Exported::Refused(outcome) => Ok(Ended::Job(outcome)),
         Exported::Written(unwritten) => Ok(Ended::Folder(plan.folder, unwritten)),
     }
@@ -197,12 +214,13 @@ fn act<S: Store, F: Folder, I: Source, O: Sink>(
             return salvage(alloc, store, folder, source, sink, plan);
         }
         Plan::Salvage(plan) => do_salvage(alloc, store, source, sink, plan)?,
-        Plan::Export(plan) => return export(alloc, store, folder, source, sink, plan),
-        Plan::Import(plan) => return import(alloc, store, folder, source, sink, plan),
+        Plan::Export(plan) => return export(alloc, store, folder, plan),
+        Plan::Import(plan) => return import(alloc, store, folder, sink, plan),
         Plan::Convert(plan) => return convert(alloc, store, sink, plan),
         Plan::Search(plan) => return Ok(Ended::Search(do_search(alloc, store, sink, &plan)?)),
         Plan::Compare(plan) => return compare(alloc, store, sink, plan),
         Plan::Table(plan) => return table(alloc, store, sink, plan),
+        Plan::Undelete(plan) => return undelete(alloc, store, sink, plan),
     };
     Ok(Ended::Job(outcome))
 }
@@ -268,6 +286,7 @@ fn end_of_plan<R: Host + AllocGlobal, I: Source, O: Sink>(
             end_of_job(rt.alloc(), &Some(Named::Image(path)), form, outcome)
         }
         Ok(Ended::Lines(differ)) => End::Lines(differ),
+        Ok(Ended::NotFree(path, range)) => End::NotFree(path, range),
         Err(fault) => End::File(fault, files.store.into_refused().or(path)),
     }
 }

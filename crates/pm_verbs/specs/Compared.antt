@@ -5,7 +5,7 @@ use Rattle.pm_compare.specs.Verdicts.{compared, differs}
 use Rattle.pm_compare.specs.Lines.{lines_of}
 use Rattle.pm_files.specs.Held.{Files}
 use Rattle.pm_plan.specs.declared.compare_words.ComparePlan.{ComparePlan}
-use Rattle.pm_verbs.specs.Opened.{IsRefused, IsVolumeAt}
+use Rattle.pm_images.specs.Opened.{IsRefused, IsVolumeAt}
 use Rattle.pm_verbs.specs.declared.compared.Comparison.{Comparison}
 use Rattle.pm_verbs.specs.declared.compared.Comparison.TheVariants as ends
 

@@ -2,6 +2,6 @@ pub mod Verbs
 pub mod Ended
 pub mod Got
 pub mod Replaced
-pub mod Opened
 pub mod Compared
 pub mod Tabled
+pub mod Undeleted

@@ -5,7 +5,7 @@ use Rattle.pm_files.specs.Held.{Files}
 use Rattle.pm_plan.specs.declared.table_words.TableForm.{TableForm}
 use Rattle.pm_plan.specs.declared.table_words.TableForm.TheVariants as forms
 use Rattle.pm_plan.specs.declared.table_words.TablePlan.{TablePlan}
-use Rattle.pm_verbs.specs.Opened.{IsRefused, IsVolumeAt}
+use Rattle.pm_images.specs.Opened.{IsRefused, IsVolumeAt}
 use Rattle.pm_table.specs.Json.{json_of}
 use Rattle.pm_table.specs.Tabs.{tabs_of}
 use Rattle.pm_tool.specs.declared.outcome.Outcome.{Outcome}

@@ -2,9 +2,9 @@
 ghost use Rattle.std.specs.Prelude.{◌≡◌, false, IfOk};
 ghost use Rattle.pm_verbs.specs.Compared.{Compares, WritesCompared};
 
-use crate::opened::open_at;
 use pm_compare::{compare, differs, lines_of};
 use pm_files::{DiskFault, Store};
+use pm_images::open_at;
 use pm_jobs::{Sink, write_all};
 use pm_plan::ComparePlan;
 use pm_tool::Outcome;

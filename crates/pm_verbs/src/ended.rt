@@ -1,12 +1,13 @@
 //! The verbs `gettext` and `puttext` of `files` with the option `--ends`. In comments, the input is *known* if the
 //! model of `source` states its remaining bytes.
-ghost use Rattle.std.specs.Prelude.{◌≡◌, ℕ, List, false, IfOk, IfSome, OnErr, OnOk, option_map, string_bytes};
+ghost use Rattle.std.specs.Prelude.{◌≡◌, ◌⊎◌, ℕ, List, false, IfOk, IfSome, OnErr, OnOk, option_map, string_bytes};
 ghost use Rattle.std.specs.Prelude.{vec_items};
 ghost use Rattle.pm_filer.specs.Filed.{order_of};
 ghost use Rattle.pm_files.specs.Held.{Saves};
 ghost use Rattle.pm_jobs.specs.Streams.{AreWell, both};
-ghost use Rattle.pm_verbs.specs.Ended.{DeliversEnded, IsFed};
-ghost use Rattle.pm_verbs.specs.Verbs.{SavesSaid, takes_lock};
+ghost use Rattle.pm_verbs.specs.Ended.{DeliversEnded, DeliversPart, IsFed};
+ghost use Rattle.pm_output.specs.Texts.{LeavesOutput};
+ghost use Rattle.pm_verbs.specs.Verbs.{SavesSaid, TellsVerb, WritesNoneOrAll, WritesPart, takes_lock};
 ghost use Rattle.pm_paths.specs.Locks.{held_at, held_by};
 ghost use Rattle.pm_tool.specs.Said.{IsCutShort, IsSoundExit};
 
@@ -70,6 +71,12 @@ fn put_bytes<S: Store, O: Sink>(
     ensures held { OnOk result (S.held store.new ≡ held_by (takes_lock verb) path.now (S.held store.old)) }
     ensures said { IfOk result (λ outcome. IsSoundExit outcome.exit →
         SavesSaid (S.files store.old) (S.files store.new) path.now verb bytes.now) }
+    ensures tells { IfOk result (λ outcome. IsSoundExit outcome.exit →
+        TellsVerb (S.files store.old) (O.seen sink.old) (O.seen sink.new) outcome path.now verb bytes.now) }
+    ensures part { IfOk result (λ outcome. IsCutShort outcome.exit →
+        WritesPart (S.files store.old) path.now verb (O.seen sink.old) (O.seen sink.new) bytes.now) }
+    ensures broken { OnErr result
+        (WritesNoneOrAll (S.files store.old) path.now verb (O.seen sink.old) (O.seen sink.new) bytes.now) }
     ensures unchanged { OnErr result (S.files store.new ≡ S.files store.old) }
 {
     let mut source = Reader::new(bytes);
@@ -100,6 +107,15 @@ pub fn do_puttext<S: Store, I: Source, O: Sink>(
     ensures said { IfOk result (λ outcome. IsSoundExit outcome.exit → (text : List ℕ)
         × IsFed (I.seen source.old).remaining ends text
         × SavesSaid (S.files store.old) (S.files store.new) path.now verb text) }
+    ensures tells { IfOk result (λ outcome. IsSoundExit outcome.exit → (text : List ℕ)
+        × IsFed (I.seen source.old).remaining ends text
+        × TellsVerb (S.files store.old) (O.seen sink.old) (O.seen sink.new) outcome path.now verb text) }
+    ensures part { IfOk result (λ outcome. IsCutShort outcome.exit → (text : List ℕ)
+        × IsFed (I.seen source.old).remaining ends text
+        × WritesPart (S.files store.old) path.now verb (O.seen sink.old) (O.seen sink.new) text) }
+    ensures broken { OnErr result ((O.seen sink.new ≡ O.seen sink.old) ⊎ ((text : List ℕ)
+        × IsFed (I.seen source.old).remaining ends text
+        × WritesNoneOrAll (S.files store.old) path.now verb (O.seen sink.old) (O.seen sink.new) text)) }
     ensures unchanged { OnErr result (S.files store.new ≡ S.files store.old) }
 {
     let text = read_text(alloc, source, ends)?;
@@ -114,7 +130,7 @@ pub fn do_puttext<S: Store, I: Source, O: Sink>(
 /// of memory, nothing is written, and no file changes.
 ///
 /// On an error, a file could not be read, locked or written, `sink` failed, or memory is exhausted. No file has
-/// changed.
+/// changed. If the input is known, a prefix of the output was written, which may be empty.
 pub fn do_gettext<S: Store, I: Source, O: Sink>(
     alloc: Global,
     store: &mut S,
@@ -129,8 +145,12 @@ pub fn do_gettext<S: Store, I: Source, O: Sink>(
     ensures said { IfOk result (λ outcome. IsSoundExit outcome.exit → IfSome (I.seen source.old).remaining (λ input.
         DeliversEnded (S.files store.old) (S.files store.new) path.now (option_map string_bytes output.now)
         (O.seen sink.old) (O.seen sink.new) outcome (order_of command) ends input)) }
+    ensures silent { LeavesOutput (option_map string_bytes output.now) (O.seen sink.old) (O.seen sink.new) }
     ensures cut { IfOk result (λ outcome. IsCutShort outcome.exit → S.files store.new ≡ S.files store.old) }
+    ensures unwritten { IfOk result (λ outcome. IsCutShort outcome.exit → O.seen sink.new ≡ O.seen sink.old) }
     ensures held { OnOk result (S.held store.new ≡ held_at (option_map string_bytes output.now) (S.held store.old)) }
+    ensures broken { OnErr result (IfSome (I.seen source.old).remaining (λ input. DeliversPart (S.files store.old)
+        path.now (O.seen sink.old) (O.seen sink.new) (order_of command) ends input)) }
     ensures unchanged { OnErr result (S.files store.new ≡ S.files store.old) }
 {
     let image = store.read(alloc, path)?;

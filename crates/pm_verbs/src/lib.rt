@@ -4,10 +4,10 @@
 mod compared;
 mod ended;
 mod got;
-mod opened;
 mod plans;
 mod replaced;
 mod tabled;
+mod undeleted;
 mod verbs;
 
 pub use compared::{Comparison, do_compare};
@@ -16,4 +16,5 @@ pub use got::do_get;
 pub use plans::act_on_files;
 pub use replaced::do_replace;
 pub use tabled::do_table;
+pub use undeleted::{Undeletion, do_undelete};
 pub use verbs::{do_files, do_salvage};

@@ -4,7 +4,7 @@ ghost use Rattle.std.specs.Prelude.{◌≡◌, IfOk, IfSome, OnErr, OnOk, option
 ghost use Rattle.pm_filer.specs.Filed.{order_of};
 ghost use Rattle.pm_files.specs.Held.{Saves, held_too};
 ghost use Rattle.pm_jobs.specs.Streams.{AreWell, both};
-ghost use Rattle.pm_verbs.specs.Replaced.{Replaces, without};
+ghost use Rattle.pm_verbs.specs.Replaced.{Replaces, ReplacesNoneOrAll, ReplacesPart, without};
 ghost use Rattle.pm_tool.specs.Said.{IsCutShort, IsSoundExit};
 
 use pm_filer::FileCommand;
@@ -38,9 +38,11 @@ fn without(alloc: Global, image: Vec<u8>, name: &str) -> Result<Vec<u8>, DiskFau
 /// is saved only if the command succeeds: otherwise the old file remains. `source` and `sink` must not have failed.
 ///
 /// The file at `path` is locked first. No other file changes. If the job is cut short by a stream failure or out of
-/// memory, no file changes.
+/// memory, no file changes, and, if the input is known, a prefix of the output was written. Otherwise, if the input is
+/// known, the outcome, the output and the saved image are those that the specification of the command states.
 ///
-/// On an error, the file could not be read, locked or written, or memory is exhausted. No file has changed.
+/// On an error, the file could not be read, locked or written, or memory is exhausted. No file has changed. If the input
+/// is known, either nothing was written or all of the output.
 pub fn do_replace<S: Store, I: Source, O: Sink>(
     alloc: Global,
     store: &mut S,
@@ -56,7 +58,13 @@ pub fn do_replace<S: Store, I: Source, O: Sink>(
     ensures cut { IfOk result (λ outcome. IsCutShort outcome.exit → S.files store.new ≡ S.files store.old) }
     ensures held { OnOk result (S.held store.new ≡ held_too path.now (S.held store.old)) }
     ensures said { IfOk result (λ outcome. IsSoundExit outcome.exit → IfSome (I.seen source.old).remaining (λ input.
-        Replaces (S.files store.old) (S.files store.new) path.now name.now (order_of command) input outcome)) }
+        Replaces (S.files store.old) (S.files store.new) (O.seen sink.old) (O.seen sink.new) path.now name.now
+        (order_of command) input outcome)) }
+    ensures part { IfOk result (λ outcome. IsCutShort outcome.exit → IfSome (I.seen source.old).remaining (λ input.
+        ReplacesPart (S.files store.old) (O.seen sink.old) (O.seen sink.new) path.now name.now (order_of command)
+        input)) }
+    ensures broken { OnErr result (IfSome (I.seen source.old).remaining (λ input. ReplacesNoneOrAll
+        (S.files store.old) (O.seen sink.old) (O.seen sink.new) path.now name.now (order_of command) input)) }
     ensures unchanged { OnErr result (S.files store.new ≡ S.files store.old) }
 {
     store.hold(path)?;

@@ -2,8 +2,8 @@
 ghost use Rattle.std.specs.Prelude.{◌≡◌, false, IfOk, option_map, string_bytes};
 ghost use Rattle.pm_verbs.specs.Tabled.{Tables, table_of};
 
-use crate::opened::open_at;
 use pm_files::{DiskFault, Store};
+use pm_images::open_at;
 use pm_jobs::{Sink, write_all};
 use pm_plan::{TableForm, TablePlan};
 use pm_table::{json_of, tabs_of};

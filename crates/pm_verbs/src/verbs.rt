@@ -4,7 +4,8 @@ ghost use Rattle.std.specs.Prelude.{◌≡◌, IfOk, IfSome, OnErr, OnOk, string
 ghost use Rattle.pm_tool.specs.Said.{IsCutShort, IsSoundExit};
 ghost use Rattle.pm_files.specs.Held.{Saves, held_too};
 ghost use Rattle.pm_jobs.specs.Streams.{AreWell, both};
-ghost use Rattle.pm_verbs.specs.Verbs.{SavesSaid, SaysOf, takes_lock, SavesSalvage};
+ghost use Rattle.pm_verbs.specs.Verbs.{SavesSaid, SavesSalvage, SaysOf, TellsVerb, WritesNoneOrAll};
+ghost use Rattle.pm_verbs.specs.Verbs.{WritesPart, takes_lock};
 ghost use Rattle.pm_paths.specs.Locks.{held_by};
 
 use pm_files::{DiskFault, Store};
@@ -63,11 +64,13 @@ fn files_job<S: Store>(
 /// Executes `verb` on the image at `path`, and saves the image of the outcome at `path` if the outcome has an image. If
 /// the verb may write the file, it locks the file first. `source` and `sink` must not have failed.
 ///
-/// No other file changes. If the job is cut short by a stream failure or out of memory, no file changes. Otherwise, if
-/// the input is known, the saved image is the image that the specification of the verb states. It depends on the input
-/// and the image that was read.
+/// No other file changes. If the job is cut short by a stream failure or out of memory, no file changes, and, if the
+/// input is known, a prefix of the output was written. Otherwise, if the input is known, the outcome, the output and the
+/// saved image are those that the specification of the verb states. They depend on the input and the image that was
+/// read.
 ///
-/// On an error, the file could not be read, locked or written, and no file has changed.
+/// On an error, the file could not be read, locked or written, and no file has changed. If the input is known, either
+/// nothing was written or all of the output.
 pub fn do_files<S: Store, I: Source, O: Sink>(
     alloc: Global,
     store: &mut S,
@@ -83,6 +86,12 @@ pub fn do_files<S: Store, I: Source, O: Sink>(
     ensures held { OnOk result (S.held store.new ≡ held_by (takes_lock verb) path.now (S.held store.old)) }
     ensures said { IfOk result (λ outcome. IsSoundExit outcome.exit → IfSome (I.seen source.old).remaining (λ input.
         SavesSaid (S.files store.old) (S.files store.new) path.now verb input)) }
+    ensures tells { IfOk result (λ outcome. IsSoundExit outcome.exit → IfSome (I.seen source.old).remaining (λ input.
+        TellsVerb (S.files store.old) (O.seen sink.old) (O.seen sink.new) outcome path.now verb input)) }
+    ensures part { IfOk result (λ outcome. IsCutShort outcome.exit → IfSome (I.seen source.old).remaining (λ input.
+        WritesPart (S.files store.old) path.now verb (O.seen sink.old) (O.seen sink.new) input)) }
+    ensures broken { OnErr result (IfSome (I.seen source.old).remaining (λ input.
+        WritesNoneOrAll (S.files store.old) path.now verb (O.seen sink.old) (O.seen sink.new) input)) }
     ensures unchanged { OnErr result (S.files store.new ≡ S.files store.old) }
 {
     let job = files_job(alloc, store, path, verb)?;

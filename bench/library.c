@@ -54,6 +54,9 @@ static uint32_t find(void) { return pmach_find(PATH, image, image_len, (const ui
 static uint32_t grep(void) { return pmach_grep(PATH, image, image_len, (const uint8_t *)".SEG", 4, OUT); }
 static uint32_t info(void) { return pmach_info(PATH, image, image_len, OUT); }
 static uint32_t compare(void) { return pmach_compare(image, image_len, image, image_len, OUT); }
+static uint32_t entries(void) { return pmach_entries(image, image_len, true, OUT); }
+static uint32_t undelete(void) { return pmach_undelete(image, image_len, OUT); }
+static uint32_t undelete_blocks(void) { return pmach_undelete_blocks(image, image_len, 14, 2, OUT); }
 static uint32_t start(void) { return pmach_new(&h, bare, sizeof bare); }
 static uint32_t boot(void) { return pmach_boot(&h, image, image_len, NAME, 0); }
 static uint32_t step(void) { return pmach_step(&h); }
@@ -119,7 +122,8 @@ static const struct job { const char *name; uint32_t (*call)(void); int has_mach
     {"with_system", with_system, 0, 0, 0}, {"formats", formats, 0, 0, 0}, {"convert", convert, 0, 0, 0},
     {"convert_back", convert_back, 0, 0, 0}, {"on", on, 1, 1, 0}, {"variable", variable, 1, 0, 0},
     {"procedures", procedures, 0, 0, 0}, {"form", form, 0, 0, 0}, {"find", find, 0, 0, 0}, {"grep", grep, 0, 0, 0},
-    {"info", info, 0, 0, 0}, {"compare", compare, 0, 0, 0},
+    {"info", info, 0, 0, 0}, {"compare", compare, 0, 0, 0}, {"entries", entries, 0, 0, 0},
+    {"undelete", undelete, 0, 0, 0}, {"undelete_blocks", undelete_blocks, 0, 0, 0},
 };
 
 /* what the machine of a handle shows: registers, memory, both outputs; nothing of an empty one */
@@ -223,6 +227,12 @@ static void answers(void) {
     memcpy(before, out, image_len);
     SAYS(PMACH_DIFFERENT, pmach_compare(image, image_len, before, image_len, OUT), "only here: HANOI\nsame: OTHER\n");
     SAYS(PMACH_DIFFERENT, pmach_compare(before, image_len, image, image_len, OUT), "same: OTHER\nonly there: HANOI\n");
+    SAYS(PMACH_DONE, pmach_entries(image, image_len, false, OUT),
+        "1\tHANOI\tcode\t6\t2\t512\t1024\t000-00-00\n2\tOTHER\ttext\t8\t6\t512\t3072\t000-00-00\n");
+    SAYS(PMACH_REFUSED, pmach_entries(odd_name, 1, true, OUT), "refused volume 1");
+    SAYS(PMACH_DONE, undelete(), "");
+    SAYS(PMACH_REFUSED, pmach_undelete_blocks(image, image_len, 6, 1, OUT), "refused undelete 1");
+    SAYS(PMACH_REFUSED, pmach_undelete_blocks(odd_name, 1, 6, 1, OUT), "refused volume 1");
     SAYS(PMACH_DONE, form(), "blocks");
     EXPECT(PMACH_DONE, volume()); /* a header of 280 blocks in block 2, and where the order of DOS has this block */
     memcpy(before, out, image_len);

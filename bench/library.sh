@@ -1,6 +1,6 @@
 #!/bin/sh
-# Each call of the library, with each of its allocations refused (library.c): bench/library.sh
-# LIBPM_C, HEAP and CC are those of examples/library/try.sh. By hand; no part of the gate.
+# library.sh: makes each call of the library, and refuses each of its allocations (library.c). The variables LIBPM_C, HEAP and CC
+# are those of examples/library/try.sh. Run manually; not part of the gate.
 set -eu
 here=$(dirname "$(readlink -f "$0")")
 made=$(mktemp -d)

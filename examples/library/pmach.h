@@ -54,7 +54,7 @@ enum {
 /* Writes the text for a result; an empty text if it is not a result. Returns 0; 7. For the message of a job the number is
    400 + N for `refused volume N` and `refused filer 1 N`, 200 + N for `refused boot N`, 600 + N for `refused asm N`,
    700 + N for `refused code N`, 800 + N for `refused filer 2 N`, 900 + N for `refused convert N`, 1000 + N for
-   `refused system N`, and 1101 for `refused form 1`. */
+   `refused system N`, 1101 for `refused form 1`, and 1201 for `refused undelete 1`. */
 uint32_t pmach_sentence(uint32_t status, uint8_t *out, size_t out_len, size_t *needed);
 /* Returns the version of the library: 100 times its first number plus its second. Compare it with PMACH_VERSION. */
 uint32_t pmach_version(void);
@@ -190,6 +190,18 @@ uint32_t pmach_info(const uint8_t *path, size_t path_len, const uint8_t *image, 
    `only here: NAME` for a file of the first image, `only there: NAME` for a file of the other. 0 if all lines are `same`, or
    there are none; 19; 2 `refused volume N` if one image is no volume; the first image is opened first */
 uint32_t pmach_compare(const uint8_t *image, size_t image_len, const uint8_t *other, size_t other_len,
+    uint8_t *out, size_t out_len, size_t *needed);
+
+/* the files of a volume as data: the JSON object of `files list --json`, or, without `json`, the lines of `files list --tabs`.
+   2 `refused volume N` if the image is no volume */
+uint32_t pmach_entries(const uint8_t *image, size_t image_len, bool json, uint8_t *out, size_t out_len, size_t *needed);
+
+/* the lines of `files undelete`: `block N blocks K text` or `block N blocks K code` for each free block at which a removed
+   file seems to begin. 2 `refused volume N` if the image is no volume */
+uint32_t pmach_undelete(const uint8_t *image, size_t image_len, uint8_t *out, size_t out_len, size_t *needed);
+/* the bytes of the `count` free blocks from block `first` on. 2 `refused volume N` if the image is no volume, and
+   `refused undelete 1` if not all of the blocks are free, or `count` is 0 */
+uint32_t pmach_undelete_blocks(const uint8_t *image, size_t image_len, uint16_t first, uint16_t count,
     uint8_t *out, size_t out_len, size_t *needed);
 
 /* ---- a machine, used through a handle */

@@ -6,3 +6,4 @@ pub mod SentenceLaws
 pub mod SessionLaws
 pub mod StatusLaws
 mod Values
+mod BlockLaws

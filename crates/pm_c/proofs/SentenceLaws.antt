@@ -123,4 +123,5 @@ answers_are_told = record {
   nothing = refl;
   different = refl;
   several = refl;
+  not_free = refl;
 }

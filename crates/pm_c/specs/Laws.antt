@@ -64,7 +64,8 @@ IsTold status = is_some (sentence status) ≡ true
 
 -- The library has a sentence for each end of a step and of a run of the debugger. It also has a sentence for each fault
 -- of a start, a unit, a volume, a breakpoint, a conversion and the system segment. The other sentences are for a name of
--- no format, a search that found nothing, volumes with different files, and the message `refused form 1`.
+-- no format, a search that found nothing, volumes with different files, and the messages `refused form 1` and
+-- `refused undelete 1`.
 pub record AnswersAreTold : Type 0 where
   pub stops : (stop : Stop) → IsTold (stop_code stop)
   pub runs : (reason : BreakReason) → IsTold (go_code reason)
@@ -82,6 +83,7 @@ pub record AnswersAreTold : Type 0 where
   pub nothing : IsTold NOTHING
   pub different : IsTold DIFFERENT
   pub several : IsTold 1101
+  pub not_free : IsTold 1201
 
 -- The answers to a list of lines are the answer to the first line, followed by the answers to the other lines in the
 -- session after the first line. After `quit` no more lines are answered. The answer to a line that is no command is

@@ -1,10 +1,12 @@
 pub mod Answers
 pub mod Changes
 pub mod Codes
+pub mod Entries
 pub mod Images
 pub mod Laws
 pub mod Owned
 pub mod Procedures
+pub mod Removed
 pub mod Searches
 pub mod Sentences
 pub mod Sessions

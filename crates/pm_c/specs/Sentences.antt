@@ -96,6 +96,7 @@ image_sentences =
     (1004, codes "the program already has a segment in slot 0") ∷
     (1005, codes "cannot add the system segment to the program") ∷
     (1101, codes "the image opens in several formats") ∷
+    (1201, codes "not all of the blocks are free") ∷
     []
 
 unfoldable pub image_sentence : ℕ → Option (List ℕ)

@@ -16,7 +16,8 @@ pub fn wanted_length_is_enough()
 /// - The status of an executed step is never the status for out of memory or for an empty handle.
 /// - The library has a sentence for each status of a step, a run, a start, a unit, a volume and a breakpoint. It also
 ///   has a sentence for each fault of a conversion and of the system segment. The other sentences are for a name of no
-///   format, a search that found nothing, volumes with different files, and the message `refused form 1`.
+///   format, a search that found nothing, volumes with different files, and the messages `refused form 1` and
+///   `refused undelete 1`.
 #[tactic(auto, using(crate::proofs::StatusLaws::start_is_told, crate::proofs::StatusLaws::mount_is_told, crate::proofs::StatusLaws::answers_are_apart, crate::proofs::SentenceLaws::answers_are_told))]
 pub fn answers_are_told()
     ensures start { StartIsTold }

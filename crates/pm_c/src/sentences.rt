@@ -29,6 +29,7 @@ fn image_sentence(status: u32) -> Option<&'static str>
         1004 => Some("the program already has a segment in slot 0"),
         1005 => Some("cannot add the system segment to the program"),
         1101 => Some("the image opens in several formats"),
+        1201 => Some("not all of the blocks are free"),
         _ => None,
     }
 }

@@ -1,10 +1,13 @@
-//! Tests of the searches in an image, of the comparison of two volumes, and of the form of an image. The expected lines
-//! were worked out from the descriptions of the commands `find`, `grep`, `info`, `files diff` and `--form auto`.
+//! Tests of the searches in an image, of the comparison of two volumes, of the list of a volume, of removed files, and of
+//! the form of an image. The expected lines were worked out from the descriptions of the commands `find`, `grep`, `info`,
+//! `files diff`, `files list`, `files undelete` and `--form auto`.
 use crate::calls::images::{WORK, in_two_orders};
 use crate::calls::volumes::{blank, with_a};
 use crate::calls::{Answer, answer};
 use crate::comparisons::*;
 use crate::conversions::*;
+use crate::entries::*;
+use crate::removed::*;
 use crate::searches::*;
 use crate::volumes::*;
 use std::alloc::Global;
@@ -112,6 +115,48 @@ fn images_that_are_no_volumes_are_not_compared(rt: HostRuntime) {
     let (mut bytes, mut needed) = ([7; 3], 0);
     let code = pmach_compare(alloc, b"short", &image, &mut bytes, &mut needed);
     assert_eq!(rt; (code, needed, bytes), (7, 16, [7; 3]));
+}
+
+#[test]
+fn entries_are_listed(rt: HostRuntime) {
+    let alloc = rt.alloc();
+    let image = with_a(&rt, alloc);
+    answer!(&rt, alloc, pmach_entries, &image, false).says(
+        &rt,
+        0,
+        "1\tA\tdata\t6\t1\t3\t3\t000-00-00\n",
+    );
+    answer!(&rt, alloc, pmach_entries, &image, true).lists(
+        &rt,
+        &[
+            "{\"volume\": \"OWN\", \"blocks\": 40, \"free\": 33, \"largest\": 33, \"files\": [",
+            "{\"slot\": 1, \"name\": \"A\", \"kind\": \"data\", \"first\": 6, \"blocks\": 1, \"lastBytes\": 3, \"bytes\": 3, \"year\": 0, \"month\": 0, \"day\": 0}",
+            "]}",
+        ],
+    );
+    answer!(&rt, alloc, pmach_entries, &blank(&rt, alloc), false).says(&rt, 0, "");
+    answer!(&rt, alloc, pmach_entries, b"short", true).says(&rt, 2, "refused volume 1");
+    let (mut bytes, mut needed) = ([7; 3], 0);
+    let code = pmach_entries(alloc, &image, false, &mut bytes, &mut needed);
+    assert_eq!(rt; (code, needed, bytes), (7, 27, [7; 3]));
+}
+
+#[test]
+fn removed_files_are_found(rt: HostRuntime) {
+    let alloc = rt.alloc();
+    let image = with_text(&rt, alloc);
+    answer!(&rt, alloc, pmach_undelete, &image).says(&rt, 0, "");
+    let text = answer!(&rt, alloc, pmach_get, &image, b"T").bytes;
+    assert_eq!(rt; text.len(), 2048);
+    let image = answer!(&rt, alloc, pmach_remove, &image, b"T").bytes;
+    answer!(&rt, alloc, pmach_undelete, &image).says(&rt, 0, "block 7 blocks 4 text\n");
+    let blocks = answer!(&rt, alloc, pmach_undelete_blocks, &image, 7, 4);
+    assert_eq!(rt; (blocks.status, blocks.bytes == text), (0, true));
+    answer!(&rt, alloc, pmach_undelete_blocks, &image, 6, 1).says(&rt, 2, "refused undelete 1");
+    answer!(&rt, alloc, pmach_undelete_blocks, &image, 7, 0).says(&rt, 2, "refused undelete 1");
+    answer!(&rt, alloc, pmach_undelete_blocks, &image, 39, 2).says(&rt, 2, "refused undelete 1");
+    answer!(&rt, alloc, pmach_undelete_blocks, b"short", 7, 4).says(&rt, 2, "refused volume 1");
+    answer!(&rt, alloc, pmach_undelete, b"short").says(&rt, 2, "refused volume 1");
 }
 
 #[test]

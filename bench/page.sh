@@ -7,12 +7,12 @@
 #   file       its size, its parts, the checksums of its Content-Security-Policy, nothing that leads to a network
 #   numbers    each number of its JavaScript has a reason (page/numbers.txt)
 #   looks      what a person does with it, in node, in a small document without layout (page/looks.js, page/dom.mjs); what it
-#              saves in other formats, a program with the system segment, and the lines of salvage are those of the native
-#              program (page/disks_of_page.py)
+#              saves in other formats, a program with the system segment, the lines of salvage, the hits of searches, and
+#              comparisons are those of the native program (page/disks_of_page.py)
 #   cases      the cases of docs/CASES.md, or each Nth of them: by its WebAssembly, in place of the native program
 #              (page/server.mjs, page/cases.py); all of examples/conformance/bare.txt (page/client.c); GENERATED generated
 #              command lines (2,000), by its WebAssembly and by the native program (page/generated.py); and conversions of
-#              images and salvage, by both (page/conversions.mjs)
+#              images, salvage, searches and comparisons, by both (page/conversions.mjs)
 #   browsers   in Chromium, Firefox and WebKitGTK, if they are installed: the looks, all cases of bare.cases in the page itself,
 #              and its limits (page/limits.js): 32 MiB, a trap, memory that ends, many steps. In Chromium also keys, downloads,
 #              images in other formats, widths, contrast, one file by examples/site, and the typed programs of examples/system

@@ -1,5 +1,6 @@
 // Compares the library of a page with the native program, for images in each format and damaged ones: the lines of `convert`,
-// `convert`, `convert --back`, `salvage` and its report. node conversions.mjs PAGE MORE.JSON (of disks_of_page.py) NATIVE
+// `convert`, `convert --back`, `salvage` and its report, `find`, `grep`, `info`, `files diff` and the format of `--form auto`.
+// node conversions.mjs PAGE MORE.JSON (of disks_of_page.py) NATIVE
 import {spawnSync} from "child_process";
 import fs from "fs";
 import os from "os";
@@ -27,6 +28,16 @@ function compare(what, {status, bytes}, words, made) {
   console.log("differs:", what, words.join(" "), status, native.status, message.toString("latin1"));
 }
 
+// Compares the lines of a search or a comparison. The program has status 7 where the library has 18 or 19.
+function compareLines(what, {status, bytes}, words) {
+  const native = spawnSync(NATIVE, words, {cwd: folder, maxBuffer: 1 << 28}), isMessage = native.stdout.length === 0;
+  const wanted = isMessage ? Buffer.from(native.stderr.toString("latin1").split("\n")[0], "latin1") : native.stdout;
+  count++;
+  if ((status === 18 || status === 19 ? 7 : status) === native.status && Buffer.compare(wanted, bytes) === 0) return;
+  differ++;
+  console.log("differs:", what, words.join(" "), status, native.status, wanted.toString("latin1").slice(0, 200));
+}
+
 const orders = ["blocks", "dos", "swapped", "big"], formats = ["", "2mg-", "dc42-"].flatMap(head => orders.map(order => head + order));
 const images = [...more.formats.map(({name, image}) => [name, unpack(image)]), ["both", unpack(more.both.image)], ["damaged", unpack(more.damaged.image)], ["empty", new Uint8Array(0)],
   ["zeros", new Uint8Array(143360)]];
@@ -38,8 +49,23 @@ for (const [name, data] of [...images]) {
     images.push([name + ".changed" + k, other]);
   }
 }
+for (const {name, image} of more.searches.images) images.push([name, unpack(image)]);
+let before = images[0][1];
 for (const [name, data] of images) {
   write("OLD", data);
+  write("OTHER", before);
+  const path = toBytes("OLD"), form = Buffer.from(library.ask("form", data).bytes).toString("latin1");
+  compareLines(name, library.ask("info", path, data), ["info", "OLD"]);
+  for (const pattern of ["=", "=.text", "n=", "none"]) compareLines(name, library.ask("find", path, data, toBytes(pattern)), ["find", pattern, "OLD"]);
+  for (const words of ["", "e", "two"]) compareLines(name, library.ask("grep", path, data, toBytes(words)), ["grep", words, "OLD"]);
+  compareLines(name, library.ask("compare", data, before), ["files", "--image", "OLD", "diff", "OTHER"]);
+  const found = form === "blocks" ? {status: 0, bytes: data} : library.ask("convert", data, toBytes(form), toBytes("blocks"));
+  if (form.startsWith("refused")) compareLines(name, library.ask("form", data), ["files", "--form", "auto", "--image", "OLD", "check"]);
+  else if (found.status === 0) {
+    const checked = library.ask("check", found.bytes), lines = Buffer.from(checked.bytes).toString("latin1").replace(/refused volume [^\n]*$/, "");
+    compareLines(name + " " + form, {status: checked.status, bytes: Buffer.from(lines, "latin1")}, ["files", "--form", "auto", "--image", "OLD", "check"]);
+  }
+  before = data;
   const listed = library.ask("formats", data), native = spawnSync(NATIVE, ["convert", "OLD"], {cwd: folder});
   count++;
   if (listed.status !== 0 || Buffer.compare(native.stdout, listed.bytes) !== 0) {
@@ -64,5 +90,5 @@ for (const [name, data] of images) {
   }
 }
 fs.rmSync(folder, {recursive: true});
-console.log("%d images, %d jobs on formats and salvage, %d differ", images.length, count, differ);
+console.log("%d images, %d jobs on formats, salvage, searches and comparisons, %d differ", images.length, count, differ);
 process.exit(differ ? 1 : 0);

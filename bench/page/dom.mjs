@@ -49,7 +49,7 @@ class Element {
   getBoundingClientRect() { return {left: 0, bottom: 0}; }
   get all() { return this.children.flatMap(child => [child, ...child.all]); }
   matches(selector) {
-    const [, id, tag, name, attribute, value] = /^(?:#([\w-]+)|([a-z]+)?(?:\.([\w-]+))?(?:\[([\w-]+)='?([^'\]]*)'?\])?)$/.exec(selector);
+    const [, id, tag, name, attribute, value] = /^(?:#([\w-]+)|([a-z][a-z0-9]*)?(?:\.([\w-]+))?(?:\[([\w-]+)='?([^'\]]*)'?\])?)$/.exec(selector);
     return (id === undefined || this.getAttribute("id") === id) && (tag === undefined || this.tag === tag) &&
       (name === undefined || this.classList.contains(name)) && (attribute === undefined || this.getAttribute(attribute) === value);
   }

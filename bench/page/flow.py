@@ -68,7 +68,7 @@ try:
     browser.open(PAGE)
     browser.files("#image", "kept.img")
     browser.wait("document.querySelectorAll('#files button').length === 3")
-    check("a chosen file is opened", browser.text("total"), "files 3 free 24 largest 24")
+    check("a chosen file is opened", browser.text("total"), lambda text: text.startswith("3 files. Free: 24 blocks"))
     # with keys only: Tab to the first file, Enter, then Debug, a breakpoint, Go
     browser.js("document.querySelector('#files button').focus(); 0")
     browser.press("Enter")
@@ -138,9 +138,11 @@ try:
         browser.js("$('save').click(); 0")
         with open(name + ".new", "rb") as file:
             check(name + ": Save gives the native program's bytes", downloaded(name) == file.read(), True)
-        browser.js("$('blocks').click(); 0")
+        browser.js("$('convert').click(); 0")
+        browser.wait("$('dialog').open")
+        browser.js("$('accept').click(); 0")
         with open(name + ".work", "rb") as file:
-            check(name + ": Save as blocks too", downloaded("shoe.img") == file.read(), True)
+            check(name + ": Convert to blocks too", downloaded("shoe.img") == file.read(), True)
     browser.js("drives.clear(); makeSample(); 0")
     # a dropped file
     browser.js("""(() => { const data = new DataTransfer(); data.items.add(new File([new Uint8Array(600)], "dropped.bin"));
@@ -150,9 +152,15 @@ try:
     browser.js("$('dismiss').click(); [...document.querySelectorAll('#files button')].find(b => b.textContent === 'HANOI').click(); $('debug').click(); 0")
     browser.js("library.line('break 1 3 0'); $('go').click(); 0")
     browser.wait("running === null")
-    for part in ("memory", "traced", "flame", "answers", "map", "words"):
+    for part in ("memory", "traced", "flame", "answers", "map"):
         browser.js("$('%s').closest('details').open = true; 0" % part)
-    browser.js("trace(10); command('help'); search('e'); scrollTo(0, 0); 0")
+    browser.js("trace(10); command('help'); 0")
+    # with everything that can be shown at once: a damaged image, a list, a search, a comparison
+    browser.js("""(async () => { const image = name => ({name, arrayBuffer: async () => disk.data.slice().buffer}), junk = new Uint8Array(700);
+        await openBox([image("one.img"), image("other.img"), {name: "junk.bin", arrayBuffer: async () => junk.buffer}]);
+        $("in-code").checked = true; await search("e"); await compare(disk, box[0]); refuse(junk, "junk.bin"); scrollTo(0, 0); })()""")
+    browser.wait("!$('comparison').hidden")
+    check("everything is shown", browser.js("['refusal', 'box', 'results', 'comparison', 'disk', 'file', 'program'].filter(id => !$(id).checkVisibility())"), [])
     nodes = browser.do("Accessibility.getFullAXTree")["nodes"]
     roles = ("button", "textbox", "combobox", "spinbutton", "checkbox", "searchbox", "link", "region", "log")
     check("each control has a name for a screen reader", [node["role"]["value"] + str(node.get("properties"))[:200] for node in nodes
@@ -165,6 +173,18 @@ try:
             browser.shot("%s/%d-%s.png" % (SHOTS, width, scheme))
             check("contrast at %d pixels, %s" % (width, scheme), browser.js(CONTRAST), [])
         check("no part is wider than %d pixels" % width, browser.js("document.documentElement.scrollWidth"), lambda wide, width=width: wide <= width)
+    # with keys only: a search, and its first hit
+    browser.js("closeProgram(); for (const id of ['dismiss', 'unbox', 'uncompare', 'unsearch']) $(id).click(); $('words').value = ''; 0")
+    check("Close the results moves the focus to the words", browser.js("document.activeElement.id"), "words")
+    browser.type("hanoi\r")
+    browser.wait("document.querySelectorAll('#hits button').length > 0 && !$('results').hidden")
+    for _ in range(10):
+        browser.press("Tab")
+        if browser.js("document.activeElement.closest('#hits') !== null && document.activeElement.tagName === 'BUTTON'"):
+            break
+    browser.press("Enter")
+    browser.wait("document.activeElement.id === 'file-title'")
+    check("Enter opens the first hit", browser.text("file-title"), "HANOI")
     # one file with a disk inside, and a hostile name of its image
     site, hostile, environment = os.path.join(HERE, "../../examples/site/site.sh"), "<img src=x>&\"'\n.img", dict(os.environ, PMACH=PMACH, PMACH_PAGE=os.path.abspath(PAGE))
     with open("kept.img", "rb") as old, open(hostile, "wb") as new:

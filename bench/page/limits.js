@@ -9,7 +9,7 @@ async function limits(given) {
   const check = (name, isRight, shown) => results.push([name, Boolean(isRight), String(shown).slice(0, 300)]);
   const status = () => $("status").textContent, ended = async () => { while (running !== null) await pause(5); };
   const choose = name => [...document.querySelectorAll("#files button")].find(button => button.textContent === name).click();
-  const clear = () => { closeProgram(); drives.clear(); disk = shown = refused = null; layout(); };
+  const clear = () => { closeProgram(); drives.clear(); disk = shown = refused = null; box = []; layout(); };
   const timed = does => { const begun = performance.now(); does(); return performance.now() - begun; };
 
   // opening: a disk of 140 KB, and one of 32 MiB, the largest volume
@@ -28,8 +28,18 @@ async function limits(given) {
   const text6 = library.ask("put", large.bytes, bytes("HANOI"), 2, library.ask("get", kept, bytes("HANOI")).bytes);
   const data = Uint8Array.from({length: 6000000}, (_, k) => k % 251), put = library.ask("put", text6.bytes, bytes("DATA"), 5, data);
   check("with a file of 6,000,000 bytes", put.status === 0, put.status);
-  const time = timed(() => openImage(put.bytes, "large.img"));
-  check("opens", disk?.name === "large.img" && document.querySelectorAll("#files tr").length === 2, time.toFixed(1) + " ms");
+  const many = library.ask("put_text", put.bytes, bytes("MANY.TEXT"), bytes("a line\n".repeat(20000) + "the last line\n"));
+  const time = timed(() => openImage(many.bytes, "large.img"));
+  check("opens", disk?.name === "large.img" && document.querySelectorAll("#files tr").length === 3, time.toFixed(1) + " ms");
+  const start = performance.now();
+  await search("LAST line");
+  check("is searched", $("found").textContent.startsWith("1 line on 1 disk"), $("found").textContent + ", " + (performance.now() - start).toFixed(0) + " ms");
+  document.querySelectorAll("#hits button")[0].click();
+  check("and its line is shown", document.querySelectorAll("#lines .found")[0].textContent === "the last line", $("lines").children.length);
+  await compare(disk, disk);
+  check("and compared", $("differences").textContent === "All 3 files are the same", $("differences").textContent);
+  $("unsearch").click();
+  $("uncompare").click();
   choose("DATA");
   check("its bytes are shown", $("lines").children[0].textContent.startsWith("000000  00 01 02"), $("lines").children[0].textContent);
   choose("HANOI");
@@ -37,7 +47,7 @@ async function limits(given) {
   await ended();
   check("its program runs", $("state").textContent === "The program has ended. Steps: 402", $("state").textContent);
   $("close").click();
-  check("and leaves it as it was", disk.data === put.bytes && !disk.changed, disk.changed);
+  check("and leaves it as it was", disk.data === many.bytes && !disk.changed, disk.changed);
   openImage(new Uint8Array(33554432), "zeros.img");
   check("32 MiB of zeros are refused", $("refusal-title").textContent === "zeros.img is not opened" && disk.name === "large.img", $("faults").textContent);
   clear();

@@ -21,13 +21,14 @@ async function looks(given) {
   const send = line => { $("line").value = line; command(line); };
 
   check("the page is ready", shows("status"), "Ready");
-  check("at first only the welcome is shown", ["welcome", "refusal", "box", "disk", "file", "program"].map(id => $(id).hidden), [false, true, true, true, true, true]);
+  check("at first only the welcome is shown", ["welcome", "refusal", "box", "results", "comparison", "disk", "file", "program", "search"].map(id => $(id).hidden),
+    [false, true, true, true, true, true, true, true, true]);
 
   // a disk and a text
   openImage(kept, "kept.img");
   check("a disk is listed", names(), ["HANOI", "LOADS", "READ.ME.TEXT"]);
   check("with its columns", document.querySelectorAll("#files tr")[0].textContent, "HANOIcode62512084-12-01");
-  check("its name and its total", shows("disk-title") + " " + shows("total"), "KEPT (kept.img) files 3 free 24 largest 24");
+  check("its name and its total", shows("disk-title") + " " + shows("total"), "KEPT (kept.img) 3 files. Free: 24 blocks (12 KB), the largest free area has 24");
   choose("READ.ME.TEXT");
   check("a text is shown", [...$("lines").children].map(line => line.textContent),
     ["HANOI moves a tower of three disks.", "LOADS loads one segment where another stood."]);
@@ -53,7 +54,7 @@ async function looks(given) {
   await ended();
   check("which stops the run", shows("state"), text => text.endsWith(". Steps: 52") && text.startsWith(library.sentence(15)));
   check("at this line", here(), ["00060 local1 := string[5] '?>? '"]);
-  check("the frames", shows("frames"), text => text.startsWith("1 3 0 LLA 1\n65286 1 2 18\n"));
+  check("the call stack", [...$("frames").children].map(one => one.textContent).slice(0, 3), ["1.3 at 0, frame 65286", "1.2 at 18, frame 65304", "1.2 at 16, frame 65322"]);
   press("one");
   check("an instruction adds a line to the trace", shows("traced"), text => /^00000052 .* LLA 1\n$/.test(text));
   press("finish");
@@ -127,7 +128,7 @@ async function looks(given) {
   answer("ZEROS", "5");
   check("data is added", library.ask("get", disk.data, bytes("ZEROS")).bytes.length, 700);
   press("krunch");
-  check("the files are moved together", shows("total"), text => /free (\d+) largest \1$/.test(text));
+  check("the files are moved together", shows("total"), text => /Free: (\d+) blocks .* area has \1$/.test(text));
   press("save");
   check("Save ends the changes", [disk.changed, shows("status")], [false, "kept.img"]);
 
@@ -183,7 +184,7 @@ async function looks(given) {
   // disks that the page makes; typed keys
   makeDisk();
   answer("MINE", "280");
-  check("a new disk", [names(), shows("total")], [[], "files 0 free 274 largest 274"]);
+  check("a new disk", [names(), shows("total")], [[], "0 files. Free: 274 blocks (137 KB), the largest free area has 274"]);
   press("sample");
   answer();
   check("the sample disk", [names(), disk.changed], [["HANOI", "PRIMES", "ECHO"], false]);
@@ -231,6 +232,8 @@ async function looks(given) {
   press("close");
   await otherLooks(given, {check, shows, press, names, choose, line, view, ended, answer, opened});
   await formatLooks(given.more, {check, shows, press, names, choose, ended, answer, opened});
+  await boxLooks(given, {check, shows, press, names, choose, view, ended, answer});
+  await stepLooks(given, {check, shows, press, choose, view, ended, opened});
   return results;
 }
 
@@ -241,6 +244,7 @@ async function otherLooks(given, {check, shows, press, names, choose, line, view
   const found = () => inside($("lines"), "found").map(line => line.textContent);
   const fileOf = (name, data) => ({name, arrayBuffer: async () => data.slice().buffer});
   const discard = () => { for (const one of drives.values()) one.changed = false; };
+  const hits = () => [...document.querySelectorAll("#hits li")].map(hit => hit.textContent);
   discard();
 
   // code as links, and values
@@ -316,17 +320,18 @@ async function otherLooks(given, {check, shows, press, names, choose, line, view
   check("whose files can be chosen", shows("file-title"), "READ.ME.TEXT");
   view("Bytes").click();
   check("bytes of a text", lines().length, 128);
-  search("ONE segment");
-  check("a search in texts", [shows("found"), [...$("hits").children].map(hit => hit.textContent)], ["1 line", ["READ.ME.TEXT 2 LOADS loads one segment where another stood."]]);
+  await search("ONE segment");
+  check("a search in texts", [shows("found"), hits()], ["1 line on 1 disk. Programs were not searched", ["READ.ME.TEXT 2 LOADS loads one segment where another stood."]]);
   document.querySelectorAll("#hits button")[0].click();
   check("whose line is shown", found(), ["LOADS loads one segment where another stood."]);
-  search("unitwrite");
-  check("not in code", shows("found"), "Nothing was found");
+  await search("unitwrite");
+  check("not in code", shows("found"), "Nothing was found on 1 disk. Programs were not searched");
   $("in-code").checked = true;
-  search("unitwrite");
-  check("also in code", [...$("hits").children].map(hit => hit.textContent.slice(0, 26)), ["HANOI 19 00088 UNITWRITE(1"]);
+  await search("unitwrite");
+  check("also in code", hits().map(hit => hit.slice(0, 26)), ["HANOI 19 00088 UNITWRITE(1"]);
   $("in-code").checked = false;
-  check("a long search is cut", (search("e"), [...$("hits").children].length > 0), true);
+  press("unsearch");
+  check("the results are closed", [$("results").hidden, $("search").hidden], [true, false]);
 
   // the screen
   const shown = (...written) => {
@@ -402,8 +407,8 @@ async function otherLooks(given, {check, shows, press, names, choose, line, view
   put(1030, "<i>&");
   await openBox([fileOf("kept.img", kept), fileOf("bad<b>.img", bad), fileOf("KEPT.IMG", hostile), {name: "gone", arrayBuffer: async () => { throw new Error("not readable"); }}]);
   check("many images are listed", [...$("boxed").children].map(row => [...row.children].slice(0, 6).map(cell => cell.textContent).join("; ")),
-    ["kept.img; blocks; KEPT; 20480; 3; good", "bad<b>.img; ; ; 20480; ; refused volume 4 1: an entry of the directory is damagedslot 1 name has 0 characters, not 1 to 15\nfaults 1\nrefused volume 4 1",
-      "KEPT.IMG; blocks; <i>&; 20480; 3; good"]);
+    ["kept.img; blocks; KEPT; 3; 24; good", "bad<b>.img; ; ; ; ; refused volume 4 1: an entry of the directory is damagedslot 1 name has 0 characters, not 1 to 15\nfaults 1\nrefused volume 4 1",
+      "KEPT.IMG; blocks; <i>&; 3; 24; good"]);
   check("the open disk stays", disk.name, "own.img");
   check("their names make no element", document.querySelectorAll("#boxed b, #boxed i, #boxed img").length, 0);
   let zip = null;
@@ -460,16 +465,17 @@ async function formatLooks(more, {check, shows, press, names, choose, ended, ans
     check(name + ": a text is added", [names(), disk.changed], [["GUESS", "NOTE.TEXT"], true]);
     press("save");
     check(name + ": Save gives the bytes of the native program", [saved[0], isEqual(saved[1], await unpack(wanted)), disk.changed], [name, true, false]);
-    press("blocks");
-    check(name + ": Save as blocks", [saved[0], isEqual(saved[1], await unpack(blocks))], [name.replace(/[.].*/, ".img"), true]);
+    press("convert");
+    answer("blocks");
+    check(name + ": Convert to blocks", [saved[0], isEqual(saved[1], await unpack(blocks))], [name.replace(/[.].*/, ".img"), true]);
     check(name + ": the bytes that were opened are unchanged", isEqual(data, untouched), true);
   }
   discard();
   openImage(await unpack(more.guess.image), "small.img");
-  check("blocks in order", [shows("format"), $("blocks").hidden], ["Format: blocks", true]);
+  check("blocks in order", shows("format"), "Format: blocks");
   press("make");
   answer("MINE", "280");
-  check("a new disk has blocks in order", [shows("format"), $("blocks").hidden], ["Format: blocks", true]);
+  check("a new disk has blocks in order", shows("format"), "Format: blocks");
 
   // two formats: the page asks
   discard();
@@ -493,7 +499,7 @@ async function formatLooks(more, {check, shows, press, names, choose, ended, ans
   const {image: dsk} = more.formats[0], {image: mac} = more.formats.find(({format}) => format.startsWith("dc42"));
   await openBox([fileOf("a.dsk", await unpack(dsk)), fileOf("b.dc42", await unpack(mac)), fileOf("both.dsk", both), fileOf("junk", bytes("abc"))]);
   check("a list of images has their formats", [...$("boxed").children].map(row => [...row.children].slice(0, 5).map(cell => cell.textContent).join("; ")),
-    ["a.dsk; dos; SHOE; 143360; 1", "b.dc42; dc42-blocks; SHOE; " + (await unpack(mac)).length + "; 1", "both.dsk; " + choices.join(", ") + "; ; 143360; ", "junk; ; ; 3; "]);
+    ["a.dsk; dos; SHOE; 1; " + more.free[0], "b.dc42; dc42-blocks; SHOE; 1; " + more.free[1], "both.dsk; " + choices.join(", ") + "; ; ; ", "junk; ; ; ; "]);
   check("and says which are clear", [...$("boxed").children].map(row => row.children[5].textContent).slice(0, 3),
     ["good", "good", "several formats; Open asks for one" + more.both.lines.join("\n")]);
   let zip = null;
@@ -505,6 +511,7 @@ async function formatLooks(more, {check, shows, press, names, choose, ended, ans
   check("with the same bytes", isEqual(zip[0].data, zip[1].data), true);
   [...$("boxed").children[1].children[6].children][0].click();
   await new Promise(next => setTimeout(next, 100));
+  check("what is no volume can be recovered", [...$("boxed").children].map(row => row.children[6].children[0].textContent), ["Open", "Open", "Open", "Recover"]);
   check("such an image is opened from the list", [disk.name, disk.format], ["b.dc42", "dc42-blocks"]);
   press("unbox");
 
@@ -572,10 +579,233 @@ async function formatLooks(more, {check, shows, press, names, choose, ended, ans
   press("salvage");
   check("salvage has the lines of the native program", [shows("report"), $("report-part").hidden], [more.damaged.report, false]);
   check("and its volume", [isEqual(disk.data, await unpack(more.damaged.volume)), shows("format")], [true, "Format: blocks"]);
+  // damaged disks in other formats: pmach_form finds the format, and Save gives the bytes of `salvage` with this format
+  for (const {name, format, image, faults, report, saved: wanted} of more.others) {
+    discard();
+    openImage(await unpack(image), name);
+    check(name + " is read as " + format, [shows("refusal-title"), $("read-as").value, shows("faults")], [name + " is not opened", format, faults]);
+    $("read-as").value = "blocks";
+    readAs("blocks");
+    check(name + ": as blocks it has other faults", shows("faults") !== faults, true);
+    readAs(format);
+    press("salvage");
+    check(name + ": salvage has the lines of the native program", [shows("report"), shows("format"), disk.changed], [report, "Format: " + format + ". Save the image keeps this format.", true]);
+    press("save");
+    check(name + ": and Save its image", [saved[0], isEqual(saved[1], await unpack(wanted))], [name, true]);
+  }
+  for (const {name, image, saved: wanted} of more.repaired) {
+    discard();
+    openImage(await unpack(image), name);
+    press("repair");
+    check(name + " is repaired", [names(), disk.changed], [["NOTE.TEXT"], true]);
+    press("save");
+    check(name + ": as the native program does", [saved[0], isEqual(saved[1], await unpack(wanted))], [name, true]);
+  }
+  // a disk with blocks in order, saved in each format
+  discard();
+  openImage(await unpack(more.plain.image), "plain.img");
+  for (const [format, {name, image}] of Object.entries(more.plain.saved)) {
+    press("convert");
+    answer(format);
+    check("saved as " + format, [saved[0], isEqual(saved[1], await unpack(image)), disk.format], [name, true, "blocks"]);
+  }
+  openImage(await unpack(more.guess.image), "small.img");
+  press("convert");
+  answer("dos");
+  check("a format that does not fit is refused", shows("status"), words => words.startsWith("refused convert 4: "));
   discard();
   openImage(both.slice(), "both.dsk");
   answer(choices[0]);
   check("another disk has no such lines", $("report-part").hidden, true);
   download = download_;
   discard();
+}
+
+// The fourth part: searches on all disks, comparisons, several images in one .zip. The lines of `find`, `grep` and `diff` of the
+// native program are in given.more.searches.
+async function boxLooks(given, {check, shows, press, names, choose, view, ended, answer}) {
+  const unpack = async packed => new Uint8Array(await new Response(new Blob([Uint8Array.from(atob(packed), one => one.charCodeAt(0))])
+    .stream().pipeThrough(new DecompressionStream("gzip"))).arrayBuffer());
+  const settled = async until => { for (let k = 0; k < 200 && !until(); k++) await new Promise(next => setTimeout(next, 5)); };
+  const fileOf = (name, data) => ({name, arrayBuffer: async () => data.slice().buffer});
+  const {searches} = given.more, images = [];
+  for (const {name, image} of searches.images) images.push([name, await unpack(image)]);
+  const list = tag => [...document.querySelectorAll(tag)].map(one => one.textContent), hit = words => [...document.querySelectorAll("#hits button")].find(one => one.textContent === words);
+  for (const one of drives.values()) one.changed = false;
+  drives.clear();
+  openImage(...[...images[0]].reverse());
+  openImage(...[...images[1]].reverse(), 5);
+  await openBox(images.map(([name, data]) => fileOf(name, data)));
+  check("the list has what `info` prints", [...$("boxed").children].map(row => [...row.children].slice(0, 5).map(cell => cell.textContent).join("|")), searches.info);
+  if (drives.get(5)) showDisk(4);
+  press("unbox");
+  await openBox(images.slice(2).map(([name, data]) => fileOf(name, data)));
+
+  // each hit is one of the native program; upper and lower case
+  $("exact").checked = true;
+  for (const {words, lines, found} of searches.grep) {
+    await search(words);
+    check("search for " + words, [list("#hits li").filter(one => / \d/.test(one)), shows("found").includes(found)], [lines, true]);
+  }
+  $("exact").checked = false;
+  await search("BLACK");
+  check("upper and lower case", [shows("found").split(". ")[0], list("#hits h3")], ["3 lines on 3 disks", ["a.img (unit 4)", "b.img (unit 5)", "c.dsk"]]);
+  check("an image that is no volume", shows("found").includes("Not searched: junk.bin: no volume"), true);
+  check("the words are marked", list("#hits mark"), ["Black", "Black", "black"]);
+  hit("CATS.TEXT 2").click();
+  check("a hit on a unit", [disk.name, shows("file-title"), list("#lines .found")], ["a.img", "CATS.TEXT", ["Black cats are quick."]]);
+  hit("MICE.TEXT 3").click();
+  await settled(() => disk.name === "c.dsk" && shown !== null);
+  check("a hit in the list opens its disk", [disk.name, disk.unit, shows("file-title"), list("#lines .found")], ["c.dsk", 4, "MICE.TEXT", ["A black mouse."]]);
+  await search("text");
+  check("names are searched", list("#hits button"), ["MICE.TEXT", "CATS.TEXT", "SAME.TEXT", "DOGS.TEXT"]);
+  await search("=.TEXT");
+  check("with a pattern", [list("#hits button"), shows("found").split(" on ")[0]], [["MICE.TEXT", "CATS.TEXT", "SAME.TEXT", "DOGS.TEXT"], "4 files"]);
+  await search("nowhere");
+  check("nothing", shows("found").startsWith("Nothing was found on 2 disks"), true);
+  // (two files of one name, of which the second has the line)
+  const twice = images[0][1].slice();
+  twice.set(bytes("\tCATS.TEXT"), 1082);
+  check("a disk with one name twice", ["Dogs", "cats", "cats.text"].map(words => hitsIn(twice, twice, words, false, false).hits.map(({file, number}) => [file.slot, number ?? 0])),
+    [[[2, 1]], [[1, 0], [2, 0], [1, 1], [1, 2]], [[1, 0], [2, 0]]]);
+  press("unsearch");
+
+  // comparisons
+  openImage(...[...images[0]].reverse(), 4);
+  openImage(...[...images[1]].reverse(), 5);
+  showDisk(4);
+  press("compare");
+  check("Compare asks for two disks", [$("dialog").open, list("#fields option").slice(0, 2)], [true, ["a.img (unit 4)", "b.img (unit 5)"]]);
+  answer("0", "1");
+  await settled(() => !$("comparison").hidden);
+  const pairs = () => [...$("pairs").children].map(row => [...row.children].map(cell => cell.textContent).join("|"));
+  check("a comparison", pairs(), searches.diff);
+  check("its heading", [shows("comparison-title"), shows("differences")], ["a.img (unit 4) (here) and b.img (unit 5) (there)", "2 differ, 1 same, 1 only here, 1 only there"]);
+  [...$("pairs").children].find(row => row.textContent.startsWith("CATS.TEXT")).querySelectorAll("button")[0].click();
+  check("a difference leads to its byte", [disk.unit, shows("file-title"), list("#lines .found").map(line => line.slice(0, 6))], [4, "CATS.TEXT", [searches.row]]);
+  [...$("pairs").children].find(row => row.textContent.startsWith("CATS.TEXT")).querySelectorAll("button")[1].click();
+  check("also on the other disk", [disk.unit, shows("file-title"), view("Bytes").getAttribute("aria-pressed")], [5, "CATS.TEXT", "true"]);
+  [...$("pairs").children].find(row => row.textContent.startsWith("DOGS.TEXT")).querySelectorAll("button")[0].click();
+  check("a file that is only there", [disk.unit, shows("file-title")], [5, "DOGS.TEXT"]);
+  await compare(drives.get(4), {name: "again.img", file: fileOf("again.img", images[0][1])});
+  await settled(() => shows("comparison-title").includes("again"));
+  check("a disk and itself", shows("differences"), "All 4 files are the same");
+  await compare(drives.get(4), {name: "junk.bin", file: fileOf("junk.bin", new Uint8Array(700))});
+  check("what is no volume is not compared", shows("status"), words => words.startsWith("a.img and junk.bin are not compared: refused volume 1"));
+  press("uncompare");
+  check("the comparison is closed", $("comparison").hidden, true);
+  const [open, list_] = [new Map(drives), box];
+  drives.clear();
+  box = [];
+  askDisks();
+  check("without a disk there is nothing to compare", [$("dialog").open, shows("status")], [false, "There is no disk to compare"]);
+  for (const [unit, one] of open) drives.set(unit, one);
+  box = list_;
+
+  // several images in one .zip
+  let zip = null;
+  const saveFiles_ = saveFiles;
+  saveFiles = (files, name) => { zip = [name, files]; return true; };
+  drives.get(5).changed = true;
+  press("save-all");
+  saveFiles = saveFiles_;
+  check("all images in one .zip", [zip[0], zip[1].map(({path, data}) => path + " " + data.length), drives.get(5).changed], ["images.zip", ["a.img " + images[0][1].length, "b.img " + images[1][1].length], false]);
+  showDisk(5);
+  press("eject");
+  check("with one disk there is no such button", $("save-all").hidden, true);
+}
+
+// The fifth part: steps that wait for a key, the call stack and the procedures as links, a long program, the printer.
+async function stepLooks(given, {check, shows, press, choose, view, ended, opened}) {
+  const list = tag => [...document.querySelectorAll(tag)].map(one => one.textContent), kept = Uint8Array.from(given.kept);
+  const begin = async (name, source) => {
+    closeProgram();
+    for (const one of drives.values()) one.changed = false;
+    const code = library.ask("assemble", bytes(source), 0);
+    check(name + " is assembled", code.status, 0);
+    opened(library.ask("put", kept, bytes(name), 2, code.bytes).bytes, name + ".img");
+    choose(name);
+    press("debug");
+  };
+  const where = () => library.line("where").split(" ").slice(0, 3).join(" "), waits = () => $("console").classList.contains("waits");
+  const read = "SLDC 1\nLLA 1\nSLDC 0\nSLDC 1\nSLDC 0\nSLDC 0\nCSP 5\n"; // one byte of the console, to variable 1
+  await begin("KEYS", ".SEG 1 KEYS\n.PROC 1 0 0 2\nCGP 2\nSLDC 7\nSRO 1\n.EXIT\nRBP 0\nNOP\n.END\n.PROC 2 1 0 2\nCGP 3\n" + read +
+    "SLDC 9\nSTL 1\n.EXIT\nRNP 0\n.END\n.PROC 3 1 0 2\n" + read + read + ".EXIT\nRNP 0\n.END\n");
+  check("where it begins", where(), "1 1 0");
+  press("step");
+  await ended();
+  check("a step waits in a called procedure", [waits(), where().slice(0, 4)], [true, "1 3 "]);
+  key(65);
+  await ended();
+  check("with one key it waits again", [waits(), where().slice(0, 4)], [true, "1 3 "]);
+  key(66);
+  await ended();
+  check("then in its caller", [waits(), where().slice(0, 4)], [true, "1 2 "]);
+  key(67);
+  await ended();
+  check("and ends after the call", [waits(), where()], [false, "1 1 2"]);
+  press("again");
+  library.line("break 1 3 0");
+  press("go");
+  await ended();
+  library.line("clear 1 3 0");
+  check("the call stack", list("#frames button").map(one => one.split(" ").slice(0, 1)[0]), ["1.3", "1.2", "1.1"]);
+  document.querySelectorAll("#frames button")[2].click();
+  check("leads to the line after the call", list("#lines .found").length, 1);
+  library.line("until 1 2 2 0");
+  press("finish");
+  await ended();
+  check("a finish waits", waits(), true);
+  key(65);
+  key(66);
+  await ended();
+  check("and ends in the caller", where(), "1 2 2");
+  press("finish");
+  await ended();
+  check("another one waits in its own procedure", [waits(), where().slice(0, 4)], [true, "1 2 "]);
+  key(67);
+  await ended();
+  check("and ends in its caller", where(), "1 1 2");
+  press("again");
+  library.line("break 1 2 0");
+  press("go");
+  await ended();
+  press("finish");
+  await ended();
+  check("a finish that waits in a called procedure", [waits(), where().slice(0, 4)], [true, "1 3 "]);
+  for (const byte of [65, 66, 67]) { key(byte); await ended(); }
+  check("ends in the caller of its own", where(), "1 1 2");
+  check("the procedures can be chosen", list("#procedure option"), ["Go to ..", "1.1", "1.2", "1.3"]);
+  goTo("1 3");
+  check("and are shown", list("#lines .found")[0].startsWith("PROCEDURE 3 OF SEGMENT 1"), true);
+  choose("READ.ME.TEXT");
+  document.querySelectorAll("#frames button")[0].click();
+  check("the call stack shows the program again", shows("file-title"), "KEYS");
+  press("close");
+
+  await begin("LONG", ".SEG 1 LONG\n.PROC 1 0 0 0\n" + "NOP\n".repeat(4500) + ".EXIT\nRBP 0\n.END\n");
+  view("Instructions").click();
+  check("a long program is cut", [$("lines").children.length, $("more").hidden], [4000, false]);
+  library.line("until 1 1 4400");
+  look("Stopped");
+  check("the line of the machine is shown", list("#lines .here").map(line => line.slice(0, 12)), ["01 001 04400"]);
+  press("close");
+
+  await begin("PRINT", ".SEG 1 PRINT\n.PROC 1 0 0 0\nSLDC 6\nLSA \"HELLO\"\nSLDC 1\nSLDC 5\nSLDC 0\nSLDC 0\nCSP 6\n.EXIT\nRBP 0\n.END\n");
+  check("nothing is printed at first", $("printer-part").hidden, true);
+  press("go");
+  await ended();
+  check("the printer", [shows("printed"), $("printer-part").hidden], ["HELLO", false]);
+  press("close");
+
+  // a program that destroys the directory: its files can be recovered at once
+  await begin("W", ".SEG 1 W\n.PROC 1 0 0 0\nSLDC 4\nLDCI 2000\nSLDC 0\nLDCI 512\nSLDC 2\nSLDC 0\nCSP 6\n.EXIT\nRBP 0\n.END\n");
+  press("go");
+  await ended();
+  press("close");
+  check("a disk that a program has damaged", shows("disk-title"), "W.img is no volume any more");
+  if (shows("disk-title").includes("no volume")) $("total").querySelectorAll("button")[0].click();
+  check("can be read at once", [shows("refusal-title"), $("refusal").hidden], ["W.img is damaged", false]);
+  press("dismiss");
+  for (const one of drives.values()) one.changed = false;
 }

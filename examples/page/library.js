@@ -3,7 +3,7 @@
 "use strict";
 
 const NO_ADDRESS = 0n;            // malloc: out of memory; an empty handle
-const DONE = 0, TOO_SHORT = 7;   // results PMACH_DONE and PMACH_TOO_SHORT
+const DONE = 0, TOO_SHORT = 7, NOTHING = 18, DIFFERENT = 19; // results PMACH_DONE, PMACH_TOO_SHORT ..
 const FIRST_CAPACITY = 65536;    // bytes for an answer, before a longer one is needed
 const WORD = 8;                  // bytes of a size_t, a uint64_t and a struct pmach
 const SHOWN = {length: 32, status: 8, registers: 12, each: 2}; // struct pmach_shown: its bytes and offsets

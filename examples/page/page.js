@@ -7,7 +7,7 @@ const MOST_SHOWN = 20000;   // characters above the screen of the console that a
 const MOST_TRACED = 400000; // characters of the trace that are shown
 const MOST_LINES = 4000;    // lines of a file that are added at a time
 const MOST_TEXT = 4000000;  // characters of a file that are shown
-const MOST_HITS = 500;      // lines that a search shows
+const MOST_HITS = 500;      // files and lines that a search shows
 const MOST_RECALLED = 100;  // commands that the arrow keys recall
 const MOST_DRAWN = 150;     // procedures in a picture of calls
 const MOST_VALUES = 100;    // parameters and variables that are shown
@@ -20,10 +20,17 @@ const PLACE_NUMBERS = 3;                             // segment, procedure and o
 const WORD_BYTES = 2;                                // docs/FILES.md: a word is two bytes
 const MOST_LINKS = 64;      // static links that are followed to the frame of a global variable
 const BLOCKS = "blocks";     // docs/COMMANDS.md, "convert": the format that all other calls read
+// The names of all formats: of the header, then of the order. An image with a header gets another ending.
+const HEADERS = {"": "", "2mg-": ", with a header of .2mg", "dc42-": ", with a header of DiskCopy 4.2"};
+const ORDERS = {blocks: "blocks in order", dos: "sectors in the order of DOS 3.3", swapped: "bytes of each word exchanged",
+  big: "bytes of each word of the directory exchanged"};
+const FORMATS = Object.entries(HEADERS).flatMap(([head, words]) => Object.entries(ORDERS).map(([order, label]) =>
+  ({format: head + order, label: label + words + " (" + head + order + ")", ending: head === "" ? {dos: ".dsk"}[order] ?? ".img" : "." + head.slice(0, -1)})));
+const NO_PATH = new Uint8Array(0), LINE_HEAD = ": "; // a search with an empty path: its lines begin with these characters
 const NEW_NAME = "NEW", NEW_BLOCKS = 280;            // a disk of 140 KB
 const SAMPLE_BLOCKS = 40;
 const BLOCKS_END = 65535;                            // the largest uint16_t, which pmach_volume takes
-const BLOCK = 512;                                   // docs/FILES.md: the bytes of a block
+const BLOCK = 512, KILO = 1024;                      // docs/FILES.md: the bytes of a block; of a KB
 const DIRECTORY = [[0, 2, "a boot program"], [2, 6, "the directory"]]; // docs/FILES.md, "Images"
 const MAP_COLUMNS = [[400, 40], [3200, 80], [Infinity, 256]]; // blocks, and blocks in a row of their map
 const KEPT_URL = 60000;     // milliseconds until the bytes of a download may be freed
@@ -44,6 +51,8 @@ const STOPS = {waiting: 1, break: 15, changed: 16}, EXECUTION_ERROR = 100;
 // How a file is shown: the words of the button, and the call that makes the text of code.
 const CODE_VIEWS = [["Blocks", "disassemble_blocks"], ["Statements", "disassemble_statements"], ["Instructions", "disassemble_list"],
   ["Assembler", "disassemble_names"], ["Calls", null], ["Bytes", null]];
+const HINTS = {Blocks: "Pascal-like statements, with IF and WHILE", Statements: "Pascal-like statements, with labels", Instructions: "A disassembly with addresses and bytes",
+  Assembler: "A disassembly that can be assembled", Calls: "Which procedures call which", Bytes: "Hexadecimal"};
 const VIEWS = {code: CODE_VIEWS, text: [["Text", null], ["Bytes", null]]}, OTHER_VIEWS = [["Bytes", null]];
 // The picture of calls, in units of the font's size: a box of a procedure, and the distance from the next one.
 const BOX = {width: 5.5, height: 1.9, right: 3.5, down: 0.7}, ARC = 1.5;
@@ -54,13 +63,16 @@ const $ = id => document.getElementById(id);
 const SYSTEM = "0"; // the segment of the system, which a picture of calls shows only if it is chosen
 const SVG = $("svg").namespaceURI; // (so that no address of a network is in this page)
 let library = null, compiled = null;
-const drives = new Map();  // the disks by their units: {unit, data, name, changed, format, original, report}
+const drives = new Map();  // the disks by their units: {unit, data, name, changed, format, original, report, file}
 let disk = null;           // the one that is shown
-let refused = null;        // the bytes that were dropped last and are no volume: {data, name}
-let box = [];              // the images that were dropped together: {file, name, size, format, title, files, verdict, report}
+let refused = null;        // the bytes that were dropped last and are no volume: {data, name}, and as they are read: {format, blocks}
+let box = [];              // the images that were dropped together: {file, name, size, format, title, files, free, verdict, report}
+let searched = null;       // the text whose hits are shown
+let isCompared = false;    // whether a comparison is shown
 let shown = null;          // the file in the middle: {unit, slot, name, kind, view}
 let rest = [];             // its lines that are not shown yet
-let placed = [];           // its lines with a position: {button, line, segment, procedure, offset, at}
+let positions = [];        // of each line of it the position, as three numbers, or undefined
+let placed = [];           // its shown lines with a position: {button, line, segment, procedure, offset, at}
 let targets = new Map();   // its lines that can be gone to: procedures "S P" and labels "S P L00000", with their number
 let program = null;        // the file of the program in the machine, or null
 let lent = null;           // its disk with the system segment, which exists only in the machine; null without System
@@ -68,6 +80,7 @@ let systemText = null;     // the text of the system segment
 let system = null;         // its code file, after its first use
 let running = null;        // the command with which the run goes on, or null if it has stopped
 let resumes = false;       // whether a key continues a run that waits
+let goal = null;           // the step or finish that was begun last, and MP at its beginning: {command, mp}
 let seen = 0;              // the number of console bytes that are shown
 let screen = null;         // the screen of the console
 let sizes = new Map();     // the program's procedures, by the numbers with which the machine names them
@@ -136,8 +149,8 @@ function ask(title, words, accept, fields, then) {
   $("dialog-text").textContent = words;
   $("dialog-text").hidden = words === "";
   $("accept").textContent = accept;
-  const inputs = fields.map(({label, options, ...properties}) => options
-    ? el("select", {}, ...options.map(([label, value]) => el("option", {textContent: label, value})))
+  const inputs = fields.map(({label, options: choices, ...properties}) => choices
+    ? el("select", {}, ...options(choices))
     : el("input", {autocomplete: "off", required: true, ...properties}));
   $("fields").replaceChildren(...fields.map(({label}, k) => el("label", {textContent: label}, inputs[k])));
   $("questions").onsubmit = event => {
@@ -147,6 +160,10 @@ function ask(title, words, accept, fields, then) {
   };
   $("dialog").showModal();
   (inputs[0] ?? $("accept")).focus();
+}
+
+function options(choices) {
+  return choices.map(([label, value]) => el("option", {textContent: label, value}));
 }
 
 // Does something that closes a disk. Asks first if the disk has changes that are not saved.
@@ -164,30 +181,32 @@ function formatsOf(data) {
   return answer.status === DONE ? text(answer.bytes).split("\n").slice(0, -1).map(line => ({format: line.split(" ")[0], line})) : [];
 }
 
-// Opens an image, in the place of the disk on a unit. If it opens in several formats, the page asks for one.
-function openImage(data, name, unit) {
+// Opens an image, in the place of the disk on a unit. If it opens in several formats, the page asks for one. `more` has the
+// file of the image, and what is done after it has been opened: {file, then}.
+function openImage(data, name, unit, more = {}) {
   const formats = formatsOf(data);
-  if (formats.length <= 1) return openAs(data, name, formats[0]?.format, unit);
+  if (formats.length <= 1) return openAs(data, name, formats[0]?.format, unit, more);
   ask("Which format is it?", name + " opens in several formats.", "Open", [{label: "Format, volume and files", options: formats.map(({format, line}) => [line, format])}],
-    format => openAs(data, name, format, unit));
+    format => openAs(data, name, format, unit, more));
 }
 
 // Opens an image in a format; without a format, as it is.
-function openAs(data, name, format, unit) {
+function openAs(data, name, format, unit, more) {
   const made = format === undefined ? {status: DONE, bytes: data} : library.ask("convert", data, bytes(format), bytes(BLOCKS));
-  if (made.status !== DONE) return refuse(data, name, made);
+  if (made.status !== DONE) return refuse(data, name);
   const isSame = same(made.bytes, data);
-  openDisk({data: isSame ? data : made.bytes, name, format, original: isSame ? null : data}, unit);
+  openDisk({data: isSame ? data : made.bytes, name, format, original: isSame ? null : data, ...more}, unit);
 }
 
 // Opens a disk of blocks in order. If it is no volume, the disk on the unit stays.
-function openDisk(made, unit = disk?.unit ?? BOOT_UNIT) {
+function openDisk({then, ...made}, unit = disk?.unit ?? BOOT_UNIT) {
   const answer = library.ask("list", made.data);
-  if (answer.status !== DONE) return refuse(made.data, made.name, answer);
+  if (answer.status !== DONE) return refuse(made.data, made.name);
   leaving(drives.get(unit), () => {
-    drives.set(unit, {changed: false, original: null, report: "", ...made, format: made.format ?? BLOCKS, unit});
+    drives.set(unit, {changed: false, original: null, report: "", file: null, ...made, format: made.format ?? BLOCKS, unit});
     refused = null;
     showDisk(unit);
+    then?.();
   });
 }
 
@@ -206,8 +225,6 @@ function same(one, other) {
 function showDisk(unit) {
   disk = drives.get(unit) ?? null;
   shown = null;
-  $("hits").replaceChildren();
-  $("found").textContent = "";
   if (disk !== null) list();
   layout();
   if (disk !== null) $("disk-title").focus();
@@ -233,24 +250,46 @@ function moveDisk() {
   showDisk(BOOT_UNIT);
 }
 
-// Shows why some bytes are no volume: the lines of `check`.
-function refuse(data, name, answer) {
+// Shows why some bytes are no volume, and offers each format in which they can be read.
+function refuse(data, name, title = name + " is not opened") {
   refused = {data, name};
-  $("refusal-title").textContent = name + " is not opened";
-  $("reason").textContent = reason(answer);
-  const checked = library.ask("check", data);
-  $("faults").textContent = text(checked.bytes) || library.sentence(checked.status);
-  say(name + " is not opened. " + (disk === null ? "" : disk.name + " is still open."), true);
+  $("refusal-title").textContent = title;
+  $("read-as").replaceChildren(...options(FORMATS.filter(({format}) => blocksAs(data, format)).map(({format, label}) => [label, format])));
+  $("read-as").value = guessed(data);
+  readAs($("read-as").value);
+  say(title + ". " + (disk === null || disk.name === name ? "" : disk.name + " is still open."), true);
   layout();
   $("refusal-title").focus();
 }
 
-// Makes a volume of the bytes that were refused, by a job.
+// The blocks of an image that is read in a format, or null if it cannot be read in this format.
+function blocksAs(data, format) {
+  const made = format === BLOCKS ? {status: DONE, bytes: data} : library.ask("convert", data, bytes(format), bytes(BLOCKS));
+  return made.status === DONE ? made.bytes : null;
+}
+
+// The format of a damaged image: the one that pmach_form reports. Of a header of .2mg it does not report the order, which the
+// line `note form` of `check` has. An image that can be read with a header of DiskCopy has this header.
+function guessed(data) {
+  const form = text(library.ask("form", data).bytes), noted = /^note form (\S+)$/m.exec(text(library.ask("check", data).bytes))?.[1];
+  const headed = FORMATS.map(({format}) => format).filter(format => format.startsWith("dc42-"));
+  return [form === BLOCKS ? "" : form, noted ?? "", ...headed].find(format => format !== "" && blocksAs(data, format)) ?? BLOCKS;
+}
+
+// Reads the bytes that were refused in a format, and shows the lines of `check`.
+function readAs(format) {
+  const blocks = blocksAs(refused.data, format), checked = library.ask("check", blocks);
+  Object.assign(refused, {format, blocks});
+  $("reason").textContent = reason(library.ask("list", blocks));
+  $("faults").textContent = text(checked.bytes) || library.sentence(checked.status);
+}
+
+// Makes a volume of the bytes that were refused, by a job. A repaired image keeps its header.
 function rescue(call, ...given) {
-  const answer = library.ask(call, refused.data, ...given);
+  const {data, name, format, blocks} = refused, answer = library.ask(call, blocks, ...given);
   if (answer.status !== DONE) return say(reason(answer), true);
-  const report = call === "salvage" ? text(library.ask("salvage_report", refused.data, ...given).bytes) : "";
-  openDisk({data: answer.bytes, name: refused.name, changed: true, report});
+  const report = call === "salvage" ? text(library.ask("salvage_report", blocks, ...given).bytes) : "";
+  openDisk({data: answer.bytes, name, format, original: call === "repair" && format !== BLOCKS ? data : null, changed: true, report});
 }
 
 // The files of a volume, from the lines of its list.
@@ -262,17 +301,32 @@ function filesOf(lines, unit) {
   });
 }
 
+// The files of a volume; none if the bytes are no volume.
+function listed(data, unit) {
+  return filesOf(text(library.ask("list", data).bytes).split("\n"), unit);
+}
+
+// The last line of a list, written as sentences.
+function totalOf(line) {
+  const [, files, free, largest] = /^files (\d+) free (\d+) largest (\d+)$/.exec(line) ?? [];
+  if (files === undefined) return line;
+  return counted(files, "file") + ". Free: " + counted(free, "block") + " (" + free * BLOCK / KILO + " KB), the largest free area has " + largest;
+}
+
+function counted(count, what) {
+  return count + " " + what + (Number(count) === 1 ? "" : "s");
+}
+
 // Shows the list of the open disk. A program may have made it invalid.
 function list() {
   const answer = library.ask("list", disk.data), lines = text(answer.bytes).split("\n");
   const unit = drives.size > 1 || disk.unit !== BOOT_UNIT ? " on unit " + disk.unit : "";
-  $("format").textContent = "Format: " + disk.format + (disk.original === null ? "" : ". Save the image keeps this format.");
-  $("blocks").hidden = disk.original === null;
+  $("format").textContent = "Format: " + disk.format + (disk.format === BLOCKS && disk.original === null ? "" : ". Save the image keeps this format.");
   $("report-part").hidden = disk.report === "";
   $("report").textContent = disk.report;
   if (answer.status !== DONE) {
     $("disk-title").textContent = disk.name + " is no volume any more";
-    $("total").textContent = reason(answer) + ". To salvage its files, save the image and open it again.";
+    $("total").replaceChildren(reason(answer) + ". ", button("Recover its files", () => refuse(disk.data, disk.name, disk.name + " is damaged")));
     $("files").replaceChildren();
     $("map").replaceChildren();
     shown = null;
@@ -280,7 +334,7 @@ function list() {
   }
   const files = filesOf(lines, disk.unit);
   $("disk-title").textContent = lines[0].replace(/:$/, "") + " (" + disk.name + ")" + unit;
-  $("total").textContent = lines.at(-2);
+  $("total").textContent = totalOf(lines.at(-2));
   $("files").replaceChildren(...files.map(row));
   map(files);
   document.title = lines[0] + " pmach";
@@ -293,6 +347,7 @@ function row(file) {
   cells[1].className = cells[3].className = "wide"; // the first block, and the bytes in the last one
   const made = el("tr", {}, el("td", {}, button(file.name, () => choose(file))), ...cells);
   made.dataset.slot = file.slot;
+  made.onclick = () => safely(() => choose(file));
   return made;
 }
 
@@ -346,19 +401,39 @@ function saveFile(file) {
   download([answer.bytes], file.name.toLowerCase());
 }
 
-// Saves the disk in the format of its image.
+// The image of a disk, in its format. If the page has no image of this format, a new one is made.
+function imageOf({data, original, format}) {
+  if (original !== null) return library.ask("convert_back", original, bytes(format), data);
+  return format === BLOCKS ? {status: DONE, bytes: data} : library.ask("convert", data, bytes(BLOCKS), bytes(format));
+}
+
 function saveImage() {
   closeProgram();
-  const {data, original, format} = disk;
-  const made = original === null ? {status: DONE, bytes: data} : library.ask("convert_back", original, bytes(format), data);
-  if (made.status !== DONE) return say(reason(made) + ". Choose Save as blocks.", true);
+  const made = imageOf(disk);
+  if (made.status !== DONE) return say(reason(made) + ". Choose Convert.", true);
   saveDisk(made.bytes, disk.name);
 }
 
-// Saves the disk with its blocks in order.
-function saveBlocks() {
+function saveConverted() {
+  ask("Save in another format", "The disk is converted, and saved to a new file.", "Save", [{label: "Format", options: FORMATS.map(({format, label}) => [label, format])}], format => {
+    closeProgram();
+    const made = library.ask("convert", disk.data, bytes(BLOCKS), bytes(format));
+    if (made.status !== DONE) return say(reason(made), true);
+    saveDisk(made.bytes, disk.name.replace(/\.[^.]*$/, "") + FORMATS.find(one => one.format === format).ending);
+  });
+}
+
+// Saves the images of all disks in one .zip.
+function saveAll() {
   closeProgram();
-  saveDisk(disk.data, disk.name.replace(/\.[^.]*$/, "") + ".img");
+  const all = [...drives.values()], made = all.map(imageOf), wrong = made.findIndex(({status}) => status !== DONE);
+  if (wrong >= 0) return say(all[wrong].name + " is not saved: " + reason(made[wrong]), true);
+  if (!saveFiles(all.map(({name}, k) => ({path: pathPart(name), data: made[k].bytes})), "images.zip")) return;
+  const words = $("status").textContent;
+  for (const one of all) one.changed = false;
+  list();
+  layout();
+  say(words);
 }
 
 function saveDisk(data, name) {
@@ -376,9 +451,7 @@ function download(parts, name) {
 
 // The files of a volume for a .zip, in a folder.
 function exported(data, folder) {
-  const answer = library.ask("list", data);
-  if (answer.status !== DONE) return [];
-  return filesOf(text(answer.bytes).split("\n")).map(file =>
+  return listed(data).map(file =>
     ({path: (folder === "" ? "" : folder + "/") + pathPart(file.name), data: contents(data, file).bytes}));
 }
 
@@ -387,9 +460,11 @@ function saveFiles(files, name) {
   try {
     download(zipped(own), name);
   } catch (error) {
-    return say(error.message, true);
+    say(error.message, true);
+    return false;
   }
   say(files.length + (files.length === 1 ? " file is in " : " files are in ") + name);
+  return true;
 }
 
 function makeDisk(unit) {
@@ -429,26 +504,32 @@ function showDrives() {
     one.setAttribute("aria-pressed", disk?.unit === unit);
     return one;
   });
-  const more = free && button("Disk in unit " + free, () => { opensOn = free; $("image").click(); }, {title: "Insert another disk, which programs can use"});
+  const more = free && button("Disk in unit " + free, () => pick(files => opened(files, free)), {title: "Insert another disk, which programs can use"});
   $("drives").replaceChildren(...made, ...(more ? [more] : []));
 }
-let opensOn; // the unit of the disk that is being chosen; undefined is the shown one
+
+// Lets the user choose images, and does something with them.
+function pick(does) {
+  picked = does;
+  $("image").click();
+}
+let picked = opened;
 
 // ---- many disks
 
-// Lists images with what `check` reports of each. Their bytes are read again when they are needed.
+// Lists images with what pmach_info and `check` report of each. Their bytes are read again when they are needed.
 async function openBox(files) {
   box = [];
   for (const file of files) {
     say("Reading " + file.name + " (" + (box.length + 1) + " of " + files.length + ")");
     await read(file, data => {
-      const formats = formatsOf(data), blocks = blocksOf(data), isClear = formats.length <= 1;
-      const listed = library.ask("list", blocks), lines = text(listed.bytes).split("\n"), isVolume = isClear && listed.status === DONE;
+      const info = text(library.ask("info", NO_PATH, data).bytes).trimEnd(), several = /^: several formats: (.*)$/.exec(info)?.[1];
+      const [, format, title, count, free] = /^: (\S+) (.*): files (\d+), free (\d+), largest \d+$/.exec(info) ?? [], isVolume = format !== undefined;
+      const guess = isVolume || several ? "" : guessed(data), blocks = guess === "" ? blocksOf(data) : blocksAs(data, guess);
       const checked = library.ask("check", blocks), report = (text(checked.bytes) || library.sentence(checked.status)).replace(/\n$/, "");
-      const several = isClear ? "" : formats.map(({line}) => line).join("\n");
-      box.push({file, name: file.name, size: data.length, isVolume, format: formats.map(({format}) => format).join(", "),
-        title: isVolume ? lines[0].replace(/:$/, "") : "", files: isVolume ? String(lines.length - 3) : "", report: several || report,
-        verdict: isVolume ? report.split("\n").at(-1) : isClear ? reason(listed) : "several formats; Open asks for one"});
+      box.push({file, name: file.name, size: data.length, isVolume, format: format ?? several ?? (guess === BLOCKS ? "" : guess), title: title ?? "", files: count ?? "", free: free ?? "",
+        report: several ? formatsOf(data).map(({line}) => line).join("\n") : report,
+        verdict: isVolume ? report.split("\n").at(-1) : several ? "several formats; Open asks for one" : reason(library.ask("list", blocks))});
     });
   }
   $("boxed").replaceChildren(...box.map(boxed));
@@ -461,12 +542,13 @@ async function openBox(files) {
 function boxed(one) {
   const report = one.report === one.verdict ? [one.verdict] // (`good` has no other lines)
     : [el("details", {}, el("summary", {textContent: one.verdict}), el("pre", {textContent: one.report}))];
-  const open = unit => read(one.file, data => openImage(data, one.name, unit));
-  const acts = [button("Open", () => open(), {ariaLabel: "Open " + one.name}),
+  const open = unit => read(one.file, data => openImage(data, one.name, unit, {file: one.file}));
+  const words = one.isVolume || one.format.includes(",") ? "Open" : "Recover";
+  const acts = [button(words, () => open(), {ariaLabel: words + " " + one.name}),
     ...(one.isVolume ? [button("Insert", () => open(UNITS.find(unit => unit !== BOOT_UNIT && !drives.has(unit))), {ariaLabel: one.name + " as another disk", title: "Insert as another disk"}),
       button(".zip", () => read(one.file, data => saveFiles(exported(blocksOf(data), ""), pathPart(one.name) + ".zip")), {ariaLabel: "Export " + one.name})] : [])];
-  const cells = [[one.name], [one.format], [one.title], [String(one.size)], [one.files], report, acts].map(nodes => el("td", {}, ...nodes));
-  return el("tr", {className: one.isVolume ? "" : "bad"}, ...cells);
+  const cells = [[button(one.name, () => open(), {className: "link"})], [one.format], [one.title], [one.files], [one.free], report, acts].map(nodes => el("td", {}, ...nodes));
+  return el("tr", {className: one.isVolume ? "" : "bad", title: counted(one.size, "byte")}, ...cells);
 }
 
 // Exports the files of all volumes in the list, each in a folder of its image's name.
@@ -476,25 +558,174 @@ async function exportBox() {
   safely(() => saveFiles(files, "disks.zip"));
 }
 
+// ---- all disks
+
+// The disks that can be searched and compared: those on the units, and the images of the list that are not on a unit.
+function sources() {
+  const open = [...drives.values()];
+  return [...open, ...box.filter(({file}) => !open.some(one => one.file === file))];
+}
+
+// Passes the image of a source and its blocks to `then`. The page has only the blocks of a disk on a unit.
+function imagesOf(source, then) {
+  return source.data ? safely(() => then(source.data, source.data)) : read(source.file, data => then(data, blocksOf(data)));
+}
+
+// Shows a file of a source, by its slot and its name, and then does something with it. A disk of the list is opened first.
+function visit(source, {slot, name}, then = () => {}) {
+  const go = unit => {
+    if (disk.unit !== unit) showDisk(unit);
+    const file = listed(disk.data, unit)[slot - 1];
+    if (file?.name !== name) return say(name + " was moved or removed. Repeat the search or the comparison.", true);
+    choose(file);
+    then(file);
+  };
+  const open = [...drives.values()].find(one => one === source || (source.file && one.file === source.file));
+  if (open) return go(open.unit);
+  if (!source.file) return say(source.name + " is not open any more", true);
+  return read(source.file, data => openImage(data, source.name, undefined, {file: source.file, then: () => go(disk.unit)}));
+}
+
 // ---- search
 
-// Shows the lines of the texts of the disk, and of the code of its programs, that have some words.
-function search(words) {
-  const wanted = words.toLowerCase(), isCodeToo = $("in-code").checked, hits = [];
-  let count = 0;
-  for (const file of filesOf(text(library.ask("list", disk.data).bytes).split("\n"), disk.unit)) {
-    if (file.kind !== "text" && !(isCodeToo && file.kind === "code")) continue;
-    let answer = file.kind === "text" ? library.ask("get_text_slot", disk.data, file.slot) : library.ask("get_slot", disk.data, file.slot);
-    if (file.kind === "code" && answer.status === DONE) answer = library.ask(CODE_VIEWS[0][1], answer.bytes);
-    if (answer.status !== DONE) continue;
-    for (const [k, line] of text(answer.bytes).split(/\r?\n/).entries()) {
-      if (!line.toLowerCase().includes(wanted)) continue;
-      count++;
-      if (hits.length < MOST_HITS) hits.push(el("li", {}, button(file.name + " " + (k + 1), () => { choose(file); goToLine(k); }), " " + line.trim()));
+// The files of a disk whose names pmach_find lists, in the order of its list.
+function namedFiles(lines, files) {
+  let next = 0;
+  return lines.flatMap(line => {
+    const at = files.findIndex(({name}, k) => k >= next && name === line.slice(LINE_HEAD.length).trimEnd());
+    if (at < 0) return [];
+    next = at + 1;
+    return [{file: files[at]}];
+  });
+}
+
+// The files and lines that pmach_grep lists, in the order of the list and of each text.
+function textLines(lines, files) {
+  let next = 0, last = 0;
+  return lines.flatMap(whole => {
+    for (let at = next; at < files.length; at++) {
+      const {name} = files[at], after = whole.startsWith(name, LINE_HEAD.length) ? whole.slice(LINE_HEAD.length + name.length) : "";
+      const [, number, line] = /^ *: (\d+): ([^]*)$/.exec(after) ?? [];
+      if (number === undefined || (at === next && Number(number) <= last)) continue;
+      [next, last] = [at, Number(number)];
+      return [{file: files[at], number: last, line}];
     }
+    return [];
+  });
+}
+
+// The hits of a text in an image, {file} or {file, number, line}; or the reason why the image is not searched. If upper and
+// lower case are the same, pmach_find and pmach_grep list all names and lines, and this function selects those with the text.
+function hitsIn(image, blocks, words, isExact, isCodeToo) {
+  const linesOf = answer => text(answer.bytes).split("\n").slice(0, -1), isPattern = words.includes("=");
+  const has = line => isExact ? line.includes(words) : line.toLowerCase().includes(words.toLowerCase());
+  const names = library.ask("find", NO_PATH, image, bytes(isPattern ? words : "="));
+  if (names.status !== DONE && names.status !== NOTHING) return {hits: [], fault: linesOf(names)[0]?.slice(LINE_HEAD.length) ?? library.sentence(names.status)};
+  const files = listed(blocks), ofKind = kind => files.filter(file => file.kind === kind);
+  const lines = textLines(linesOf(library.ask("grep", NO_PATH, image, bytes(isExact ? words : ""))), ofKind("text"));
+  const hits = [...namedFiles(linesOf(names), files).filter(({file}) => isPattern || has(file.name)), ...lines.filter(({line}) => has(line))];
+  for (const file of isCodeToo ? ofKind("code") : []) {
+    const code = library.ask("get_slot", blocks, file.slot), made = code.status === DONE ? library.ask(CODE_VIEWS[0][1], code.bytes) : code;
+    if (made.status === DONE) text(made.bytes).split(/\r?\n/).forEach((line, k) => { if (has(line)) hits.push({file, number: k + 1, line}); });
   }
-  $("hits").replaceChildren(...hits);
-  $("found").textContent = count === 0 ? "Nothing was found" : count + (count === 1 ? " line" : " lines") + (count > hits.length ? ", of which " + hits.length + " are shown" : "");
+  return {hits};
+}
+
+// Shows the files, the lines of texts and, if chosen, the lines of code that contain a text, on all disks.
+async function search(words) {
+  const isExact = $("exact").checked, isCodeToo = $("in-code").checked, all = sources(), parts = [], faults = [];
+  const counts = {file: 0, line: 0};
+  let left = MOST_HITS;
+  searched = words;
+  for (const source of all) {
+    if (all.length > 1) say("Searching " + source.name);
+    await imagesOf(source, (image, blocks) => {
+      const {hits, fault} = hitsIn(image, blocks, words, isExact, isCodeToo);
+      if (fault) faults.push(source.name + ": " + fault);
+      for (const {number} of hits) counts[number === undefined ? "file" : "line"]++;
+      const made = hits.slice(0, left).map(hit => hitOf(source, hit, words));
+      left -= made.length;
+      if (made.length > 0) parts.push(el("h3", {textContent: placeOf(source)}), el("ul", {}, ...made));
+    });
+    if (searched !== words) return;
+  }
+  const found = Object.entries(counts).filter(([, count]) => count > 0).map(([what, count]) => counted(count, what));
+  $("results-title").textContent = "Search for " + words;
+  say((found.join(" and ") || "Nothing was found") + " on " + counted(all.length - faults.length, "disk"));
+  $("found").textContent = $("status").textContent +
+    (counts.file + counts.line > MOST_HITS ? ". The first " + MOST_HITS + " are shown" : "") + (faults.length > 0 ? ". Not searched: " + faults.join("; ") : "") +
+    (isCodeToo ? "" : ". Programs were not searched");
+  $("hits").replaceChildren(...parts);
+  layout();
+  $("results-title").focus();
+}
+
+// The name of a disk, and its unit if it has one.
+function placeOf({name, unit}) {
+  return name + (unit === undefined ? "" : " (unit " + unit + ")");
+}
+
+// A list item for a hit, with the text marked.
+function hitOf(source, {file, number, line}, words) {
+  const whole = line === undefined ? file.kind : line.trim(), at = line === undefined ? -1 : whole.toLowerCase().indexOf(words.toLowerCase());
+  const marks = at < 0 ? [whole] : [whole.slice(0, at), el("mark", {textContent: whole.slice(at, at + words.length)}), whole.slice(at + words.length)];
+  return el("li", {}, button(file.name + (number === undefined ? "" : " " + number), () => visit(source, file, () => { if (number !== undefined) goToLine(number - 1); }), {className: "link"}), " ", ...marks);
+}
+
+// ---- comparison
+
+// Asks which disks are compared. The other one can be a new image.
+function askDisks() {
+  const all = sources().filter(({data, isVolume}) => data || isVolume), choices = all.map((one, k) => [placeOf(one), String(k)]), own = all.indexOf(disk);
+  if (all.length === 0) return say("There is no disk to compare", true);
+  const first = own < 0 ? choices : [choices[own], ...choices.filter((_, k) => k !== own)];
+  ask("Compare two disks", "The files of both disks are compared by their names.", "Compare", [{label: "This disk", options: first},
+    {label: "The other disk", options: [...first.slice(1), ["An image on this computer", ""], first[0]]}], (one, other) => {
+    if (other !== "") return compare(all[one], all[other]);
+    pick(([file]) => read(file, data => {
+      if (formatsOf(data).length > 1) return say(file.name + " opens in several formats. Open it first.", true);
+      compare(all[one], {name: file.name, file});
+    }));
+  });
+}
+
+// Shows what pmach_compare reports for two disks. First it has the files of the first disk, in the order of its list, then those
+// that only the other disk has, in the order of that list.
+function compare(one, other) {
+  return imagesOf(one, (_, here) => imagesOf(other, (_, there) => {
+    const answer = library.ask("compare", here, there);
+    if (answer.status !== DONE && answer.status !== DIFFERENT) return say(one.name + " and " + other.name + " are not compared: " + reason(answer), true);
+    const files = [listed(here), listed(there)], counts = new Map();
+    let next = 0;
+    const rows = text(answer.bytes).split("\n").slice(0, -1).map((line, k) => {
+      const [, result, name] = /^(same|differ|only here|only there): ([^]*)$/.exec(line), isThere = result === "only there";
+      const byte = result === "differ" ? /: byte (\d+)$/.exec(name)?.[1] : undefined;
+      counts.set(result, (counts.get(result) ?? 0) + 1);
+      if (isThere) next = files[1].findIndex((file, at) => at >= next && file.name === name.trimEnd()) + 1;
+      const own = isThere ? files[1][next - 1] : files[0][k], isBoth = result === "same" || result === "differ";
+      const twin = () => namedFiles(text(library.ask("find", NO_PATH, there, bytes(own.name)).bytes).split("\n"), files[1])[0]?.file ?? own;
+      const show = (source, words, file) => button(words, () => visit(source, file(), made => showByte(made, byte)), {ariaLabel: own?.name + " " + words});
+      const words = {same: "same", differ: byte === undefined ? "same bytes, different kinds" : "differ from byte " + byte + " on"}[result] ?? result;
+      return el("tr", {className: result === "same" ? "quiet" : ""}, ...[[own?.name ?? name], [words], [...(isThere ? [] : [show(one, "here", () => own)]), ...(isBoth ? [show(other, "there", twin)] : isThere && own ? [show(other, "there", () => own)] : [])]]
+        .map(nodes => el("td", {}, ...nodes)));
+    });
+    isCompared = true;
+    $("comparison-title").textContent = placeOf(one) + " (here) and " + placeOf(other) + " (there)";
+    $("differences").textContent = rows.length === 0 ? "Both disks have no files" : answer.status === DONE ? "All " + counted(rows.length, "file") + " are the same"
+      : [...counts].map(([result, count]) => count + " " + result).join(", ");
+    $("pairs").replaceChildren(...rows);
+    layout();
+    say("The disks were compared");
+    $("comparison-title").focus();
+  }));
+}
+
+// Shows a byte of a file; without a number the file as it is.
+function showByte(file, byte) {
+  if (byte === undefined) return;
+  file.view = viewsOf(file).findIndex(([words]) => words === "Bytes");
+  show(file);
+  goToLine(Math.floor(byte / MEMORY_ROW));
 }
 
 // ---- the file
@@ -515,7 +746,7 @@ function show(file) {
   $("file-title").textContent = file.name;
   for (const made of document.querySelectorAll(".for-code")) made.hidden = !isCode;
   $("forms").replaceChildren(...viewsOf(file).map(([words], k) => {
-    const one = button(words, () => { file.view = k; show(file); });
+    const one = button(words, () => { file.view = k; show(file); }, {title: HINTS[words] ?? ""});
     one.setAttribute("aria-pressed", k === file.view);
     return one;
   }));
@@ -534,10 +765,14 @@ function show(file) {
   if (answer.bytes.length > MOST_TEXT) rest.push({line: "The rest of " + answer.bytes.length + " characters is not shown."});
   if (isCode && call && answer.status === DONE) names = standards(text(library.ask("disassemble_names", whole.bytes).bytes));
   $("lines").hidden = words === "Calls" && rest.length === 0;
+  positions = rest.map(({place}) => place?.split(" ").map(Number));
   rest.forEach(({head, label, procedure}, k) => {
     if (head !== undefined) targets.set(head, k);
     if (label !== undefined) targets.set(procedure + " " + label, k);
   });
+  const heads = [...new Set(rest.map(({head}) => head))].filter(Boolean);
+  $("procedure").replaceChildren(...options([["Go to ..", ""], ...heads.map(head => [head.replace(" ", "."), head])]));
+  $("jump").hidden = heads.length < 2;
   more();
   layout();
 }
@@ -614,6 +849,26 @@ function goTo(procedure) {
   }
   if (targets.has(procedure)) goToLine(targets.get(procedure));
   else say("Procedure " + procedure.replace(" ", ".") + " is not in " + shown.name, true);
+}
+
+// The last line up to a position in its procedure; -1 if there is none.
+function lineAt({segment, procedure, offset}) {
+  return positions.findLastIndex(at => at && at[0] === segment && at[1] === procedure && at[PLACE_NUMBERS - 1] <= offset);
+}
+
+// Shows the line of a position of the program that runs.
+function goToPlace(place) {
+  if (shown !== program) {
+    if (disk.unit !== program.unit) showDisk(program.unit);
+    choose(program);
+  }
+  if (!viewsOf(shown)[shown.view][1]) {
+    shown.view = 0;
+    show(shown);
+  }
+  const k = lineAt(place);
+  if (k < 0) return say("This position is not in " + program.name, true);
+  goToLine(k);
 }
 
 function goToLine(k) {
@@ -701,7 +956,7 @@ function start(file, runs) {
   if (shown !== file) show(file);
   look("Before the first step");
   $(runs ? "keys" : "program-title").focus();
-  if (runs) run("go");
+  if (runs) begin("go");
 }
 let above = ""; // lines that have left the screen and are not shown yet
 
@@ -739,10 +994,22 @@ function closeProgram() {
   if (lost !== "") say(lost, true);
 }
 
+// Begins a run: go, step or finish.
+function begin(command) {
+  goal = command === "go" ? null : {command, mp: library.registers().mp};
+  run(command);
+}
+
+// Whether a step or finish has reached its goal, as docs/DEBUGGER.md defines it: the frame where it began, or one above it.
+function isReached() {
+  const {mp} = library.registers();
+  return goal === null || mp > goal.mp || (mp === goal.mp && goal.command === "step");
+}
+
 // Runs a command of the debugger that takes a limit, in slices, until something else than the limit stops it.
 function run(command) {
   running = command;
-  resumes = command === "go";
+  resumes = true;
   $("state").textContent = "Running";
   $("console").classList.remove("waits");
   layout();
@@ -755,7 +1022,7 @@ function slice() {
     let answer = "";
     while (running !== null && performance.now() < until) {
       answer = lastLine(library.line(running + " " + (profile === null ? SLICE : SAMPLE_STEPS)));
-      running = answer.startsWith("limit ") ? "on" : null;
+      running = answer.startsWith("limit ") ? "on" : answer.startsWith("stop ") && !isReached() ? "finish" : null;
       if (profile !== null && running !== null) sample();
     }
     if (program === null) return;
@@ -788,7 +1055,9 @@ function meaning(answer) {
 function key(byte) {
   if (program === null) return;
   library.call("key", library.handle, byte);
-  if (resumes && running === null && $("console").classList.contains("waits")) run("go");
+  if (!resumes || running !== null || !$("console").classList.contains("waits")) return;
+  // (a step or finish that waits in a called procedure goes on up to the return of that procedure, and so on)
+  run(goal === null ? "go" : library.registers().mp < goal.mp ? "finish" : goal.command);
 }
 
 // Shows what the program wrote to the console since the last time. Only what has changed is written, so that a screen reader
@@ -829,11 +1098,31 @@ function look(words, answer = "") {
   $("console").classList.toggle("waits", answer.startsWith("waiting"));
   $("registers").replaceChildren(...Object.entries(registers).map(([name, value]) => pair(name.toUpperCase(), String(value).padStart(DECIMALS))));
   $("stack").textContent = library.line("stack " + STACK_SHOWN).replaceAll(" ", "\n");
-  $("frames").textContent = library.line("where") + "\n" + library.line("frames " + FRAMES_SHOWN).replaceAll(", ", "\n");
+  stack();
+  printed();
   values();
   memory();
   places();
   layout();
+}
+
+// Shows the procedures that are active: the position of the machine, and of each caller the position after its call.
+function stack() {
+  const answer = library.line("frames " + FRAMES_SHOWN), frames = answer.split(", ").map(frame => frame.split(" ").map(Number));
+  if (!/^\d/.test(answer)) return $("frames").replaceChildren(el("li", {textContent: answer})); // (it is refused if SEG or JTAB is odd)
+  const own = library.place(), callers = frames.map(([, segment, procedure, offset]) => ({segment, procedure, offset}));
+  $("frames").replaceChildren(...frames.map(([address], k) => {
+    const at = (k === 0 ? own : callers[k - 1]) ?? {};
+    const name = at.offset === undefined ? "the system" : button(at.segment + "." + at.procedure + " at " + at.offset, () => goToPlace(at), {className: "link"});
+    return el("li", {}, name, ", frame " + address);
+  }));
+}
+
+// Shows what the program has printed.
+function printed() {
+  const {bytes: all} = library.ask("printer", library.handle, 0n);
+  $("printer-part").hidden = all.length === 0;
+  $("printed").textContent = text(all).split(/\r\n?|\n/).map(line => printable(line, "?")).join("\n");
 }
 
 function pair(name, value) {
@@ -878,7 +1167,8 @@ function places() {
   const isOpen = program !== null && shown !== null && program.slot === shown.slot && program.unit === shown.unit;
   const breaks = program === null ? [] : library.line("breaks").split(", ");
   const set = new Set(breaks.map(one => one.split(" ").slice(0, PLACE_NUMBERS).join(" "))); // without a condition
-  const place = isOpen ? library.place() : null;
+  const place = isOpen ? library.place() : null, end = place === null ? -1 : lineAt(place);
+  if (end >= $("lines").children.length) return goToRest(end);
   $("breaks").textContent = breaks.join("\n");
   $("hint").textContent = isOpen ? "Choose a line to set or remove a breakpoint; the arrow keys move between lines and links."
     : "After Debug you can set breakpoints here.";
@@ -893,6 +1183,11 @@ function places() {
   here.line.classList.add("here");
   here.button.setAttribute("aria-current", "true");
   here.line.scrollIntoView({block: "nearest"});
+}
+
+// Adds lines of the file up to a line. (Each call of more() ends with places().)
+function goToRest(k) {
+  while ($("lines").children.length <= k && rest.length > 0) more();
 }
 
 function toggle(mark, place) {
@@ -976,6 +1271,10 @@ function layout() {
   $("welcome").hidden = isOpen || refused !== null || box.length > 0;
   $("refusal").hidden = refused === null;
   $("box").hidden = box.length === 0;
+  $("search").hidden = !isOpen && box.length === 0;
+  $("results").hidden = searched === null;
+  $("comparison").hidden = !isCompared;
+  $("save-all").hidden = drives.size < 2;
   $("disk").hidden = !isOpen;
   $("save").disabled = !isOpen;
   $("save").classList.toggle("main", Boolean(disk?.changed));
@@ -1010,7 +1309,7 @@ async function read(file, then) {
 // Opens what was chosen or dropped: one image, or a list of several.
 function opened(files, unit) {
   if (files.length > 1) return openBox([...files]);
-  return read(files[0], (data, name) => openImage(data, name, unit));
+  return read(files[0], (data, name) => openImage(data, name, unit, {file: files[0]}));
 }
 
 // The byte of a key, or 0 if it is no key of the machine. Tab and Ctrl+V keep their meaning in the browser.
@@ -1030,7 +1329,9 @@ function listen() {
   const on = (id, event, does) => $(id).addEventListener(event, e => safely(() => does(e)));
   const idle = does => e => { e?.preventDefault?.(); if (program !== null && running === null) does(); };
   const acts = {
-    open: () => { opensOn = undefined; $("image").click(); }, make: () => makeDisk(), sample: makeSample, save: saveImage, blocks: saveBlocks,
+    open: () => pick(opened), make: () => makeDisk(), sample: makeSample, save: saveImage, convert: saveConverted, "save-all": saveAll,
+    compare: askDisks, "compare-box": askDisks, uncompare: () => { isCompared = false; layout(); },
+    unsearch: () => { searched = null; layout(); $("words").focus(); },
     add: () => $("added").click(), krunch: () => change("krunch"), first: moveDisk, eject: ejectDisk,
     pack: () => { closeProgram(); saveFiles(exported(disk.data, ""), pathPart(disk.name) + ".zip"); },
     export: exportBox, unbox: () => { box = []; layout(); },
@@ -1043,8 +1344,8 @@ function listen() {
     remove: () => ask("Remove " + shown.name + "?", "The file is removed from the disk in this page.", "Remove", [],
       () => change("remove_slot", shown.slot)),
     more, close: closeProgram,
-    go: idle(() => run("go")), step: idle(() => run("step")), finish: idle(() => run("finish")), one: idle(() => trace(1)),
-    profile: idle(() => { profile = {name: "all", count: 0, in: new Map()}; run("go"); }),
+    go: idle(() => begin("go")), step: idle(() => begin("step")), finish: idle(() => begin("finish")), one: idle(() => trace(1)),
+    profile: idle(() => { profile = {name: "all", count: 0, in: new Map()}; begin("go"); }),
     stop: () => { running = null; stopped("stop"); },
     again: () => { const file = program; closeProgram(); start(file, false); },
     cancel: () => $("dialog").close(),
@@ -1052,7 +1353,10 @@ function listen() {
   for (const [id, does] of Object.entries(acts)) on(id, "click", does);
   // (so that the same file can be chosen again)
   for (const id of ["image", "added"]) on(id, "click", e => { e.target.value = ""; });
-  on("image", "change", e => opened(e.target.files, opensOn));
+  on("image", "change", e => picked(e.target.files));
+  on("read-as", "change", e => readAs(e.target.value));
+  on("procedure", "change", e => { if (e.target.value !== "") goTo(e.target.value); });
+  for (const id of ["exact", "in-code"]) on(id, "change", () => { if (searched !== null) search(searched); });
   on("added", "change", e => read(e.target.files[0], addFile));
   on("address", "input", () => { if (program !== null && running === null) memory(); });
   on("trace", "submit", idle(() => trace(Number($("count").value))));
@@ -1119,7 +1423,7 @@ async function unpacked(id) {
   return new Response(stream).arrayBuffer();
 }
 
-async function begin() {
+async function load() {
   compiled = await WebAssembly.compile(await unpacked("module"));
   library = new Library(await WebAssembly.instantiate(compiled, {}));
   listen();
@@ -1130,7 +1434,7 @@ async function begin() {
   if (own !== null) safely(() => openImage(own, $("inside").dataset.name)); // the disk that site.sh put into this page
 }
 
-begin().catch(error => {
+load().catch(error => {
   const hint = document.body.dataset.bits === "64" ? " The page needs a browser with 64-bit memory of WebAssembly (memory64)." : "";
   say("This browser cannot run the page: " + error.message + "." + hint, true);
 });

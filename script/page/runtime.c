@@ -1,5 +1,5 @@
-/* The part of a C library that the page's WebAssembly needs: malloc, realloc and free, and the three calls by which the
-   library requests memory. The kit has no headers of C.
+/* The part of a C library that the page's WebAssembly needs: malloc, realloc and free, the three calls by which the library
+   requests memory, and a shift that the compiler calls. The kit has no headers of C.
 
    A block has 32, 64, 128 .. bytes. Its first 16 bytes are its head; malloc returns the address after them. A freed block
    is added to the list of its size, and malloc takes it from there. Memory is never returned to the browser. */
@@ -87,4 +87,12 @@ struct tried rattle_realloc(void *at, size_t old_length, size_t length, size_t a
 
 void rattle_dealloc(void *at) {
     free(at);
+}
+
+/* The compiler calls this for `value >> count` of 128 bits, where count is below 128. */
+unsigned __int128 __lshrti3(unsigned __int128 value, int count) {
+    uint64_t low = (uint64_t)value, high = (uint64_t)(value >> 64);
+    if (count >= 64) low = high >> (count - 64), high = 0;
+    else if (count > 0) low = low >> count | high << (64 - count), high >>= count;
+    return (unsigned __int128)high << 64 | low;
 }

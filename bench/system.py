@@ -1,17 +1,23 @@
-"""system.py PMACH [SEED [COUNT]]: random programs with the system segment of examples/system, against models.
+"""system.py PMACH [SEED [COUNT]]: runs random programs with the system segment of examples/system, and compares them with models.
 
-Of files: each program has three files of records of one size, and opens, writes, reads, seeks and closes them at random;
-after each step it shows IORESULT, EOF and the first byte of the window, and at the end the volume has the files and bytes
-of the model. The model keeps a list of entries and, for each open file, its bytes and where the next record is.
-Of texts: LISTER lists, and COPYTEXT copies, a text that `pmach files puttext` has put.
-Of titles: what RESET answers to names, volumes and sizes that are right and wrong.
-Of strings and widths: WRITE of each kind, CONCAT, INSERT, COPY, DELETE and POS with lengths, places and widths of all sizes.
-Of dialogues: READ of each kind, READLN, EOF, EOLN, GET and loops until EOF or EOLN, of INPUT and KEYBOARD, where digits,
-signs, letters, blanks, ends of lines and of the file and the bytes that take characters back are typed; many go on
-behind the end. Of readings: the same of a text on the disk, or of bytes, as a TEXT and as INTERACTIVE. The model reads
-characters one by one as UCSD Pascal does, and says what the console has. Each run has to end by itself."""
+Files: each program has three files of records of one size, and opens, writes, reads, seeks and closes them at random. After
+each step it shows IORESULT, EOF and the first byte of the window. At the end, the volume must have the files and bytes of the
+model. The model has a list of entries and, for each open file, its bytes and the position of the next record.
+
+Texts: LISTER lists, and COPYTEXT copies, a text that `pmach files puttext` has added.
+
+Titles: the results of RESET for valid and invalid names, volumes and sizes.
+
+Strings and widths: WRITE of each kind, and CONCAT, INSERT, COPY, DELETE and POS with lengths, positions and widths of all
+sizes.
+
+Dialogues: READ of each kind, READLN, EOF, EOLN, GET, and loops until EOF or EOLN, with INPUT and KEYBOARD. The typed input has
+digits, signs, letters, spaces, ends of lines and of the file, and the bytes that delete characters. Many programs continue
+after the end of the file. Readings: the same with a text on the disk, or with bytes, as a TEXT and as INTERACTIVE. The model
+reads characters one by one as UCSD Pascal does, and states what the console shows. Each run must end without help."""
 import os
 import random
+import re
 import subprocess
 import sys
 import tempfile
@@ -22,7 +28,7 @@ count = int(sys.argv[3]) if len(sys.argv) > 3 else 100
 folder = os.path.dirname(os.path.abspath(__file__)) + "/../examples/system/"
 system = open(folder + "system.text", encoding="ascii").read()
 CASES = 40 # blocks of the program's file, from block 6 on
-FILL = b"\xe5" * 512 # what stands in a block that nothing was written to
+FILL = b"\xe5" * 512 # the contents of a block that was never written
 NAMES = ["A", "B", "C", "D"]
 
 
@@ -32,7 +38,7 @@ class Entry:
 
 
 class Model:
-    """A volume of so many blocks with the entries behind the program's."""
+    """A volume with this number of blocks, and the entries after that of the program."""
     def __init__(self, blocks, size):
         self.blocks, self.size, self.entries = blocks, size, []
         self.had = set() # the blocks that an entry had at any time: no other is written
@@ -109,7 +115,7 @@ class Model:
             return 9
         entry, data, at, _ = self.files[f]
         after = at + self.size
-        if after > 512 * (entry.end - entry.first): # it may grow into the gap behind it
+        if after > 512 * (entry.end - entry.first): # it may grow into the gap after it
             place = self.entries.index(entry)
             free = self.entries[place + 1].first if place + 1 < len(self.entries) else self.blocks
             entry.end = max(entry.end, free)
@@ -148,7 +154,7 @@ class Model:
 
 
 def show(lines, file, index, window):
-    """IORESULT, EOF and the first byte of the window, each as a word written with a blank behind it."""
+    """IORESULT, EOF and the first byte of the window, each written as a word followed by a space."""
     lines += ["CSP 34", "SRO 4", "LOD 1, 3", "LDO 4", "SLDC 0", "CXP 0, 13", "LOD 1, 3", "SLDC 32", "SLDC 0", "CXP 0, 17",
               "LOD 1, 3", "LAO %d" % file, "SLDC 0", "SLDC 0", "CXP 0, 10", "SLDC 0", "CXP 0, 13", "LOD 1, 3", "SLDC 32",
               "SLDC 0", "CXP 0, 17", "LOD 1, 3", "LAO %d" % window, "SLDC 0", "LDB", "SLDC 0", "CXP 0, 13", "LOD 1, 3", "CXP 0, 22"]
@@ -345,8 +351,9 @@ def records(number):
     return ""
 
 
-def answer_to(title, names):
-    """IORESULT of RESET, of a file of blocks: 3 a bad title, 9 no such volume or file."""
+def answer_to(title, names, kind):
+    """IORESULT of RESET: 3 a bad title, 9 no such volume or file. A TEXT, kind -2, reads its first character, and the
+    printer cannot be read (3); INTERACTIVE, 0, and a file of blocks, -1, read nothing."""
     text = "".join(c for c in title if c > " ").upper()
     if not 1 <= len(text) <= 80:
         return 3
@@ -367,7 +374,7 @@ def answer_to(title, names):
         unit = unit if unit in (1, 2, 4, 6) else 0
     if unit == 0 or unit == 4 and name and name not in names:
         return 9
-    return 0
+    return 3 if unit == 6 and kind == -2 else 0
 
 
 def titles(number):
@@ -376,19 +383,22 @@ def titles(number):
     files("new", "WORK", "100")
     for name in names:
         files("put", name, "data", data=b"x")
-    lines = ["LAO 200", "LDCN", "LDCI -1", "CXP 0, 3"]
-    wanted = []
+    lines, wanted = [], []
     for _ in range(40):
-        parts = ["", "", "", "*", ":", "WORK:", "#4:", "#", "4", "12", "A", "A.DATA", "a.data", "work", "[", "]", "[*]", "[5]",
+        kind = chance.choice([0, -1, -2])
+        parts = ["", "", "", "*", ":", "WORK:", "#4:", "#6:", "#", "4", "12", "A", "A.DATA", "a.data", "work", "[", "]", "[*]", "[5]",
                  "[77]", "FIFTEEN.LETTERS", " ", "\t", "\x7f", "CONSOLE:", "X", "Y" * 70]
         title = "".join(chance.choice(parts) for _ in range(chance.randrange(1, 7)))
         if chance.random() < 0.5:
-            title = chance.choice(["", "*", ":", "WORK:", "work :", "#4:", "#04:", "#5:", "SEVENLE:"]) + chance.choice(names) + \
+            title = chance.choice(["", "*", ":", "WORK:", "work :", "#4:", "#04:", "#5:", "#6:", "printer:", "SEVENLE:"]) + chance.choice(names) + \
                 chance.choice(["", "[5]", "[*]", "[]", "[5", "[5]Y", "[X]", "]", "[5*]", "[**]", "[12]]", "[", " "])
-        lines += ["LAO 200", 'LSA "%s"' % "".join(c if 32 <= ord(c) < 127 and c not in '"\\' else "\\%02x" % ord(c) for c in title),
+        if kind == -2 and re.match(r"\W*(CONSOLE|SYSTERM|#0*[12]):", title.upper()):
+            kind = 0 # a TEXT would wait for a key
+        lines += ["LAO 200", "LAO 500" if kind != -1 else "LDCN", "LDCI %d" % kind, "CXP 0, 3",
+                  "LAO 200", 'LSA "%s"' % "".join(c if 32 <= ord(c) < 127 and c not in '"\\' else "\\%02x" % ord(c) for c in title),
                   "SLDC 1", "LDCN", "CXP 0, 5", "LOD 1, 3", "CSP 34", "SLDC 0", "CXP 0, 13", "LOD 1, 3", "CXP 0, 22",
                   "LAO 200", "SLDC 0", "CXP 0, 6"]
-        wanted.append((title, str(answer_to(title, names))))
+        wanted.append((title, str(answer_to(title, names, kind))))
     files("put", "CASES", "code", data=code_of(lines))
     ran = run("CASES")
     for (title, want), have in zip(wanted, ran.stdout.decode().split("\r")):
@@ -491,7 +501,7 @@ def steps_of(chance, load, reader, lines, name):
     def number(line, value):
         lines.extend(["LOD 1, 3"] + line + ["SLDC 0", "CXP 0, 13", "LOD 1, 3", "SLDC 32", "SLDC 0", "CXP 0, 17"])
         later.append(b"%d " % value)
-    later = [] # what is shown behind what the step itself makes the console have
+    later = [] # what is shown after the console output of the step itself
     what = chance.choice(["read", "read", "integer", "integer", "string", "readln", "readln", "get", "until eoln", "until eof",
                           "reset"])
     if what == "reset" and not reader.eof and chance.random() < 0.8:

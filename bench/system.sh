@@ -1,7 +1,7 @@
 #!/bin/bash
-# The system segment of examples/system: each of its procedures by cases, then the programs of that folder, then
-# with-system.sh, and examples/units with with-units.sh. What is expected is worked out from the rules of UCSD Pascal.
-# PMACH names another program than ../pmach. Run by hand; the gate has the cases of the procedures in
+# Tests the system segment of examples/system: each of its procedures by cases, then the programs of that folder, then
+# with-system.sh, and examples/units with with-units.sh. The expected results are worked out from the rules of UCSD Pascal. The
+# variable PMACH can name another program than ../pmach. Run manually. The gate has the cases of the procedures in
 # crates/test_trials/data/system.trial.
 here=$(dirname "$(readlink -f "$0")")/..
 pmach=$(readlink -f "${PMACH:-$here/pmach}")
@@ -27,7 +27,7 @@ files() {
     "$pmach" files --image "$image" "$@"
 }
 
-# times COUNT CHARACTERS: so many of them
+# times COUNT CHARACTERS: prints the characters COUNT times
 times() {
     local text=
     printf -v text '%*s' "$1" ''
@@ -418,7 +418,7 @@ show_i
 case_is 'pos of 255 in 255' 1
 run_group
 
-# 12, READ of an integer, each with READLN behind it: typed, shown then. An escape is a byte; IORESULT 3 is bad format
+# 12, READ of an integer, each followed by READLN: the typed keys, then what is shown. An escape is a byte; IORESULT 3 is bad format
 begin
 while IFS='|' read -r typed echo value result; do
     line 'LOD 1, 2' 'LAO 259' 'CXP 0, 12' 'CSP 34' 'SRO 260'
@@ -459,7 +459,7 @@ X\r|X\r|0|3
 CASES
 run_group
 
-# 18, READ of a string of so many characters, and READLN: the room, typed, on the console, the string
+# 18, READ of a string of at most this number of characters, and READLN: the maximum length, the typed keys, the console, the string
 begin
 while IFS='|' read -r room typed echo then_; do
     line 'LOD 1, 2' 'LAO 3'
@@ -962,6 +962,39 @@ A.DATA[5[|3
 |3
  |3
 CASES
+# A device that is no disk: a name after the colon and a size mean nothing. RESET reads only where the file is a TEXT, and
+# the printer cannot be read
+init $g 0
+init $h -1
+while IFS='|' read -r title interactive text blocks; do
+    reset $g "$title"
+    close $g 0
+    case_is "reset '$title' of an INTERACTIVE file" "${interactive}0"
+    [ -z "$text" ] || {
+        init $g -2
+        reset $g "$title"
+        close $g 0
+        init $g 0
+        case_is "reset '$title' of a TEXT" "${text}0"
+    }
+    reset $h "$title"
+    close $h 0
+    case_is "reset '$title' of a file of blocks" "${blocks}0"
+done <<'CASES'
+#6:A.TEXT|0|3|0
+#6:|0|3|0
+#6|9|9|9
+#6:ABC[4]X|0|3|0
+#6:ABC:|0|3|0
+#6:ABCDEFGHIJKLMNO|0|3|0
+#6:ABCDEFGHIJKLMNOP|3|3|3
+#6:ABC[|3|3|3
+printer:|0|3|0
+*PRINTER:A.DATA|0|3|0
+#1:A.DATA|0||0
+SYSTERM:A|0||0
+A.DATA|0|0|0
+CASES
 reset $f "$(times 80 A)"
 case_is 'reset of a title of 80' 3
 reset $f "$(times 255 A)"
@@ -1376,11 +1409,51 @@ for shown in '[B]00' '[]11' '[]11'; do
     call 13
     case_is "INTERACTIVE: READ of a string and READLN, $shown" "$shown"
 done
+show_both() { # EOF and EOLN
+    at_end $f
+    out
+    line "LAO $f"
+    function_ 11
+    line 'SLDC 0'
+    call 13
+}
+line "LAO $f"
+call 21
+show_both
+line "LAO $f"
+call 21
+show_both
+case_is 'INTERACTIVE: READLN has no effect at the end, EOLN stays true' 1111
+read_f
+show_c
+show_both
+line "LAO $f" 'LAO 259'
+call 12
+show_i
+show_both
+case_is 'INTERACTIVE: READ at the end, EOLN is true' ' 11011'
+line "LAO $f" 'CXP 0, 4'
+io
+show_both
+case_is 'INTERACTIVE: RESET forgets the end' 000
+line 'SLDC 0' 'SRO 259'
+printf 'loop%s:\n' $loops >>"$scratch/text"
+line "LAO $f"
+function_ 10
+line LNOT 'FJP past'$loops "LAO $f"
+call 21
+line 'LDO 259' 'SLDC 1' ADI 'SRO 259' "UJP ^$loops"
+jumps="$jumps.JUMP loop$loops"$'\n'
+printf 'past%s:\n' $loops >>"$scratch/text"
+loops=$((loops + 1))
+show_i
+show_both
+case_is 'INTERACTIVE: READLN until EOF of two lines, the third finds the end' 311
 f=261
 run_group
 written_are 'texts that are read'
 
-# Texts: what is written, up to a full disk. A page ends behind the line that ends in its last 127 bytes: nine lines of
+# Texts: what is written, up to a full disk. A page ends after the line that ends in its last 127 bytes: nine lines of
 # 101 bytes end at byte 909, so each of the 6 pages that 14 blocks have has nine
 fresh 60
 begin
@@ -1855,8 +1928,14 @@ result 'a title without a volume is on the prefix' $?
 assembled() { # [NAME]: puts the program of standard input on the disk, as CASES
     "$pmach" asm | files put -- "${1:-CASES}" code
 }
-shows() { # NAME SHOWN MESSAGE WORD..: what the words run, with | for the end of a line, and how the message begins
-    "$pmach" run "${@:4}" 2>"$scratch/message" </dev/null | tr '\r' '|' >"$scratch/shown"
+padded() { # NAME: puts the program of $scratch/units on the disk, with a NOP at its end where its length is odd
+    "$pmach" asm <"$scratch/units" >"$scratch/code" 2>"$scratch/why" ||
+        sed 's/^RBP 0$/RBP 0\nNOP/' "$scratch/units" | "$pmach" asm >"$scratch/code"
+    files put -- "$1" code <"$scratch/code"
+}
+shows() { # NAME SHOWN MESSAGE WORD..: what the words run, with | for the end of a line, and how the message begins; the
+    # file that the variable keyboard names is the input
+    "$pmach" run "${@:4}" 2>"$scratch/message" <"${keyboard:-/dev/null}" | tr '\r' '|' >"$scratch/shown"
     [ "$(cat "$scratch/shown")" = "$2" ] && [[ $(cat "$scratch/message") = "$3"* ]]
     local status=$?
     result "$1" $status
@@ -1872,6 +1951,7 @@ for ((i = 0; i < 16; i++)); do printf '.SEG %s A\n.PROC 1 0 0 0\nCXP 31, 2\n.EXI
 printf '.SEG 1 A\n.PROC 1 0 0 0\nCXP 31, 2\n.EXIT\nRBP 0\nNOP\n.END\n' | "$pmach" asm >"$scratch/code"
 { head -c 520 "$scratch/code" && printf '\7' && tail -c +522 "$scratch/code"; } >"$scratch/odd" # the number at JTAB
 files put ODD code <"$scratch/odd"
+printf '%s\n' '.SEG 1 A' '.PROC 1 0 0 0' 'CXP 22, 1' 'CXP 31, 1' .EXIT 'RBP 0' .END '.SEG 5 PASCALIO' | assembled TWICE
 cp "$image" "$scratch/before"
 with 'units: no words' 1 usage:
 with 'units: no such file' 2 "with-units.sh: $image has no file NONE" "$image" NONE
@@ -1879,6 +1959,7 @@ with 'units: no code' 2 "with-units.sh: DATA on $image has kind data" "$image" D
 with 'units: no code file' 2 'refused code 1' "$image" SHORT
 with 'units: none is called' 3 'with-units.sh: HANOI calls no unit of examples/units' "$image" HANOI
 with 'units: no slot is free' 3 'with-units.sh: FULL has no free slot for segment 31' "$image" FULL
+with 'units: a unit twice' 3 'with-units.sh: TWICE has a segment PASCALIO already, and calls segment 31' "$image" TWICE
 with 'units: the text is not the file' 3 'with-units.sh: ODD' "$image" ODD
 unchanged 'units: nothing changed'
 
@@ -1926,7 +2007,33 @@ with 'units: not twice' 3 'with-units.sh: -CASES calls no unit' "$image" -CASES
 script=with-system.sh
 with 'units: the system behind them' 0 '' "$image" -CASES
 shows 'units: what they answer' "7 7 7 7 $first $second $first CXP 31, 2" 'ended ' --d4 "$image" -- -CASES
+# KEYPRESS: false, true, false, true. A loop that waits for it ends; a game that asks in each of six rounds reads three keys
+{
+    begin
+    for i in 1 2 3 4 5 6; do number 'SLDC 0' 'SLDC 0' 'CXP 22, 5'; done
+    line 'SLDC 0' 'SRO 259'
+    echo 'loop0:' >>"$scratch/text"
+    line 'LDO 259' 'SLDC 1' ADI 'SRO 259' 'SLDC 0' 'SLDC 0' 'CXP 22, 5' 'FJP ^0'
+    number 'LDO 259'
+    loop_1() { line 'SLDC 0' 'SRO 259' && echo 'loop1:' >>"$scratch/text"; }
+    loop_1
+    line 'SLDC 0' 'SLDC 0' 'CXP 22, 5' 'FJP past1' 'LOD 1, 4' 'LAO 260' 'CXP 0, 16'
+    number 'LDO 260'
+    line 'UJP past2'
+    echo 'past1:' >>"$scratch/text"
+    say .
+    echo 'past2:' >>"$scratch/text"
+    line 'LDO 259' 'SLDC 1' ADI 'SRO 259' 'LDO 259' 'SLDC 6' EQUI 'FJP ^1'
+    cat "$scratch/text"
+    printf '%s\n' .EXIT 'RBP 0' '.JUMP loop0' '.JUMP loop1' .END
+} >"$scratch/units"
+padded POLLS
+script=with-system.sh
+with 'keypress: the system' 0 '' "$image" POLLS
 script=with-units.sh
+with 'keypress: the unit' 0 '' "$image" POLLS
+printf ABC >"$scratch/typed"
+keyboard=$scratch/typed shows 'keypress: every second call is true, and the program reads' '0 1 0 1 0 1 2 .65 .66 .67 ' 'ended ' --d4 "$image" POLLS
 odd_path=$scratch/-a' b
 c.img'
 cp "$image" "$odd_path"
@@ -1944,13 +2051,13 @@ shows 'units: the system before or behind is the same' "$(tr '\n' '|' <"$here/ex
     --d4 "$scratch/-x.img" -- --SLOT
 
 # Units that are not there, and slots that a program calls without having them
-printf '%s\n' '.SEG 1 A' '.PROC 1 0 0 0' 'SLDC 0' 'FJP past' 'CXP 15, 1' 'CXP 63, 1' 'past: CXP 31, 1' 'CXP 20, 2' .EXIT \
+printf '%s\n' '.SEG 1 A' '.PROC 1 0 0 0' 'SLDC 0' 'FJP past' 'CXP 15, 1' 'CXP 63, 1' 'past: CXP 31, 1' 'CXP 29, 2' .EXIT \
     'RBP 0' NOP .END | assembled OTHERS
-with 'units: others are named and stay' 0 'with-units.sh: calls of segment 20 are not changed: TURTLEGRAPHICS' "$image" OTHERS
+with 'units: others are named and stay' 0 'with-units.sh: calls of segment 29 are not changed: TRANSCEND' "$image" OTHERS
 [ "$(sed -n 2p "$scratch/err")" = 'with-units.sh: calls of segment 63 are not changed: an unknown unit' ]
 result 'units: one that is not known' $?
 files get OTHERS | "$pmach" dis | grep 'SEG\|CXP' | sed 's/^ *//' | cmp -s - <(printf '%s\n' '.SEG 1 A' 'CXP 15, 1' 'CXP 63, 1' \
-    'CXP 14, 1' 'CXP 20, 2' '.SEG 14 PASCALIO' 'CXP 0, 9' 'CXP 0, 14' 'CXP 0, 15')
+    'CXP 14, 1' 'CXP 29, 2' '.SEG 14 PASCALIO' 'CXP 0, 9' 'CXP 0, 14' 'CXP 0, 15')
 result 'units: a slot that is called is not free' $?
 shows 'units: a call of another ends by error 2' '' 'error 2 ' --d4 "$image" OTHERS
 printf '.SEG 1 A\n.PROC 1 0 0 0\nSLDC 0\nSLDC 0\nCXP 31, 3\n.EXIT\nRBP 0\nNOP\n.END\n' | assembled REALS
@@ -1963,7 +2070,7 @@ cp "$image" "$scratch/before"
 with 'units: no room' 4 'with-units.sh: FITS is unchanged: refused filer 1 7' "$image" FITS
 unchanged 'units: nothing changed without room'
 
-# renumber.sh: a file whose segments stand in other slots, with its dictionary's rows
+# renumber.sh: a file whose segments are in other slots, with the rows of its dictionary
 script=renumber.sh
 row() { # PLACE SIZE FROM TO: a slot's bytes of that row of $scratch/code, to another slot of $scratch/moved
     dd if="$scratch/code" of="$scratch/moved" bs=1 skip=$(($1 + $2 * $3)) seek=$(($1 + $2 * $4)) count="$2" conv=notrunc 2>/dev/null

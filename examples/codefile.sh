@@ -1,7 +1,7 @@
 # shellcheck shell=sh disable=SC2154
-# Functions on a code file of a volume. with-system.sh, with-units.sh and renumber.sh read this file. They set $self to
-# their name, $image to the path of the image and $name to the name of the file. Bytes of an image, including its names,
-# never become part of a shell command.
+# Functions on a code file of a volume. with-system.sh, with-units.sh, with-reals.sh, with-clock.sh and renumber.sh read
+# this file. They set $self to their name, $image to the path of the image and $name to the name of the file. Bytes of an
+# image, including its names, never become part of a shell command.
 
 here=$(dirname "$(readlink -f "$0")")
 pmach=${PMACH:-$here/../pmach}
@@ -89,4 +89,23 @@ put_back() {
         fail "$name is unchanged: $(sed q "$scratch/why") (7: not enough free space; try: pmach files --image $image krunch)" 4
     files remove -- "$name"
     files change -- "$2" "$name"
+}
+
+# turned NEW: writes NEW, the old file with its segments replaced by those of the text on standard input, of equal length
+turned() {
+    "$pmach" asm >"$scratch/made" 2>"$scratch/why" || fail "$name cannot be assembled again; the file is unchanged" 3
+    cp "$scratch/old" "$1"
+    for n in 0 1 2 3 4 5 6 7 8 9 10 11 12 13 14 15; do
+        segment "$scratch/made" "$n" >"$scratch/segment"
+        made=$length
+        slot "$scratch/old" "$n"
+        [ "$made" = "$length" ] || fail "slot $n of $name has another length when it is assembled again; the file is unchanged" 3
+        dd if="$scratch/segment" of="$1" bs=512 seek="$block" conv=notrunc 2>/dev/null
+    done
+}
+
+# same_again: fails unless the disassembled text gives the same bytes
+same_again() {
+    turned "$scratch/same" <"$scratch/text"
+    cmp -s "$scratch/old" "$scratch/same" || fail "$name has other bytes when it is assembled again; the file is unchanged" 3
 }

@@ -1,14 +1,14 @@
 #!/bin/sh
 # Adds the units that a code file on a volume calls, if units/ has them: examples/with-units.sh IMAGE NAME
 # A program that USES a unit of Apple Pascal's library, or SEEK, calls a segment with a number above 15. No slot of its
-# file has such a number. units/ has two of these units, PASCALIO (31) and APPLESTUFF (22). The script assembles each unit
-# that is called for the last slot that is free and not called, appends it to the file, and changes each call CXP 31, n
-# to a call of this slot: the program is disassembled, these calls are changed, and it is assembled again. Nothing else in
-# the file changes, and on the volume only its position. If the file has no system segment, it needs that too: use
-# with-system.sh, before or after this script. Calls of other units are not changed, and are reported. Status 2: no such
-# file, or not a code file. Status 3: it calls none of these units, no slot is free, or assembling its disassembled text
-# gives other bytes. Status 4: not enough free space. With each of these the file is unchanged. The variable PMACH can
-# name another program than ../pmach.
+# file has such a number. units/ has PASCALIO (31), LONGINTIO (30), CHAINSTUFF (28), APPLESTUFF (22) and TURTLEGRAPHICS
+# (20). The script assembles each unit that is called for the last slot that is free and not called, appends it to the
+# file, and changes each call CXP 31, n to a call of this slot: the program is disassembled, these calls are changed, and
+# it is assembled again. Nothing else in the file changes, and on the volume only its position. If the file has no system
+# segment, it needs that too: use with-system.sh, before or after this script. Calls of other units are not changed, and
+# are reported. Status 2: no such file, or not a code file. Status 3: it calls none of these units, it has a segment of
+# this name already, no slot is free, or assembling its disassembled text gives other bytes. Status 4: not enough free
+# space. With each of these the file is unchanged. The variable PMACH can name another program than ../pmach.
 . "$(dirname "$(readlink -f "$0")")/words.sh"
 set -e
 [ $# = 2 ] || {
@@ -21,23 +21,8 @@ image=$1 name=$2 self=with-units.sh
 # shellcheck source=examples/codefile.sh
 . "$(dirname "$(readlink -f "$0")")/codefile.sh"
 
-# turned NEW: writes NEW, the old file with its segments replaced by those of the text on standard input, of equal length
-turned() {
-    "$pmach" asm >"$scratch/made" 2>"$scratch/why" || fail "$name cannot be assembled again; the file is unchanged" 3
-    cp "$scratch/old" "$1"
-    for n in 0 1 2 3 4 5 6 7 8 9 10 11 12 13 14 15; do
-        segment "$scratch/made" "$n" >"$scratch/segment"
-        made=$length
-        slot "$scratch/old" "$n"
-        [ "$made" = "$length" ] || fail "slot $n of $name has another length when it is assembled again; the file is unchanged" 3
-        dd if="$scratch/segment" of="$1" bs=512 seek="$block" conv=notrunc 2>/dev/null
-    done
-}
-
 take
-# The unchanged text must give the same bytes.
-turned "$scratch/same" <"$scratch/text"
-cmp -s "$scratch/old" "$scratch/same" || fail "$name has other bytes when it is assembled again; the file is unchanged" 3
+same_again
 
 # The units that the file calls, and the slots that it uses or calls.
 calls=$(awk '$1 == "CXP" && $2 + 0 > 15 { print $2 + 0 }' "$scratch/text" | sort -nu)
@@ -45,17 +30,21 @@ taken=" $(awk '$1 == ".SEG" { print $2 } $1 == "CXP" { print $2 + 0 }' "$scratch
 map=''
 for unit in $calls; do
     case $unit in
-        20) title='TURTLEGRAPHICS, which needs a graphics screen' ;;
+        20) title=turtlegraphics ;;
         22) title=applestuff ;;
-        28) title='CHAINSTUFF, which needs the operating system' ;;
-        29) title='TRANSCEND, which needs reals' ;;
-        30) title='LONGINTIO, which needs long integers' ;;
+        28) title=chainstuff ;;
+        29) title='TRANSCEND, for which there is with-reals.sh' ;;
+        30) title=longintio ;;
         31) title=pascalio ;;
         *) title='an unknown unit' ;;
     esac
     if [ ! -e "$here/units/$title.text" ]; then
         echo "with-units.sh: calls of segment $unit are not changed: $title" >&2
         continue
+    fi
+    segment=$(sed -n 's/^\.SEG [0-9]* //p' "$here/units/$title.text")
+    if grep -q "^\.SEG [0-9]* $segment\$" "$scratch/text"; then
+        fail "$name has a segment $segment already, and calls segment $unit; the file is unchanged" 3
     fi
     free=15
     while case $taken in *" $free "*) true ;; *) false ;; esac do free=$((free - 1)); done

@@ -1,9 +1,11 @@
-"""allocations.py [PROGRAM]: each call of the libraries that takes memory, with each of its allocations refused in turn, until none is: it
-answers want of memory, all that it was lent is as before, and made again it gives what it gives with memory (allocations/main.rt.text).
-faults.py does the same for whole command lines, whose files it compares.
+"""allocations.py [PROGRAM]: refuses each allocation of each library call that requests memory, one at a time.
 
-PROGRAM is that program, as somebody built it. Without it `rt run` proves and builds it in a copy of the repository, with what `rt check`
-kept there. By hand; no part of the gate. Needs a C compiler (faults.c)."""
+After each refusal the script checks three things: the call reports that memory is exhausted; everything that was passed to
+the call is unchanged; and the same call, repeated with enough memory, has its usual result. The calls are in
+allocations/main.rt.text. The script faults.py does the same for whole command lines, and compares their files.
+
+PROGRAM is the program of that text, if it is built already. Without PROGRAM, `rt run` proves and builds it in a copy of the
+repository, and uses what `rt check` has cached there. Run manually; not part of the gate. Requires a C compiler (faults.c)."""
 import os
 import shutil
 import subprocess

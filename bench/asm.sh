@@ -1,15 +1,15 @@
 #!/bin/bash
-# Times `asm` on texts of a size and of twice that size, and says how much longer the larger one takes: 2 means in proportion. Least
-# processor time of RUNS runs, and the most memory where GNU time is there. Run by hand; no part of the gate.
-#     asm.sh [PMACH]          RUNS=3 by default
+# asm.sh [PMACH]: measures the time of `asm` for texts of one size and of twice that size, and prints the ratio. A ratio of 2
+# means that the time is proportional to the size. The time is the least processor time of RUNS runs (3 by default). The most
+# memory is printed too if GNU time is installed. Run manually; not part of the gate.
 #   nops     one procedure of NOPs; from 60,000 bytes on it is too long
 #   listing  the same, its listing
-#   labels   one procedure of labels alone
-#   tables   NOPs, and XJPs with tables of 2,000 labels, one label, which is at the end
-#   jumps    one procedure of short jumps, each to a label of its own behind it
+#   labels   one procedure that has only labels
+#   tables   NOPs, and XJPs with tables of 2,000 labels; all are the same label, which is at the end
+#   jumps    one procedure of short jumps, each to its own label after it
 #   cases    one procedure of XJPs with tables of 50 labels, at its first and its last item
 #   short    procedures of one item
-#   comments lines of comments alone
+#   comments lines that have only comments
 here=$(dirname "$(readlink -f "$0")")/..
 pmach=${1:-$here/pmach}
 runs=${RUNS:-3}
@@ -62,7 +62,7 @@ timed() {
     done | awk '{ s = $1 + $2; if (NR == 1 || s < least) least = s } END { printf "%.3f", least }'
 }
 
-# memory OPTIONS..: the most memory, where GNU time tells it
+# memory OPTIONS..: the most memory, if GNU time is installed
 memory() {
     command time -q -f '%M' "$pmach" asm "$@" <"$scratch/text" 2>&1 >/dev/null | tail -n 1 | awk '/^[0-9]+$/ { printf "%d MB", $1 / 1000 }'
 }

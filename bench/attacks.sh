@@ -1,11 +1,12 @@
 #!/bin/bash
-# What others can do to the files of a command: each attack, with what has to come of it.
+# What other users can do to the files of a command: each attack, with the result that the command must have.
 #
 #     bench/attacks.sh [TRIES]
 #
-# It plays root, who works in a folder of another user, and that user (setpriv, number 1234); without root it stops. TRIES
-# is how often the folder changes places with a link during a command (100). What wants strace, unshare, python3 or a mount that
-# is not to be had is told as left out. PMACH names another program than ../pmach. Run by hand; no part of the gate.
+# The script acts as root, who works in a folder of another user, and as that user (setpriv, number 1234). It stops if it is not
+# started as root. TRIES states how often the folder and a link are exchanged during a command (100 by default). An attack that
+# requires strace, unshare, python3 or a mount is left out, and named, if it is not possible. The variable PMACH can name
+# another program than ../pmach. Run manually; not part of the gate.
 here=$(dirname "$(readlink -f "$0")")/..
 pmach=$(readlink -f "${PMACH:-$here/pmach}")
 export PMACH=$pmach
@@ -34,7 +35,7 @@ comes() {
     fi
 }
 
-# has NAME WORD: whether a program that an attack wants is there
+# has NAME WORD: whether a program that an attack requires is installed
 has() {
     command -v "$2" >/dev/null && return
     echo "left out: $1: no $2"
@@ -55,7 +56,7 @@ within() {
 # held IMAGE: whether a volume is there, and how many files named N it has
 held() { "$pmach" files --image "$1" list 2>/dev/null | grep -c '^N '; }
 
-# folder: a folder of the other user with the image x, and one of root's beside it
+# folder: a folder of the other user with the image x, and a file of root in the same folder
 folder() {
     rm -rf etc u
     mkdir -p etc u/d

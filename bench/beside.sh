@@ -1,12 +1,12 @@
 #!/bin/bash
-# examples/conformance/beside.py, tried on a small machine with a planted mistake in each family: it has to name the
-# instruction behind which the states differ, and nothing where there is no mistake. By hand; no part of the gate.
-#     beside.sh [PMACH]
+# beside.sh [PMACH]: tests examples/conformance/beside.py with a small machine that has a seeded mistake in each family of
+# instructions. beside.py must name the instruction after which the states differ, and nothing if there is no mistake. Run
+# manually; not part of the gate.
 here=$(dirname "$(readlink -f "$0")")/../examples/conformance
 pmach=${1:-$here/../../crates/pmach/out/pmach}
 passed=0 failed=0
 
-# beside BUG DIGITS WANTED: what is told of a program has this in its first line
+# beside BUG DIGITS EXPECTED: the first line that beside.py prints for a program has this text
 beside() {
     local words=()
     [ -z "$1" ] || words=(--bug "$1")
@@ -20,7 +20,7 @@ beside() {
     esac
 }
 
-# a program, the family whose mistake it meets, and the instruction behind which that shows
+# a program, the family whose mistake it meets, and the instruction after which the states differ
 while IFS='|' read -r family digits instruction; do
     beside '' "$digits" 'no difference'
     beside "$family" "$digits" ", $instruction, from"

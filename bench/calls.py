@@ -1,8 +1,10 @@
-"""calls.py PMACH [ERROR,..] [JOB,..]: each system call of a job fails once, or is where the program is killed, in turn, by strace. Behind it the image
-is the whole old one or the whole new one, with status 0 the new one; a kill apart, nothing of the program's stands beside it. What a job wrote
-in place (its file has two names, or none could be made beside it) may be a mixture, and what another left there may stay; then it says so.
-A new folder has all files with status 0. Each file that its LIST names is whole, and if the program is not killed, each file is whole or is
-named in a message."""
+"""calls.py PMACH [ERROR,..] [JOB,..]: lets each system call of a job fail once, or kills the program at this call, with strace.
+
+After each run, the image must be the whole old one or the whole new one, and with status 0 the new one. If the program was
+not killed, no file of the program may remain next to the image. There is one exception: an image that is written in place,
+because the file has two names or no file can be created next to it, may be a mixture, and a file of somebody else may remain.
+The message must state this. A new folder must have all files if the status is 0. Each file that its LIST names must be
+whole. If the program was not killed, each file must be whole or named in a message."""
 import collections
 import os
 import re
@@ -16,7 +18,7 @@ ERRORS = (sys.argv[2] if len(sys.argv) > 2 else "KILL,EIO,ENOSPC,EINTR,EACCES,EP
 EXAMPLES = os.path.join(os.path.dirname(os.path.abspath(__file__)), "../examples")
 PUT = ["files", "--image", "w.img", "put", "NEW", "data"]
 NEW = ["files", "--image", "w.img", "new", "GONE", "48"]
-# a job: how the folder stands before it, its words, and the file that it writes
+# a job: the state of the folder before it, its arguments, and the file that it writes
 JOBS = {
     "put": ("plain", PUT, "w.img"),
     "put behind a link": ("link", PUT, "w.img"),
@@ -44,7 +46,7 @@ def done(words, typed=b""):
 
 
 def lay(kind):
-    """The folder as it stands before a job."""
+    """Prepares the folder for a job."""
     shutil.rmtree(folder, ignore_errors=True)
     os.mkdir(folder)
     done(["files", "--image", "w.img", "new", "WORK", "40"])
@@ -111,7 +113,7 @@ def wrong_folder(status, error, new, now, message):
 
 
 def wrong(kind, target, status, error, old, new, now, message):
-    """What is wrong with what a job left, or what has to be told of it."""
+    """The faults in what a job left, or what its message must state."""
     if isinstance(new, dict):
         return wrong_folder(status, error, new, now, message)
     if status == 0 and now != new:

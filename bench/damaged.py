@@ -1,10 +1,11 @@
 #!/usr/bin/env python3
-"""Images with one byte of the directory damaged, in every form: bench/damaged.py [SEED [COUNT]]
+"""damaged.py [SEED [COUNT]]: damages one byte of the directory of an image, in every format, and follows the messages.
 
-Each is asked for its list, and then what the answer names is done, as a person at a terminal would: `files --form`,
-`convert`, and `files salvage` to a volume or to a folder. If no message names a format, `salvage` is tried in each, as docs/DISKS.md says. A file is to come out with its bytes where its own entry is as it was.
-A line for each file that does not, and at the end how many images and files there were. Status 0: all came. Run by hand,
-in some minutes; no part of the gate. PMACH names another program than ./pmach."""
+The script lists the files of each image, and then does what the message suggests, as a person at a terminal would:
+`files --form`, `convert`, `files salvage` to a volume or to a folder. If no message names a format, `salvage` is tried with
+each format, as docs/DISKS.md says. A file must be recovered with its bytes if its own entry is undamaged. The script prints
+a line for each file that is not recovered, and at the end the numbers of images and files. Status 0: every file was
+recovered. Run manually; some minutes; not part of the gate. The variable PMACH can name another program than ./pmach."""
 import os
 import pty
 import random
@@ -60,7 +61,7 @@ def exchanged(data, places):
 
 
 def big_places(data):
-    """Where the words of the directory and of the dictionaries stand."""
+    """The offsets of the words of the directory and of the dictionaries."""
     places = []
     for slot in range(78):
         at = 1024 + 26 * slot
@@ -136,7 +137,7 @@ def most_saved():
 
 
 def got(names):
-    """What comes out of `hurt` by what each answer names, and the answers."""
+    """The files that are recovered from the image `hurt` by following the answers, and the answers."""
     form, told = (), []
     for _ in range(4):
         status, _, said = files("hurt", *form, "list")

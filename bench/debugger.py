@@ -1,7 +1,10 @@
-"""debugger.py PMACH: `pmach debug` on a pseudo terminal, where a long run is made in slices of 1,000,000 steps: each answer is the one that the
-program gives for the whole in a pipe, with breakpoints and watched words round the ends of slices, for each of many counts of steps; long answers
-have many lines; a command may be begun alone; the system's procedures have names, and `where` has the statement. Ctrl-C in `go`, `step` and `finish`, after which `on` goes on,
-and at the prompt, Ctrl-D, `quit`, refusals, signals, `run --debug`, and that no program and no folder is left behind."""
+"""debugger.py PMACH: tests `pmach debug` on a pseudo terminal, where a long run is executed in slices of 1,000,000 steps.
+
+Each answer must be the one that the program gives for the whole run in a pipe. The tests have breakpoints and watched words
+around the ends of slices, for many numbers of steps. They also test that long answers are printed on several lines, that a
+command can be given alone, that procedures of the system have names, and that `where` shows the statement. They test Ctrl-C
+in `go`, `step` and `finish`, after which `on` continues, and Ctrl-C at the prompt. They test Ctrl-D, `quit`, refusals,
+signals and `run --debug`, and that no process and no folder remains."""
 import glob
 import os
 import pty
@@ -22,7 +25,7 @@ os.environ["TERM"] = "dumb"
 words = [program, "debug", "--d4", image]
 failed = 0
 
-# 50 steps a round, as often as variable 1 says; then each of 49 words is written, the Nth at step 2 * N; at step 150 two words at once; an endless loop.
+# 50 steps a round, for as many rounds as variable 1 states. Then each of 49 words is written, the Nth at step 2 * N, and two words at step 150. Then an endless loop.
 ROUND = "again: NOP\n" + "NOP\n" * 41 + "SLDO 1\nSLDC 1\nSBI\nSRO 1\nSLDO 1\nSLDC 0\nEQUI\nFJP ^0\n"
 LONG = (".SEG 1 LONG\n.PROC 1 0 0 240\nLDCI 19999\nSRO 1\n" + ROUND + "".join("SLDC %d\nSRO %d\n" % (n, n + 1) for n in range(1, 50)) +
         "NOP\n" * 48 + "LAO 60\nSLDC 1\nSLDC 2\nSTM 2\nhere: UJP ^1\n.EXIT\nRBP 0\n.JUMP again\n.JUMP here\n.END\n")
@@ -33,7 +36,7 @@ SLOW = (".SEG 1 SLOW\n.PROC 1 0 0 4\nCLP 2\nhere: UJP ^0\nNOP\n.EXIT\nRBP 0\n.JU
 CHAT = (".SEG 1 CHAT\n.PROC 1 0 0 4\nouter: LDCI 500\nSRO 1\n" + ROUND + "SLDC 1\nLPA \"x\"\nSLDC 0\nSLDC 1\nSLDC 0\nSLDC 0\nCSP 6\n" +
         "SLDO 2\nSLDC 1\nADI\nSRO 2\nSLDO 2\nSLDC 60\nEQUI\nFJP ^1\nSLDC 1\nLDCI 2000\nSLDC 0\nSLDC 1\nSLDC 0\nSLDC 0\nCSP 5\n" +
         ".EXIT\nRBP 0\n.JUMP again\n.JUMP outer\n.END\n")
-# Each byte that is typed is read; 33 divides by zero, and behind 120 comes an endless loop.
+# Each typed byte is read. Byte 33 divides by zero, and an endless loop follows byte 120.
 ASK = (".SEG 1 ASK\n.PROC 1 0 0 4\nagain: SLDC 1\nLDCI 2000\nSLDC 0\nSLDC 1\nSLDC 0\nSLDC 0\nCSP 5\nSLDC 1\nLDCI 2000\nSLDC 0\nLDB\nSLDC 33\nSBI\nDVI\n"
        "SRO 1\nLDCI 2000\nSLDC 0\nLDB\nSLDC 120\nEQUI\nFJP ^0\nhere: UJP ^1\n.EXIT\nRBP 0\n.JUMP again\n.JUMP here\n.END\n")
 OK = '.SEG 1 OK\n.PROC 1 0 0 0\nSLDC 1\nLPA "OK"\nSLDC 0\nSLDC 2\nSLDC 0\nSLDC 0\nCSP 6\nNOP\n.EXIT\nRBP 0\n.END\n'
@@ -60,7 +63,7 @@ def piped(name, lines):
 
 
 def typed(command, keys):
-    """What is shown and the status. Keys are typed where there is a prompt; what is no line, and a signal, comes 0.5 seconds behind the last."""
+    """The shown text and the status. Keys are typed at a prompt. Input that is no line, and a signal, follows 0.5 seconds after the last key."""
     child, terminal = pty.fork()
     if child == 0:
         signal.signal(signal.SIGINT, signal.SIG_DFL)
@@ -82,7 +85,7 @@ def typed(command, keys):
     else:
         os.kill(child, signal.SIGKILL)
     os.close(terminal)
-    shown = re.sub(rb"^pmach: not proved[^\n]*\n", b"", shown)  # what the front says of such a program
+    shown = re.sub(rb"^pmach: not proved[^\n]*\n", b"", shown)  # what the script `pmach` prints for such a program
     return shown.decode().replace("\r\n", "\n"), os.waitstatus_to_exitcode(os.waitpid(child, 0)[1])
 
 

@@ -1,14 +1,15 @@
 #!/bin/bash
-# Times `dis` on code files of a size and of twice that size, and says how much longer the larger one takes: 2 means in proportion. Least
-# processor time of RUNS runs, and the most memory where GNU time is there. Run by hand; no part of the gate.
-#     dis.sh [PMACH]          RUNS=3 by default; WORDS stand behind dis, as --statements
+# dis.sh [PMACH]: measures the time of `dis` for code files of one size and of twice that size, and prints the ratio. A ratio of 2
+# means that the time is proportional to the size. The time is the least processor time of RUNS runs (3 by default). The most
+# memory is printed too if GNU time is installed. The variable WORDS has options for `dis`, such as --statements. Run manually;
+# not part of the gate.
 #   plain   one procedure of NOPs
-#   counts  one procedure whose jump table has 60 entries, the last of which is taken by a jump
-#   jumps   the same, each entry being taken by a jump, so that 61 counts of entries are tried
-#   tables  255 dictionary words that lead to the one table of `counts`, so that its procedure is shown 255 times
-#   worst   255 that lead to the one table of `jumps`
+#   counts  one procedure whose jump table has 60 entries, the last of which a jump uses
+#   jumps   the same, with a jump for each entry, so that 61 counts of entries are tried
+#   tables  255 dictionary words that refer to the one table of `counts`, so that its procedure is shown 255 times
+#   worst   255 dictionary words that refer to the one table of `jumps`
 #   shared  16 slots that share the segment of `tables`
-#   distinct 255 tables at places of their own, each with the code of `jumps` from offset 0 on
+#   distinct 255 tables at different offsets, each with the code of `jumps` from offset 0 on
 here=$(dirname "$(readlink -f "$0")")/..
 pmach=${1:-$here/pmach}
 runs=${RUNS:-3}
@@ -26,7 +27,7 @@ times() {
     for ((k = 0; k < $1; k++)); do printf "$2"; done
 }
 
-# nops N: so many instructions that do nothing
+# nops N: N instructions that do nothing
 nops() {
     head -c "$1" /dev/zero | tr '\0' '\327'
 }
@@ -49,7 +50,7 @@ table() {
     printf "\\x01\\x$(printf %02x "$2")"
 }
 
-# file SLOTS: a code file with the segment in so many slots, from slot 0 on
+# file SLOTS: a code file with the segment in this number of slots, from slot 0 on
 file() {
     local slot
     for ((slot = 0; slot < 16; slot++)); do
@@ -89,7 +90,7 @@ timed() {
     done | awk '{ s = $1 + $2; if (NR == 1 || s < least) least = s } END { printf "%.3f", least }'
 }
 
-# memory: the most memory, where GNU time tells it
+# memory: the most memory, if GNU time is installed
 memory() {
     command time -q -f '%M' "$pmach" dis $WORDS <"$scratch/code" 2>&1 >/dev/null | tail -n 1 | awk '/^[0-9]+$/ { printf "%d MB", $1 / 1000 }'
 }

@@ -1,13 +1,17 @@
-"""faults.py PMACH [MOST]: each job of the real program, with its 1st, 2nd, .. allocation refused, alone and with all after it, and with
-each of its reads and each of its writes failing, until none fails. Each run is held against the one that meets no fault:
+"""faults.py PMACH [MOST]: runs each job of the real program many times, each time with one fault.
 
-  a refused allocation    status 5, `no memory`, or the run's own end; what it wrote to standard output is a front of the whole output
-  a failed read or write  status 4, `read fault` or `write fault`, or the run's own end; the same of the output. Where the message
-                          itself could not be written, the run's own status without it
-  files, in all of these  each is whole: the old one, or the one that the run without a fault leaves; the old one at status 5, but for
-                          the image that stands already where the printer's bytes follow it
+In each run, one allocation is refused (only this one, or this one together with all later ones), or one read or write fails.
+The position of the fault is increased until no fault occurs. Each run is compared with the run without a fault:
 
-By hand; no part of the gate. Needs a C compiler (faults.c). MOST bounds the allocations that are tried of one command line."""
+  a refused allocation    the status is 5 with the message `no memory`, or the run ends as usual. The bytes written to
+                          standard output are a prefix of the whole output
+  a failed read or write  the status is 4 with the message `read fault` or `write fault`, or the run ends as usual. The same
+                          holds for the output. If the message itself could not be written, the status is the usual one
+  files, in all cases     each file is whole: the old one, or the one that the run without a fault leaves. With status 5 it
+                          is the old one, except for the image that was saved before the printer's bytes were written
+
+Run manually; not part of the gate. Requires a C compiler (faults.c). MOST limits the number of allocations of a command line
+that are refused."""
 import os
 import subprocess
 import sys

@@ -1,7 +1,7 @@
 #!/bin/bash
-# What only real files and a real terminal show: a full device, a limit on sizes, links, locks, kills, and on a pseudo terminal a console and
-# the debugger.
-# Run by hand; no part of the gate. The full device wants root (a tmpfs is mounted); python3 makes the pseudo terminal and the kills.
+# Tests what only real files and a real terminal show: a full device, a limit on sizes, links, locks, kills, and, on a pseudo
+# terminal, a console and the debugger. Run manually; not part of the gate. The full device requires root (a tmpfs is mounted).
+# The pseudo terminal and the kills require python3.
 here=$(dirname "$(readlink -f "$0")")/..
 pmach=${PMACH:-$here/pmach}
 scratch=$(mktemp -d)
@@ -94,7 +94,7 @@ cp "$scratch/before" "$image"
 result "a limit on the size of files" $?
 same "the old image is whole under it" "$image" "$scratch/before"
 
-# eight at once: each file of which status 0 was said is there, and all others were told that the image is held
+# eight at the same time: each file whose command ended with status 0 exists, and all other commands reported a locked image
 lost=0
 odd=0
 for round in $(seq "${ROUNDS:-100}"); do

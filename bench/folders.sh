@@ -1,7 +1,8 @@
 #!/bin/bash
-# files export, files import, files salvage FOLDER/, convert, and remove.sh, profile.sh and calls.sh of examples/: each file out byte for byte,
-# there and back, two of one name, names that cannot be typed, refused and damaged images; orders and headers of images. Run by hand; no part
-# of the gate. PMACH names another program than ./pmach.
+# Tests files export, files import, files salvage FOLDER/ and convert, and remove.sh, profile.sh and calls.sh of examples/. Each
+# file is exported byte for byte, and imported again. The cases include two files with one name, names that cannot be typed,
+# refused and damaged images, and the orders and headers of images. Run manually; not part of the gate. The variable PMACH can
+# name another program than ./pmach.
 here=$(dirname "$(readlink -f "$0")")/..
 export PMACH=${PMACH:-$here/pmach}
 scratch=$(mktemp -d)
@@ -324,7 +325,7 @@ check "its sum is sound" [ ! -s err ]
 check "the file is there" cmp more.po more.again
 byte dos.dcmore 90000 7F
 "$PMACH" convert dos.dcmore >out 2>err </dev/null
-check "another sum is told" grep -q 'the checksum in the header does not match' err
+check "another sum is told" grep -q 'the checksum in the DiskCopy header does not match' err
 { cat dos && head -c 128 /dev/zero; } >dos.long
 check "128 bytes more" ends 0 "$PMACH" convert dos.long dos.longout
 check "are no part of the disk" cmp po dos.longout
@@ -420,7 +421,7 @@ check "gives what it has" ends 0 files shorter salvage fshorter/
 check "whole files alone" cmp fshorter/DUP fa/DUP
 check "and no cut one" [ ! -e fshorter/BIG ]
 
-# what the front says of `files` on a terminal: notes first, so many faults, and what makes a text file
+# what the script `pmach` prints for `files` on a terminal: notes first, the number of faults, and how to make a text file
 terminal() {
     python3 -c '
 import os, pty, sys
@@ -477,7 +478,7 @@ check "line ends that differ, of a text that is there" ends 2 files ends.cr.img 
 check "which is refused as a text" grep -q '^pmach: ends.crlf.out/A.TEXT: .*--ends crlf; .* --ends cr$' err
 check "other ends in" ends 1 files ends.img import --ends vax ends.cr.out
 
-# a hurt volume opens in no form: the one that is named is made all the same
+# a damaged volume opens in no format: it is still written in the requested format
 files two new TWO 280
 printf 'hi\n' | files two puttext A.TEXT
 printf hello | files two put B data
@@ -523,7 +524,7 @@ check "two of one name are left" ends 1 "$here/examples/remove.sh" b DUP
 check "nothing is changed then" cmp r r2
 check "no volume to remove from" ends 2 "$here/examples/remove.sh" header =
 
-# What the program does with --form is what the scripts do beside it; and what asm and dis read of a disk is what get
+# --form of the program has the same results as the scripts; and asm and dis read from a disk the same bytes that get
 # gives. The other order is made by other means.
 "$here/examples/dos-order.sh" <po >formed
 check "the list of a disk in another order" cmp <(files po list) <(files formed --form dos list)
@@ -557,7 +558,7 @@ check "as of blocks" grep -qx "ended 402" err
 
 # The 28 images of a shoebox, made from a seed: by its number what each is, and what has to come of it.
 python3 "$here/bench/shoebox.py" box "${SEED:-28}"
-# each NUMBER COMMAND..: the command, with the number of a slot behind it, gives each file that has to come of an image
+# each NUMBER COMMAND..: the command, followed by the number of a slot, writes each file that must be recovered from an image
 each() {
     local file number=$1
     shift

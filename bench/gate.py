@@ -1,21 +1,25 @@
-"""gate.py: what a run of the gate takes, crate by crate: minutes of the clock and of the processors. By hand.
+"""gate.py: reports what a run of the gate costs, crate by crate, in minutes and processor time. Run manually.
 
-    python3 bench/gate.py run gate.log --anew       runs `rt ci --anew`, and writes its lines into gate.log, each with the
-                                                    time of day, and last what each crate took of the processors; an rt
-                                                    that keeps nothing (kit 13b) proves anew without that word
-    python3 bench/gate.py gate.log                  the table of such a log, also while the run goes on
+    python3 bench/gate.py run gate.log --anew       runs `rt ci --anew`. It writes the lines of `rt ci` into gate.log, each
+                                                    with the time of day, and at the end the processor time of each crate.
+                                                    An rt without a cache (kit 13b) needs no --anew
+    python3 bench/gate.py gate.log                  prints the table of such a log, even while the run continues
 
-`run` looks once a second at each process of the run that names a crate (`rattle .. --crate-name NAME`), and counts what
-it used since: for the proof of the crate, for its tests (`--test`), or for its wrong bodies (a check in a folder
-`rt-edit-..`, that with which they begin too). What no look saw is in the sum alone, which the system counts.
+Once a second, `run` reads the processor time of each process that names a crate (`rattle .. --crate-name NAME`). It adds the
+time to the proof of the crate, to its tests (`--test`), or to its mutants (a check in a folder `rt-edit-..`). Time between
+these readings is only in the sum, which the system counts.
 
-A line for each crate of crates.txt: the minute of the run at which its proof ended, the minutes between the end of the
-last proof that it stands on and that (what it waited for a processor counts in them), the minute at which its tests were
-proved and their number, the minute at which its wrong bodies were begun and how many there are; and, behind the run, the
-seconds of processor time of its proof, its tests and its wrong bodies. A crate that an earlier run proved is `kept`, and
-what is not in the log yet is left open. Of wrong bodies `rt ci` says at its end alone what each came to, all at once:
-the lines below the table count these, and say when the whole was over, and by which crates the longest chain of proofs
-went that ended last."""
+The table has a line for each crate of crates.txt, with these columns:
+
+    Proved at               the minute of the run at which its proof ended. `kept` if an earlier run had proved it
+    After the last below    the minutes from the end of the last proof that it requires to the end of its proof. This
+                            includes the time for which it waited for a processor
+    Its tests at, Tests     the minute at which its tests were proved, and their number
+    Mutants begun at, Mutants   the minute at which its mutants were begun, and their number
+    Proof, Tests, Mutants, s    the processor time in seconds, after the run
+
+A field is empty if the log does not have it yet. `rt ci` reports the results of all mutants at its end. The lines after the
+table count these results. They state when the run ended, and which crates were on the chain of proofs that ended last."""
 import collections
 import glob
 import os
@@ -29,7 +33,7 @@ DAY = 24 * 60 * 60
 
 
 def stamped(path):
-    """Each line of a log that begins with a time of day: the seconds since the first one, and the rest of the line."""
+    """Each line of a log that begins with a time of day: the seconds since the first such line, and the rest of the line."""
     first, last, days = None, 0, 0
     with open(path, encoding="utf-8", errors="replace") as log:
         for line in log:
@@ -45,7 +49,7 @@ def stamped(path):
 
 
 def read(path):
-    """What a log says of each crate: when it was proved (-1: by an earlier run), its tests, its edits begun and what they came to."""
+    """What a log states about each crate: when it was proved (-1: by an earlier run), its tests, its mutants and their results."""
     said = {it: {} for it in ("proved", "tests", "begun", "edits", "passed", "failed", "costs")}
     came, end, verdict = collections.Counter(), 0, None
     for now, line in stamped(path):
@@ -66,7 +70,7 @@ def read(path):
         if found:
             said["edits"][found.group(1)] = now
             came[found.group(2)] += 1
-        found = re.match(r"cost (\w+): (\d+) proof, (\d+) tests, (\d+) wrong bodies", line)
+        found = re.match(r"cost (\w+): (\d+) proof, (\d+) tests, (\d+) mutants", line)
         if found:
             said["costs"][found.group(1)] = found.groups()[1:]
         found = re.match(r"(\d+ passed, \d+ failed|cost of all: .*)", line)
@@ -75,7 +79,7 @@ def read(path):
 
 
 def crates():
-    """Each crate of crates.txt, with those of the repository that it stands on."""
+    """Each crate of crates.txt, with the crates of the repository that it requires."""
     with open("crates.txt", encoding="utf-8") as file:
         rows = [line.partition(":") for line in file.read().split("\n") if line and not line.startswith("#")]
     names = [name.split()[0] for name, _, _ in rows]
@@ -123,39 +127,39 @@ def main(path):
     os.chdir(os.path.join(os.path.dirname(os.path.abspath(__file__)), ".."))
     stands = crates()
     said, came, end, verdict = read(path)
-    print("| Crate | Proved at | After the last below | Its tests at | Tests | Wrong bodies begun at | Wrong bodies "
-          "| Proof, s | Tests, s | Wrong bodies, s |")
+    print("| Crate | Proved at | After the last below | Its tests at | Tests | Mutants begun at | Mutants "
+          "| Proof, s | Tests, s | Mutants, s |")
     print("|---" * 10 + "|")
     for crate, below in stands.items():
         print("| %s |" % " | ".join(str(it) for it in row(crate, below, said)))
     print()
-    print("%s after %s minutes; wrong bodies tried in this run: %d" %
+    print("%s after %s minutes; mutants tried in this run: %d" %
           (verdict or "not at its end", minute(end), sum(count for _, count in said["begun"].values())))
-    print("wrong bodies told: %s" % (", ".join("%d %s" % (count, kind) for kind, count in sorted(came.items())) or "none yet"))
+    print("results of the mutants: %s" % (", ".join("%d %s" % (count, kind) for kind, count in sorted(came.items())) or "none yet"))
     print("the longest chain, by when each ended: %s" % (", ".join(chain(stands, said)) or "none yet"))
 
 
 def fields(folder):
-    """Of a process its parent, when it began, and the seconds that it has used."""
+    """The parent of a process, its start time, and the processor seconds that it has used."""
     with open(folder + "/stat", encoding="utf-8", errors="replace") as file:
         words = file.read().rpartition(")")[2].split()
     return words[1], words[19], (int(words[11]) + int(words[12])) / os.sysconf("SC_CLK_TCK")
 
 
 def part_of(folder):
-    """What a process works at: a crate, and whether at its proof, its tests or its wrong bodies; or None."""
+    """The crate that a process works on, and whether it works on the proof, the tests or the mutants; or None."""
     with open(folder + "/cmdline", encoding="utf-8", errors="replace") as file:
         words = file.read().split("\0")
     if "--crate-name" not in words[:-1]:
         return None
     crate = words[words.index("--crate-name") + 1]
     if "/rt-edit" in os.readlink(folder + "/cwd"):
-        return crate, "wrong bodies"
+        return crate, "mutants"
     return crate, "tests" if "--test" in words else "proof"
 
 
 def look(root, used, costs):
-    """Adds what each process below root has used since the last look."""
+    """Adds the processor time that each process below root has used since the last call."""
     parents, now = {}, {}
     for folder in glob.glob("/proc/[0-9]*"):
         try:
@@ -173,7 +177,7 @@ def look(root, used, costs):
 
 
 def run(path, words):
-    """Runs `rt ci` with these words, and writes its lines and what it cost into the file."""
+    """Runs `rt ci` with these arguments, and writes its lines and the costs into the file."""
     used, costs, ended = {}, collections.Counter(), threading.Event()
     how = {"stdin": subprocess.DEVNULL, "stdout": subprocess.PIPE, "stderr": subprocess.STDOUT, "encoding": "utf-8"}
     with open(path, "w", encoding="utf-8") as log:
@@ -192,8 +196,8 @@ def run(path, words):
         ended.set()
         looking.join()
         for crate in sorted({it for it, _ in costs}):
-            say("cost %s: %.0f proof, %.0f tests, %.0f wrong bodies" %
-                (crate, *(costs[crate, it] for it in ("proof", "tests", "wrong bodies"))))
+            say("cost %s: %.0f proof, %.0f tests, %.0f mutants" %
+                (crate, *(costs[crate, it] for it in ("proof", "tests", "mutants"))))
         minutes = (all_used.ru_utime + all_used.ru_stime) / 60
         say("cost of all: %.1f processor minutes, of which %.1f were seen" % (minutes, sum(costs.values()) / 60))
     return os.waitstatus_to_exitcode(status)

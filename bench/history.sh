@@ -1,7 +1,7 @@
 #!/bin/sh
-# history.sh: the debugger on a terminal where `rlwrap` is: lines come back, are edited, and are found again in the next
-# session; Ctrl-C ends a run and not the session. Under tmux, in a home of its own. Needs tmux and rlwrap; some seconds.
-# By hand; no part of the gate. PMACH names another front than that of this clone.
+# history.sh: tests the debugger on a terminal with `rlwrap`. Lines can be recalled and edited, also in the next session, and
+# Ctrl-C ends a run but not the session. It uses tmux and a home directory of its own. Requires tmux and rlwrap; takes some
+# seconds. Run manually; not part of the gate. The variable PMACH can name another script than the `pmach` of this clone.
 set -eu
 here=$(dirname "$(readlink -f "$0")")
 pmach=$(readlink -f "${PMACH:-$here/../pmach}")
@@ -19,7 +19,7 @@ shown() {
     tmux -L "$server" capture-pane -p -t session | grep -v '^ *$' || :
 }
 
-# The last lines that are shown come to be these, within ten seconds.
+# The last lines on the terminal become these within ten seconds.
 shows() {
     name=$1 wanted=$2 count=0
     until [ "$(shown | tail -n "$(printf '%s\n' "$wanted" | wc -l)" | sed 's/ *$//')" = "$wanted" ]; do

@@ -65,14 +65,14 @@ def definitions(path):
 
 
 def shape(name, text, parameters):
-    """The text with its own name as $, and its parameters as $1, $2 ..: what it is, whatever its words."""
+    """The text with its own name replaced by $, and its parameters by $1, $2 ..: its shape without names."""
     order = {name: "$"}
     for word in parameters:
         order.setdefault(word, "$%d" % len(order))
     return re.sub(r"[A-Za-z_][\w'-]*", lambda word: order.get(word[0], word[0]), text)
 
 
-# Two of one shape that say different things, or where neither crate stands on the other.
+# Pairs of one shape that mean different things, or of crates of which neither requires the other.
 APART = ({"number_and_numbers", "byte_and_bytes"}, {"IsImage", "IsVolumeOfBytes"}, {"characters_of", "text_of"},
          {"control", "control_word"}, {"is_even"}, {"Name", "TextLine"}, {"push_slots"}, {"push_word"},
          {"bare", "bare_instruction"}, {"text_of"})
@@ -257,7 +257,7 @@ for page, text in pages.items():
         if not os.path.exists("crates/" + path):
             tell("name", "%s: %s" % (page, path))
 
-# What a page of promises says is of a crate is a call or a clause there.
+# A name that a page of promises assigns to a crate is a call or a clause of this crate.
 for page in PROMISES:
     for name, crate in re.findall(r"`(\w+)`(?: \([^)]*\))? of ((?:pm|law)_\w+)", " ".join(pages[page].split())):
         source = "\n".join("\n".join(lines(path)) for path in glob.glob("crates/%s/src/**/*.rt" % crate, recursive=True))
@@ -339,9 +339,10 @@ PRIVATE = {
 
 
 def comments(pattern, mark):
-    """What the comments of these files say."""
-    return "\n".join(found.group(1) for path in sorted(glob.glob(pattern, recursive=True)) if os.path.isfile(path)
-                     for found in (re.match(mark, line) for line in lines(path)) if found)
+    """What the comments of these files say, without names in backquotes."""
+    paths = [path for path in sorted(glob.glob(pattern, recursive=True)) if os.path.isfile(path) and "/out/" not in path]
+    found = [re.match(mark, line) for path in paths for line in lines(path)]
+    return re.sub(r"`[^`\n]*`", "", "\n".join(it.group(1) for it in found if it))
 
 
 # (names in backquotes are those of the source)

@@ -1,5 +1,5 @@
-"""index.py: INDEX.md, made from the source: each public call with the names of its clauses, each law, and the counts
-that the pages speak of. `index.py` writes the page; house.py asks whether it is that of the source."""
+"""index.py: writes INDEX.md from the source: each public call with the names of its clauses, each law, and the counts that the
+pages mention. house.py checks that INDEX.md is up to date."""
 import glob
 import os
 import re
@@ -81,7 +81,7 @@ class Call:
 
 
 def rows(calls):
-    """What is told of the calls of one owner: those with one promise in a row, then each law with its words."""
+    """The entries for the calls of one owner: calls with the same clauses together, then each law with its text."""
     made = []
     for said in dict.fromkeys(it.said() for it in calls if not it.is_law):
         made.append(", ".join(it.name for it in calls if it.said() == said) + said)

@@ -1,4 +1,5 @@
-"""kills.py PMACH FOLDER N: kills the program N times while it writes a volume of 32 MB, at random moments: the image is the old one or the new one."""
+"""kills.py PMACH FOLDER N: kills the program N times, at random moments, while it writes a volume of 32 MB. Each time the image
+must be the old one or the new one."""
 import os
 import random
 import signal

@@ -1,6 +1,7 @@
-"""messages.py: each refusal with the sentence that a terminal is told, made from the source, for INDEX.md (index.py). As a
-program it says which number no page has, or a page alone; which sentence, and which text of wrong words, no command line of
-the gate (test_trials) shows; and has status 1 where it says anything."""
+"""messages.py: makes the list of refusals with their sentences for INDEX.md (index.py) from the source.
+
+As a program, it reports refusals that no page has or that only a page has. It also reports sentences, and messages about
+invalid command lines, that no command line of the gate (test_trials) shows. Status 1: something was reported."""
 import glob
 import os
 import re
@@ -34,10 +35,11 @@ def arms(text, function):
 
 
 def sentences():
-    """Each refusal, as its numbers read behind `refused`, and the sentence; {0} is what the fault names."""
+    """Each refusal, as its numbers are printed after `refused`, and the sentence. {0} is what the fault names."""
     reason = read("crates/pm_batch/src/reason.rt")
     told = []
 
+    # (some messages have more words between a sentence and its help)
     def add(prefix, source, names, help_of=lambda name: ""):
         texts, numbers = source
         for name in names or sorted(numbers, key=numbers.get):
@@ -60,7 +62,7 @@ def sentences():
     add("volume", volume, first, lambda name: help_for.get(name, ""))
     command = ["BadHeader", "NoRoom", "DirectoryFull", "Duplicate", "BadName", "NoFile", "Occupied"]
     add("filer 1", volume, command, lambda name: help_of_command.get(name, ""))
-    add("filer 2", faults("crates/pm_textfile/src/fault.rt"), [], lambda name: help_of_text.get(name, ""))
+    add("filer 2", faults("crates/pm_textfile/src/fault.rt"), [], lambda name: "{}" + help_of_text.get(name, ""))
     told.append(("filer 3", own(r"FilerFault::BadDate => ")))
     code = faults("crates/pm_codefile/src/fault.rt")
     whole = own(r"Refusal::Code\(CodeFault::NoDictionary\) => ")
@@ -73,6 +75,10 @@ def sentences():
     job = read("crates/pm_convert/src/job.rt")
     texts, numbers = arms(job, "text"), re.findall(r"ConvertFault::(\w+) => (\d+),", job)
     told.extend(("convert %s" % number, texts[name]) for name, number in numbers)
+    saying = read("crates/pm_messages/src/saying.rt")
+    for number, message in (("form 1", "the image opens in several formats"), ("undelete 1", "blocks .first. to .last. are not all free")):
+        rest = re.search("pmach: .path.: (" + message + '[^"]*)"', saying).group(1)
+        told.append((number, re.sub(r"\{(?:forms|first|last)\}", "{0}", rest)))
     return told
 
 
@@ -116,8 +122,8 @@ def main():
     rows = read("crates/test_trials/stdin") + "".join(read(path) for path in sorted(glob.glob(os.path.join(TOP, "crates/test_trials/data/*"))) if os.path.isfile(path))
     said = []
     source, page = set(number for number, _ in sentences()), page_numbers()
-    said += ["refused %s stands on no page" % number for number in sorted(source - page)]
-    said += ["refused %s stands on the page alone" % number for number in sorted(page - source)]
+    said += ["refused %s is on no page" % number for number in sorted(source - page)]
+    said += ["refused %s is on a page only" % number for number in sorted(page - source)]
     said += ["no command line shows: refused %s: %s" % told for told in sentences() if not told[0].startswith("asm") and not is_shown(told[1], rows)]
     said += ["no command line shows: %s" % text for text in wrong_words() if not is_shown(text, rows)]
     print("\n".join(said) or "nothing")

@@ -1,6 +1,8 @@
-"""mistakes.py PMACH [N]: makes the mistakes of bench/mistakes (or the Nth alone) on a pseudo terminal, shows what is said, and counts
-those of which the answer has each piece that it has to have. PMACH is the program itself. The folder has d.img with
-README.TEXT, DATA, HELLO.CODE, CALLS and WHOLE (code files), dos.dsk in DOS order, header.2mg, hurt.img with a damaged entry, sys.code."""
+"""mistakes.py PMACH [N]: makes the mistakes of bench/mistakes (or only mistake N) on a pseudo terminal, prints the answers, and
+counts the answers that have all required parts.
+
+PMACH is the program itself. The folder has d.img with the files README.TEXT, DATA, HELLO.CODE, CALLS and WHOLE (code files),
+dos.dsk in DOS order, header.2mg, hurt.img with a damaged entry, and sys.code."""
 import os
 import pty
 import re
@@ -39,7 +41,7 @@ def prepare():
     pmach("files --image d.img put CALLS code", pmach("asm", whole(["CXP 0, 19", "NOP"])))
     pmach("files --image d.img put WHOLE code", pmach("asm", whole(["NOP", "NOP"], 0, "SYSTEM") + whole(["NOP", "NOP"])))
     image = bytearray(read("d.img"))
-    order = [0, 14, 13, 12, 11, 10, 9, 8, 7, 6, 5, 4, 3, 2, 1, 15]  # where the sectors of 256 bytes of a track stand
+    order = [0, 14, 13, 12, 11, 10, 9, 8, 7, 6, 5, 4, 3, 2, 1, 15]  # the positions of the sectors of 256 bytes in a track
     open("dos.dsk", "wb").write(b"".join(image[track + 256 * s : track + 256 * s + 256] for track in range(0, len(image), 4096) for s in order))
     open("header.2mg", "wb").write(b"2IMG" + bytes(60) + image)
     image[2 * 512 + 26 + 6] = 0
@@ -47,7 +49,7 @@ def prepare():
 
 
 def on_terminal(words, data):
-    """What a command line says to a terminal, which its three streams are, but for an input that is given."""
+    """What a command line prints on a terminal, to which its three streams are connected, except an input that is given."""
     ours, theirs = pty.openpty()
     given = None
     if data is not None:

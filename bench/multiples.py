@@ -1,16 +1,19 @@
-"""multiples.py [PMACH [each]]: what `dis --statements`, `--indent` and `--blocks` take of the processor beside `dis`: instructions by valgrind, as
-multiples, and behind each how many times as long the text is; of code files of the kinds below, and of these with some bytes that are others.
+"""multiples.py [PMACH [each]]: measures `dis --statements`, `--indent` and `--blocks` as multiples of `dis`.
 
-  stores      a constant into a variable, in four procedures; a hundred small ones as `stores, small`
-  sums        expressions of up to thirty operations into a variable
+For each code file it prints the number of processor instructions (valgrind) as a multiple, followed by the length of the text
+as a multiple. The code files are of these kinds, some of them with changed bytes:
+
+  stores      a constant is stored into a variable, in four procedures; a hundred small ones as `stores, small`
+  sums        expressions of up to thirty operations, stored into a variable
   choices     conditions in conditions, six deep, with a branch for each
-  any         instructions as they come, with operands that are there or not
-  deep        60 conditions around all, each by an entry of the jump table
-  NAME / N    each Nth byte of the code is another
+  any         any instructions, with or without their operands
+  deep        60 conditions around the whole code, each with an entry of the jump table
+  NAME / N    every Nth byte of the code is changed
 
-With `each`, of files that have one instruction alone, 4,000 times: so without its operands, which no compiler and hardly any damage makes.
+With `each`, it measures files that contain only one instruction, 4,000 times. Its operands are missing there, so neither a
+compiler nor most damage produces such code.
 
-By hand; no part of the gate. Needs valgrind; one processor for some three minutes, four with `each`."""
+Run manually; not part of the gate. Requires valgrind. Takes about three minutes on one processor, with `each` on four."""
 import os
 import random
 import re

@@ -1,7 +1,9 @@
-"""mutants.py PMACH [SEED [COUNT]]: faults put into the system segment of examples/system, one at a time, each tried by
-`system.py` (ten rounds of each kind) and `system.sh`. A fault is one operand one more or less, or one operator the other
-one of its pair, at a random item. Each that no case sees is told with its line, to be looked at: it changes nothing that
-shows, or a case is missing."""
+"""mutants.py PMACH [SEED [COUNT]]: seeds faults into the system segment of examples/system, one at a time, and runs `system.py`
+(ten rounds of each kind) and `system.sh` with each of them.
+
+A fault is an operand increased or decreased by one, or an operator replaced by the other one of its pair, at a random item.
+The script prints each fault that no case detects, with its line. Such a fault either changes nothing that a program can
+detect, or a case is missing."""
 import os
 import random
 import re

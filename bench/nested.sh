@@ -1,6 +1,6 @@
 #!/bin/bash
-# The text of a program of nested procedures, each called by the one around it; the innermost loops over variables so many links up.
-#     nested.sh PROCEDURES LINKS..
+# nested.sh PROCEDURES LINKS..: prints the text of a program of nested procedures, each called by the one around it. The
+# innermost procedure loops over variables that are LINKS static links up.
 count=$1
 shift
 echo ".SEG 1 NESTED"

@@ -1,5 +1,5 @@
-"""pictures.py PMACH: whether the pictures of a slot, a table and a frame in docs/GLOSSARY.md are those of real ones: each letter is read where it
-stands in a volume that PMACH makes, and each word in the memory of a program that it debugs. By hand; no part of the gate."""
+"""pictures.py PMACH: checks the pictures of a slot, a table and a frame in docs/GLOSSARY.md. Each letter is compared with a volume
+that PMACH makes, and each word with the memory of a program that PMACH debugs. Run manually; not part of the gate."""
 import os
 import re
 import subprocess
@@ -49,7 +49,7 @@ check("its name", b"NAME", bytes(field(entry, letter, slots[1]) for letter in "1
 
 
 def words(name):
-    """The words of a picture: where each stands, and what it is."""
+    """The words of a picture: the position and the meaning of each."""
     line = re.search(r"^    %s +(.*)$" % name, page, re.M)[1]
     return {rest: int(at or 0) for at, rest in re.findall(r"([+-]\d+)? ?([a-zA-Z][a-zA-Z0-9 ]*?)(?:,  | \.\.)", line)}
 

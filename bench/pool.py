@@ -1,8 +1,11 @@
-"""pool.py POOL NAME..: proves crates, and those below them, as the gate does, each over libraries that an earlier call proved at these very sources:
-what is proved goes to the folder POOL under a sum of its sources. For an rt that keeps nothing between runs (kit 13b), by hand; the gate
-decides. It is run at the top of a clone of its own, of which it writes the folders out/. A line for each crate: the time, what came, the seconds.
+"""pool.py POOL NAME..: proves crates and the crates below them as the gate does, but uses libraries that an earlier call proved for
+the same sources. What is proved is saved in the folder POOL under a checksum of its sources.
 
-TESTS=1 proves and builds tests too, RT_JOBS=2 works on two crates at a time, EDITS=1 tries the must-fail edits of the named crates instead."""
+This is for an rt without a cache (kit 13b), and only for manual use: the gate decides. Run it at the top of a separate clone,
+because it writes the folders out/ of this clone. It prints a line for each crate: the time, the result, the seconds.
+
+TESTS=1 also proves and builds tests. RT_JOBS=2 works on two crates at a time. EDITS=1 tries the must-fail edits of the named
+crates instead."""
 import copy
 import importlib.machinery
 import importlib.util
@@ -48,7 +51,7 @@ def say(text):
 
 
 def fetch(crate):
-    """Takes a crate out of the pool, and says whether it is there."""
+    """Copies a crate from the pool, and returns whether the pool has it."""
     if not os.path.isdir(place(crate)):
         return False
     if crate.makes_rlib():

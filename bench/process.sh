@@ -1,7 +1,7 @@
 #!/bin/bash
-# What only the real process shows: exit statuses, messages, and streams that fail. Run by hand; no part of the gate. PMACH
-# names another program than ./pmach.
-# With `memory` as its word it also makes each allocation fail in turn, by `rt try` (minutes).
+# Tests what only the real process shows: exit statuses, messages, and failing streams. With the argument `memory` it also
+# makes each allocation fail in turn, with `rt try` (some minutes). Run manually; not part of the gate. The variable PMACH can
+# name another program than ./pmach.
 here=$(dirname "$(readlink -f "$0")")/..
 pmach=${PMACH:-$here/pmach}
 scratch=$(mktemp -d)
@@ -184,7 +184,7 @@ result "the image is as it was, and nothing was printed" $?
 echo "write fault" >"$message"
 case_of "printer bytes that cannot be written" 4 "$scratch/text" "$message" run --d4 "$programs" --printer "$scratch/absent/x" OK </dev/null
 
-# what a program leaves behind: it writes OK on unit 4 and on the printer, and then goes round without an end
+# a program that writes OK to unit 4 and to the printer, and then executes an endless loop
 printf '%s\n' ".SEG 1 MARKS" ".PROC 1 0 0 0" \
     "SLDC 4" 'LPA "OK"' "SLDC 0" "SLDC 2" "SLDC 39" "SLDC 0" "CSP 6" \
     "SLDC 6" 'LPA "OK"' "SLDC 0" "SLDC 2" "SLDC 0" "SLDC 0" "CSP 6" \

@@ -1,6 +1,8 @@
-"""progress.py [PMACH IMAGE]: what script/watched.sh says on a pseudo terminal while a file is written: how far it is, from
-the third second on, gone at the end, with the status, the file and the messages that there are without. With PMACH, the
-script `pmach`, and an image with LOOP, whose program does not end, also that the front asks for it where it should."""
+"""progress.py [PMACH IMAGE]: tests on a pseudo terminal what script/watched.sh shows while a file is written.
+
+The progress line must appear from the third second on, and must be erased at the end. The status, the file and the messages
+must be the same as without the script. PMACH is the script `pmach`, and IMAGE has LOOP, a program that does not end. With
+these two arguments, the script also tests that `pmach` calls watched.sh when it should."""
 import os
 import pty
 import select
@@ -18,7 +20,7 @@ failed = 0
 
 
 def run(command, after=None, act=None):
-    """What a command of the shell, a session of its own, shows on a terminal; `act` is done to it after so many seconds."""
+    """What a command of the shell, in its own session, shows on a terminal. `act` is applied to it after this number of seconds."""
     child, terminal = pty.fork()
     if child == 0:
         for number in (signal.SIGINT, signal.SIGQUIT, signal.SIGXFSZ):
@@ -67,7 +69,7 @@ def is_there(word):
     return subprocess.run(["pgrep", "-f", word], capture_output=True).returncode == 0
 
 
-# A program at work for some seconds, which then says something, and one that waits.
+# A program that runs for some seconds and then prints something, and a program that waits.
 work = f"exec {watched} {sys.executable} -c \"import sys, time; print('x' * 12345); sys.stdout.flush()\nend = time.time() + SECONDS\nwhile time.time() < end: pass\nprint('end'); MORE\" >out"
 shown, status = run(work.replace("SECONDS", "4.5").replace("MORE", "sys.exit(7)"))
 check("how long and how much, each second", b"\n\x1b[K0:02 12 kB\x1b[A\r" in shown and b"\n\x1b[K0:03 12 kB\x1b[A\r" in shown.replace(b"\r\n", b"\n"), shown)

@@ -16,7 +16,7 @@ export PATH=$(dirname "$PMACH"):$PATH
 passed=0
 failed=0
 
-# replay COMMAND: runs it, and compares what it writes with the file wanted
+# replay COMMAND: runs it, and compares its output with the file `wanted`
 replay() {
     bash -c "$1" >got 2>&1 </dev/null
     if cmp -s got "$scratch/wanted"; then

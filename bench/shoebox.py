@@ -1,8 +1,8 @@
 #!/usr/bin/env python3
-"""The 28 images of a shoebox, from a seed: bench/shoebox.py FOLDER [SEED]
+"""shoebox.py FOLDER [SEED]: makes 28 images, like a user's box of old disks, from a seed.
 
-Image N is FOLDER/N, and the files that have to come out of it stand in FOLDER/N.d under their slots, as lines of text
-where they are texts; what is done with each says bench/folders.sh. No part of pmach makes them."""
+Image N is FOLDER/N. The files that must be recovered from it are in FOLDER/N.d, named by their slots; texts are lines of text.
+bench/folders.sh uses these images. No part of pmach makes them."""
 import os
 import random
 import sys
@@ -25,7 +25,7 @@ def entry(first, end, kind, name, last, day):
 
 
 def volume(name, blocks, files, copies=1):
-    """A volume of files, each a name, a kind and bytes, one behind the other."""
+    """A volume of files, one after the other. A file is a name, a kind and bytes."""
     at = 6 if copies == 1 else 10
     head = word(0) + word(at) + word(0) + bytes([len(name)]) + name.ljust(7, b"\0")
     head += word(blocks) + word(len(files)) + word(0) + date(84, 12, 1) + bytes(4)
@@ -81,7 +81,7 @@ def big(data, files):
 
 
 def two_image(data, order, begin=64, tail=b""):
-    """Behind a header of .2mg, which says its order, 0 for that of DOS and 1 for blocks."""
+    """The image after a header of .2mg, which states its order: 0 for DOS order, 1 for blocks."""
     head = b"2IMGSHOE" + word(64) + word(1) + order.to_bytes(4, "little") + bytes(4)
     head += (len(data) // 512).to_bytes(4, "little") + begin.to_bytes(4, "little") + len(data).to_bytes(4, "little")
     return head + b"\xa5" * (begin - 32) + bytes(data) + tail

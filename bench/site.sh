@@ -1,8 +1,9 @@
 #!/bin/bash
-# examples/site: pages of a sound disk, of one in another order, of a hurt one and of one with hostile names: well-formed, each link leads
-# somewhere, no script, the same image gives the same bytes, folders of others stay; and in headless Chromium, where Debian's package
-# chromium is there: no message on its console, the expected words. By hand; no part of the gate. PMACH names another program than ./pmach;
-# SHOTS a folder for screenshots.
+# Tests examples/site. It makes pages of a valid disk, of a disk in another order, of a damaged disk and of a disk with hostile
+# names. The pages must be well-formed, each link must have a target, there must be no script, the same image must give the same
+# bytes, and folders of other users must be unchanged. If Debian's chromium is installed, headless Chromium must show the expected
+# words, and no message on its console. Run manually; not part of the gate. The variable PMACH can name another program than
+# ./pmach. SHOTS is a folder for screenshots.
 here=$(dirname "$(readlink -f "$0")")/..
 export PMACH=${PMACH:-$here/pmach}
 site=$here/examples/site/site.sh

@@ -1,8 +1,8 @@
 #!/bin/bash
-# Measures `run` and `trace` against a plain interpreter in C (speed.c), which has the same rows: for each loop, millions of steps a
-# second of both and their ratio, the least processor time of RUNS runs that alternate; instructions a step where valgrind is there; and
-# the peak memory of a run with six disks of 1 MiB each. By hand; no part of the gate. Needs a C compiler and GNU time.
-#     speed.sh [PMACH]        STEPS=20000000 RUNS=5 by default
+# speed.sh [PMACH]: compares `run` and `trace` with a plain interpreter in C (speed.c) that has the same instructions. For each loop
+# it prints millions of steps per second of both and their ratio, from the least processor time of RUNS alternating runs; the
+# instructions per step if valgrind is installed; and the peak memory of a run with six disks of 1 MiB each. STEPS=20000000 and
+# RUNS=5 by default. Run manually; not part of the gate. Requires a C compiler and GNU time.
 here=$(dirname "$(readlink -f "$0")")
 pmach=${1:-$here/../crates/pmach/out/pmach}
 steps=${STEPS:-20000000}

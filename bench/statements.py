@@ -1,10 +1,14 @@
-"""statements.py FILE.. | --random SEED COUNT | --damaged SEED COUNT FILE..: the statements of `pmach dis --statements`, read back by the page (docs/STATEMENTS.md) alone,
-are the instructions of `pmach dis`, procedure by procedure, each once and in order; and the heading of each procedure says what its table and its
-returns say, and the lines behind it the jump table; and each table of a segment is shown once; and `dis --indent` is that text with the blanks of
-the page, and `dis --blocks` is read back to it by its words alone.
+"""statements.py FILE.. | --random SEED COUNT | --damaged SEED COUNT FILE..: converts the statements of `pmach dis --statements` back
+to instructions, using only the rules of docs/STATEMENTS.md, and compares the instructions with those of `pmach dis`.
 
-FILE is a code file. With --random so many programs are made, of single instructions, of whole expressions and of blocks, by turns; with --damaged up to
-eight bytes of a file are others, so often. By hand; no part of the gate. PMACH names another program than ./pmach."""
+Every procedure must appear once and in order. The heading of each procedure must state what its attribute table and its
+returns state, and the lines after it must state its jump table. Each attribute table of a segment must be shown once. The text
+of `dis --indent` must be the same text with the spaces of that page, and the text of `dis --blocks` must give the same text
+when it is read by the rules of that page.
+
+FILE is a code file. With --random, COUNT programs are made: of single instructions, of whole expressions and of blocks, in
+turn. With --damaged, up to eight bytes of a file are changed, COUNT times. Run manually; not part of the gate. The variable
+PMACH can name another program than ./pmach."""
 import os
 import random
 import re
@@ -212,7 +216,7 @@ class Reader:
         raise SyntaxError("%s in %s" % (word, " ".join(self.tokens)))
 
     def bracketed(self):
-        """A set behind its bracket: what makes one of operands, or a constant by its members."""
+        """A set after its bracket: the instructions that make it from operands, or a constant with its members."""
         items, plain = [], True
         while self.peek() != "]":
             ends = []
@@ -243,7 +247,7 @@ class Reader:
         return ["LDC " + ", ".join(str(word) for word in reversed(words))] + self.constant(count, 0)
 
     def chain(self):
-        """A primary and what stands behind it: a value, or a place with the code of its address."""
+        """A primary and what follows it: a value, or a variable with the code of its address."""
         state = self.primary()
         while True:
             word = self.peek()
@@ -422,7 +426,7 @@ def back(line, names):
 
 
 def depths(lines, entries, end):
-    """How deep each statement of a procedure stands, by the page: the spans in the order in which they begin, each if it lies within those that
+    """The depth of each statement of a procedure, by the rules of the page: the spans in the order of their beginnings, each if it is within those that
     count and go on there. The lines are offsets and texts, the entries places, and the end is where the code ends."""
     spans, loops = [], {}
     for k, (at, text) in enumerate(lines):
@@ -608,7 +612,7 @@ def compared(data, told):
             key = (front[2], leads[place][0] if place in leads else front[1])
             key = (*key, sum(k[:2] == key for k in shown))
         if front and place in leads:
-            # an earlier number of the segment has led to this table, whose text stands once
+            # an earlier number of the segment refers to this table, whose text is printed once
             if line != named_alone + "shown above as PROCEDURE %s" % leads[place][0]:
                 wrong.append(line)
             first = leads[place][1]
@@ -831,7 +835,7 @@ def programs(seed, count):
 
 
 def damaged(seed, count, paths):
-    """Code files of which some bytes behind the dictionary are others."""
+    """Code files with some changed bytes after the dictionary."""
     R = random.Random(seed)
     files = [open(path, "rb").read() for path in paths]
     for _ in range(count):

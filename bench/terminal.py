@@ -1,4 +1,5 @@
-"""terminal.py PMACH IMAGE: runs ECHO of examples/programs.sh on a pseudo terminal: keys, echo, Return, ends, and the terminal afterwards."""
+"""terminal.py PMACH IMAGE: runs ECHO of examples/programs.sh on a pseudo terminal, and tests keys, echo, Return, the end of the
+input, and the settings of the terminal afterwards."""
 import os
 import pty
 import select
@@ -43,7 +44,7 @@ def run(words, keys):
             if not got:
                 break
             shown += got
-            if shown.startswith(b"pmach: not proved"):  # what the front says of such a program
+            if shown.startswith(b"pmach: not proved"):  # what the script `pmach` prints for such a program
                 shown = shown.split(b"\n", 1)[1] if b"\n" in shown else shown
             continue
         now = time.time()
@@ -54,7 +55,7 @@ def run(words, keys):
             key = keys.pop(0)
             if isinstance(key, bytes):
                 os.write(terminal, key)
-            else:  # a signal for the front alone, or, below 0, for the program alone
+            else:  # a signal for the script only, or, below 0, for the program only
                 front = subprocess.check_output(["pgrep", "-P", str(child)]).split()[0].decode()
                 process = front if key > 0 else subprocess.check_output(["pgrep", "-P", front]).split()[0]
                 os.kill(int(process), abs(key))

@@ -1,6 +1,7 @@
 #!/bin/bash
-# Measures the trace of endless loops to a null device: steps a second of processor time, the peak memory and the size of the
-# binary, beside a plain C interpreter (trace.c). The best of RUNS runs counts. By hand; no part of the gate. Needs cc, GNU time.
+# Measures the trace of endless loops to a null device: steps per second of processor time, the peak memory and the size of the
+# binary, compared with a plain interpreter in C (trace.c). The best of RUNS runs counts. Run manually; not part of the gate.
+# Requires cc and GNU time.
 here=$(dirname "$(readlink -f "$0")")/..
 steps=${STEPS:-20000000}
 runs=${RUNS:-5}

@@ -216,7 +216,7 @@ note() {
             --) option=--file= && continue ;;
             -*) option=$word= && continue ;;
             *)
-                # (the path of the image may be in front of the name)
+                # (the path of the image may precede the name)
                 [ -z "$file" ] || [ -n "$image" ] || image=$file
                 file=$word
                 ;;

@@ -6,8 +6,8 @@ for word; do
     case $option,$word in
         --image,*) path=$word option='' ;;
         --form,*) form=$word option='' ;;
-        --slot,* | --matching,* | --output,* | -o,*) option='' ;;
-        ,--image | ,--form | ,--slot | ,--matching | ,--output | ,-o) option=$word ;;
+        --slot,* | --matching,* | --ends,* | --only,* | --block,* | --blocks,* | --output,* | -o,*) option='' ;;
+        ,--image | ,--form | ,--slot | ,--matching | ,--ends | ,--only | ,--block | ,--blocks | ,--output | ,-o) option=$word ;;
         ,--image=*) path=${word#--image=} ;;
         ,--form=*) form=${word#--form=} ;;
         ,--) option=- ;;
@@ -25,11 +25,11 @@ for word; do
             ;;
     esac
 done
-# In `files IMAGE VERB ..`, the path of the image is in front of the verb.
+# In `files IMAGE VERB ..`, the path of the image precedes the verb.
 if [ -z "$path" ]; then
     case $verb in
         list | get | put | gettext | puttext | export | import | remove | change | kind | copy | krunch | date | zero | new | \
-            duplicate | single | repair | check | salvage) ;;
+            duplicate | single | repair | check | salvage | diff | undelete) ;;
         *) path=$verb verb=$first first=$second second=$third ;;
     esac
 fi

@@ -56,7 +56,7 @@ cat >"$usr/lib/pmach/packaged" <<END
 pmach: this program comes from an archive: to remove it, delete the directory into which the archive was unpacked.
 pmach: --install, --uninstall and --prove work only in a clone of the repository.
 END
-archive "pmach-$version" >"$scratch/pmach.tar.gz" || fail "the archive could not be made"
+archive "pmach-$version" >"$scratch/pmach.tar.gz" || fail "tar or gzip could not make pmach-$version-linux-x86_64.tar.gz; their message is above"
 
 # What Debian requires: compressed pages, its directory of completions for zsh, a changelog and a copyright file.
 cat >"$usr/lib/pmach/packaged" <<END
